@@ -1,0 +1,6 @@
+-- `Tests`: the rules that close a `returns` whose definition picks by tests. `Picks`: going by a test's two cases.
+-- `Parts`: parts of a slice as lists. `Digits`: numbers of n bytes, once for every n.
+pub mod Tests
+pub mod Picks
+pub mod Parts
+pub mod Digits

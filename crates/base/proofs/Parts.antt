@@ -1,0 +1,36 @@
+-- Parts of a slice as lists.
+-- Assumes nothing.
+use mathlib.Core.Path.{_≡_, refl, sym, ap, _∙_}
+use mathlib.Core.List.{List, [], _∷_, _++_}
+use Prim.Native.Nat.{ℕ, _+_, _-_, _≤_}
+use native.Mathlib.Nat.{le-of-eq}
+use native.Mathlib.Decide.{decLt}
+use native.Mathlib.Omega.{arith}
+use lib.Dec.{lit<}
+use lib.ListN.{length, take, drop, length-drop, List·getD-eq-default}
+use lib.Seq.{take-all, length-take-le, getD-take, getD-drop, drop-append-seam}
+use Rattle.base.specs.BigEndian.{Bytes}
+
+-- `&s[k..]`
+pub rest-is : (k : ℕ) (s : List ℕ) → take (length s - k) (drop k s) ≡ drop k s
+rest-is k s = take-all (length s - k) (drop k s) (le-of-eq (length-drop k s))
+
+-- nothing is left past the end
+pub drop-past : (s : List ℕ) (at : ℕ) → length s ≤ at → drop at s ≡ []
+drop-past s at h = none (drop at s) (omega (arith, length-drop at s))
+  where
+    none : (l : List ℕ) → length l ≡ 0 → l ≡ []
+    none [] e = refl
+    none (x ∷ l) e = absurd (omega arith)
+
+-- equal fronts leave equal rests
+pub cancel : (h s t : List ℕ) → h ++ s ≡ h ++ t → s ≡ t
+cancel h s t e = sym (drop-append-seam h s) ∙ ap (drop (length h)) e ∙ drop-append-seam h t
+
+-- parts of bytes are bytes
+pub bytes-drop : (n : ℕ) (s : List ℕ) → Bytes s → Bytes (drop n s)
+bytes-drop n s b i = rw (getD-drop n s i 0) (b (n + i))
+
+pub bytes-take : (n : ℕ) (s : List ℕ) → n ≤ length s → Bytes s → Bytes (take n s)
+bytes-take n s h b i =
+    elim (decLt i n) [ yes l ↦ rw (getD-take n s i 0 l) (b i) | no l ↦ rw (List·getD-eq-default (take n s) 0 {n = i} (omega (arith, length-take-le n s h))) (lit< tt) ]

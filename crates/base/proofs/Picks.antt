@@ -1,0 +1,21 @@
+-- Going by a test's two cases.
+-- Assumes nothing.
+use mathlib.Core.Path.{_≡_, refl}
+use mathlib.Core.Bool.{Bool, true, false}
+use Rattle.base.specs.Pick.{pick}
+
+-- what holds of both choices, each where its test holds
+pub pick-case {ℓ κ} : {A : Type ℓ} (P : A → Type κ) (t : Bool) {x y : A} → (t ≡ true → P x) → (t ≡ false → P y) → P (pick t x y)
+unfolding pick
+pick-case P true f g = f refl
+pick-case P false f g = g refl
+
+-- what holds of both choices
+pub both {ℓ κ} : {A : Type ℓ} (P : A → Type κ) (t : Bool) {x y : A} → P x → P y → P (pick t x y)
+both P t p q = pick-case P t (λ _. p) (λ _. q)
+
+-- a choice that isn't the first is the second
+pub past : {A : Type 0} (t : Bool) {x y z : A} → pick t x y ≡ z → (x ≡ z → ⊥) → (t ≡ false) × (y ≡ z)
+unfolding pick
+past true q no-first = absurd (no-first q)
+past false q no-first = (refl, q)

@@ -1,0 +1,210 @@
+-- Heads read and written (RFC 8949, section 3): `head-read`, a written head is read back, and `head-is`, a head that was read is one that is written.
+-- Assumes nothing.
+use mathlib.Core.Path.{_≡_, refl, sym, ap, _∙_}
+use mathlib.Core.List.{List, [], _∷_, _++_}
+use Prim.Native.Nat.{ℕ, suc, _+_, _*_, _/_, _%_, _^_, _≤_, _<_, zero-le}
+use native.Mathlib.Nat.{div-add-mod'}
+use native.Mathlib.Numerals.{one-add}
+use native.Mathlib.Omega.{arith}
+use lib.Arith.{digits-div, digits-mod}
+use lib.ListN.{length, take, length-append}
+use lib.Dec.{ltb, eqb, lit<}
+use borrow.Author.Tests.{lt-ltb, le-ltb, lt-leb, ne-eqb, ltb-true, ltb-false, leb-true, leb-false, eqb-true, eqb-false}
+use Rattle.base.specs.Pick.{pick}
+use Rattle.base.specs.BigEndian.{bytesOf, Bytes}
+use Rattle.base.proofs.Picks.{pick-case}
+use Rattle.base.proofs.Digits.{length-bytes, read-back, spelled, big-endian-lt}
+use Rattle.cbor.specs.declared.head.Initial.{Initial}
+use Rattle.cbor.specs.declared.head.HeadRead.{HeadRead}
+use Rattle.cbor.specs.Head.{widthOf, leastOf, initialOf, argOf, judged, headFrom, headBy, headOf, headAt}
+use Rattle.cbor.specs.Tree.{infoOf, headBytes, shortest, Sized, Right}
+
+-- ---- what a head's reading goes by
+-- a whole head: what holds of each answer, where it is given
+pub judged-case : (P : HeadRead → Type 0) (major arg width : ℕ) → (major ≡ 7 → width ≡ 1 → arg < 32 → P (HeadRead.Refused 3 0))
+    → ((major ≡ 7 → ⊥) → arg < leastOf width → P (HeadRead.Refused 5 0))
+    → ((major ≡ 7 → width ≡ 1 → 32 ≤ arg) → ((major ≡ 7 → ⊥) → leastOf width ≤ arg) → P (HeadRead.Head major arg (1 + width)))
+    → P (judged major arg width)
+unfolding judged
+judged-case P major arg width low long fine =
+    pick-case P _
+    (λ m. let is = eqb-true major 7 m in
+    pick-case P _
+    (λ w. pick-case P _ (λ a. low is (eqb-true width 1 w) (ltb-true arg 32 a)) (λ a. fine (λ _ _. ltb-false arg 32 a) (λ ne. absurd (ne is))))
+    (λ w. fine (λ _ e. absurd (eqb-false width 1 w e)) (λ ne. absurd (ne is))))
+    (λ m. let ne = eqb-false major 7 m in
+    pick-case P _ (λ a. long ne (ltb-true arg (leastOf width) a)) (λ a. fine (λ e. absurd (ne e)) (λ _. ltb-false arg (leastOf width) a)))
+
+-- a first byte with what follows it
+pub first-case : (P : HeadRead → Type 0) (first : ℕ) (s : List ℕ) → (28 ≤ first % 32 → first % 32 < 31 → P (HeadRead.Refused 3 0))
+    → (first % 32 ≡ 31 → P (HeadRead.Refused 4 0))
+    → (first % 32 < 28 → length s < widthOf (first % 32) → P (HeadRead.Refused 2 (length s + 1)))
+    → (first % 32 < 28 → widthOf (first % 32) ≤ length s → P (judged (first / 32) (argOf first (widthOf (first % 32)) s) (widthOf (first % 32))))
+    → P (headOf first s)
+unfolding headOf initialOf headBy headFrom
+first-case P first s reserved indefinite cut whole =
+    pick-case by _ (λ e. indefinite (eqb-true (first % 32) 31 e))
+    (λ ne. pick-case by _ (λ e. reserved (leb-true 28 (first % 32) e) (omega (arith, eqb-false (first % 32) 31 ne)))
+    (λ e. begins (leb-false 28 (first % 32) e)))
+  where
+    by : Initial → Type 0
+    by i = P (headBy first s i)
+
+    begins : first % 32 < 28 → by (Initial.Begins (first / 32) (widthOf (first % 32)))
+    begins h = pick-case P _ (λ e. cut h (ltb-true (length s) (widthOf (first % 32)) e)) (λ e. whole h (ltb-false (length s) (widthOf (first % 32)) e))
+
+-- ---- written, then read
+pub info-lt : {width arg : ℕ} → Sized width arg → infoOf width arg < 28
+unfolding infoOf pick
+info-lt (Sized.in-first h) = omega arith
+info-lt (Sized.one h) = lit< tt
+info-lt (Sized.two h) = lit< tt
+info-lt (Sized.four h) = lit< tt
+info-lt (Sized.eight h) = lit< tt
+
+width-info : {width arg : ℕ} → Sized width arg → widthOf (infoOf width arg) ≡ width
+unfolding infoOf widthOf pick
+width-info (Sized.in-first h) = rw (lt-ltb _ _ h)
+width-info (Sized.one h) = refl
+width-info (Sized.two h) = refl
+width-info (Sized.four h) = refl
+width-info (Sized.eight h) = refl
+
+arg-info : {width arg : ℕ} (first : ℕ) (rest : List ℕ) → Sized width arg → first % 32 ≡ infoOf width arg → argOf first width (bytesOf width arg ++ rest) ≡ arg
+unfolding infoOf argOf pick
+arg-info first rest (Sized.in-first h) e = e
+arg-info {arg = n} first rest (Sized.one h) e = read-back 1 n rest h
+arg-info {arg = n} first rest (Sized.two h) e = read-back 2 n rest h
+arg-info {arg = n} first rest (Sized.four h) e = read-back 4 n rest h
+arg-info {arg = n} first rest (Sized.eight h) e = read-back 8 n rest h
+
+pub written : (major width arg : ℕ) (rest : List ℕ) → Sized width arg → headAt (headBytes major width arg ++ rest) ≡ judged major arg width
+unfolding headAt headOf initialOf headBy headFrom headBytes pick
+written major width arg rest h =
+    let lt : infoOf width arg < 28 = info-lt h in
+    let low : infoOf width arg < 32 = omega arith in
+    let fits : width ≤ length (bytesOf width arg ++ rest) = simp (length-append, length-bytes) (omega arith) in
+    simp (
+      arg-info (major * 32 + infoOf width arg) rest h (digits-mod major low),
+      digits-mod major low,
+      digits-div major low,
+      ne-eqb (infoOf width arg) 31 (omega arith),
+      lt-leb 28 (infoOf width arg) lt,
+      width-info h,
+      le-ltb (length (bytesOf width arg ++ rest)) width fits,
+    )
+
+pub length-head : (major width arg : ℕ) → length (headBytes major width arg) ≡ 1 + width
+unfolding headBytes
+length-head major width arg = ap suc (length-bytes width arg) ∙ omega arith
+
+-- a head without fault that is written is read
+pub head-read : (major width arg : ℕ) (rest : List ℕ) → Right major width arg
+    → headAt (headBytes major width arg ++ rest) ≡ HeadRead.Head major arg (length (headBytes major width arg))
+head-read major width arg rest h =
+    written major width arg rest (h .sized)
+    ∙ judged-case
+    (λ r. r ≡ HeadRead.Head major arg (1 + width))
+    major
+    arg
+    width
+    (λ m w low. absurd (omega (arith, h .simple m w)))
+    (λ ne long. absurd (omega (arith, h .short ne)))
+    (λ _ _. refl)
+    ∙ simp length-head
+
+-- ---- read, then written
+-- a head of so many bytes at the start of s, as it would be written
+pub record Spelt (s : List ℕ) (major arg len : ℕ) : Type 0 where
+  pub width : ℕ
+  pub bytes : take len s ≡ headBytes major width arg
+  pub right : Right major width arg
+  pub kind : major < 8
+
+abbrev pub HeadIs : List ℕ → HeadRead → Type 0
+HeadIs s (HeadRead.Refused number place) = Unit {0}
+HeadIs s (HeadRead.Head major arg len) = Spelt s major arg len
+
+-- a head that is all there, with or without fault
+pub record Whole (s : List ℕ) (major arg width : ℕ) : Type 0 where
+  pub bytes : take (1 + width) s ≡ headBytes major width arg
+  pub sized : Sized width arg
+  pub kind : major < 8
+
+-- the additional information, the argument's bytes and its size
+record Info (first : ℕ) (s : List ℕ) (width : ℕ) : Type 0 where
+  same : infoOf width (argOf first width s) ≡ first % 32
+  digits : bytesOf width (argOf first width s) ≡ take width s
+  sized : Sized width (argOf first width s)
+
+info-is : (first : ℕ) (s : List ℕ) → first % 32 < 28 → Bytes s → widthOf (first % 32) ≤ length s → Info first s (widthOf (first % 32))
+unfolding widthOf infoOf argOf bytesOf pick
+info-is first s lt b =
+    pick-case P (ltb info 24) (λ e h. record { same = refl; digits = refl; sized = Sized.in-first (ltb-true info 24 e) })
+    (λ e₀. pick-case P (eqb info 24) (λ e h. record { same = sym (eqb-true info 24 e); digits = spelled 1 s b h; sized = Sized.one (big-endian-lt 1 s b) })
+    (λ e₁. pick-case P (eqb info 25) (λ e h. record { same = sym (eqb-true info 25 e); digits = spelled 2 s b h; sized = Sized.two (big-endian-lt 2 s b) })
+    (λ e₂. pick-case P (eqb info 26) (λ e h. record { same = sym (eqb-true info 26 e); digits = spelled 4 s b h; sized = Sized.four (big-endian-lt 4 s b) })
+    (λ e₄ h. record { same = omega (arith, ltb-false info 24 e₀, eqb-false info 24 e₁, eqb-false info 25 e₂, eqb-false info 26 e₄); digits = spelled 8 s b h; sized = Sized.eight (big-endian-lt 8 s b) }))))
+  where
+    info : ℕ
+    info = first % 32
+
+    P : ℕ → Type 0
+    P width = width ≤ length s → Info first s width
+
+pub whole : (first : ℕ) (s : List ℕ) → Bytes (first ∷ s) → first % 32 < 28 → widthOf (first % 32) ≤ length s
+    → Whole (first ∷ s) (first / 32) (argOf first (widthOf (first % 32)) s) (widthOf (first % 32))
+unfolding headBytes
+whole first s b lt room =
+    let i = info-is first s lt (λ k. b (suc k)) room in
+    record { bytes = rw (one-add (widthOf (first % 32)), i .same, i .digits, div-add-mod' first 32); sized = i .sized; kind = omega (arith, b 0) }
+
+pub head-is : (s : List ℕ) → Bytes s → HeadIs s (headAt s)
+unfolding headAt
+head-is [] b = tt
+head-is (first ∷ s) b =
+    first-case (HeadIs (first ∷ s)) first s (λ _ _. tt) (λ _. tt) (λ _ _. tt) (λ lt room. judged-is (whole first s b lt room))
+  where
+    judged-is : {major arg width : ℕ} → Whole (first ∷ s) major arg width → HeadIs (first ∷ s) (judged major arg width)
+    judged-is {major} {arg} {width} w =
+        judged-case
+        (HeadIs (first ∷ s))
+        major
+        arg
+        width
+        (λ _ _ _. tt)
+        (λ _ _. tt)
+        (λ simple short. record { width = width; bytes = w .bytes; right = record { sized = w .sized; simple = simple; short = short }; kind = w .kind })
+
+-- ---- the shortest form
+pub shortest-case : (P : ℕ → Type 0) (arg : ℕ) → (arg < 24 → P 0) → (24 ≤ arg → arg < 2 ^ 8 → P 1) → (2 ^ 8 ≤ arg → arg < 2 ^ 16 → P 2)
+    → (2 ^ 16 ≤ arg → arg < 2 ^ 32 → P 4) → (2 ^ 32 ≤ arg → P 8) → P (shortest arg)
+unfolding shortest
+shortest-case P arg none one two four eight =
+    pick-case P _ (λ e. none (ltb-true arg 24 e))
+    (λ g. pick-case P _ (λ e. one (ltb-false arg 24 g) (ltb-true arg (2 ^ 8) e))
+    (λ g. pick-case P _ (λ e. two (ltb-false arg (2 ^ 8) g) (ltb-true arg (2 ^ 16) e))
+    (λ g. pick-case P _ (λ e. four (ltb-false arg (2 ^ 16) g) (ltb-true arg (2 ^ 32) e)) (λ g. eight (ltb-false arg (2 ^ 32) g)))))
+
+pub shortest-right : (major arg : ℕ) → major < 7 → arg < 2 ^ 64 → Right major (shortest arg) arg
+unfolding leastOf pick
+shortest-right major arg hm h =
+    shortest-case
+    (λ width. Right major width arg)
+    arg
+    (λ l. right 0 (Sized.in-first l) zero-le)
+    (λ g l. right 1 (Sized.one l) g)
+    (λ g l. right 2 (Sized.two l) g)
+    (λ g l. right 4 (Sized.four l) g)
+    (λ g. right 8 (Sized.eight h) g)
+  where
+    right : (width : ℕ) → Sized width arg → leastOf width ≤ arg → Right major width arg
+    right width sized least = record { sized = sized; simple = λ e. absurd (omega arith); short = λ _. least }
+
+-- no shorter head has that argument
+pub no-shorter : (width arg : ℕ) → Sized width arg → shortest arg ≤ width
+no-shorter width arg (Sized.in-first h) = shortest-case (λ w. w ≤ 0) arg (λ _. omega arith) (λ g l. omega arith) (λ g l. omega arith) (λ g l. omega arith) (λ g. omega arith)
+no-shorter width arg (Sized.one h) = shortest-case (λ w. w ≤ 1) arg (λ _. omega arith) (λ g l. omega arith) (λ g l. omega arith) (λ g l. omega arith) (λ g. omega arith)
+no-shorter width arg (Sized.two h) = shortest-case (λ w. w ≤ 2) arg (λ _. omega arith) (λ g l. omega arith) (λ g l. omega arith) (λ g l. omega arith) (λ g. omega arith)
+no-shorter width arg (Sized.four h) = shortest-case (λ w. w ≤ 4) arg (λ _. omega arith) (λ g l. omega arith) (λ g l. omega arith) (λ g l. omega arith) (λ g. omega arith)
+no-shorter width arg (Sized.eight h) = shortest-case (λ w. w ≤ 8) arg (λ _. omega arith) (λ g l. omega arith) (λ g l. omega arith) (λ g l. omega arith) (λ g. omega arith)

@@ -1,0 +1,83 @@
+-- A head is refused exactly where it is at fault (RFC 8949, section 3): `head-fault`, a refusal names the fault, and, for each fault, that it is refused.
+-- Assumes nothing.
+use mathlib.Core.Path.{_≡_, refl, sym, ap, _∙_, subst}
+use mathlib.Core.List.{List, [], _∷_, _++_}
+use Prim.Native.Nat.{ℕ, _+_, _%_, _≤_, _<_}
+use native.Mathlib.Numerals.{add-one}
+use native.Mathlib.Omega.{arith}
+use lib.ListN.{length, drop, take-append-drop}
+use borrow.Author.Tests.{lt-ltb, le-leb, lt-leb, eq-eqb, ne-eqb}
+use Rattle.base.specs.Pick.{pick}
+use Rattle.base.specs.BigEndian.{Bytes}
+use Rattle.cbor.specs.declared.head.HeadRead.{HeadRead}
+use Rattle.cbor.specs.Head.{widthOf, leastOf, initialOf, judged, headFrom, headBy, headOf, headAt}
+use Rattle.cbor.specs.Tree.{headBytes, Sized}
+use Rattle.cbor.specs.Fault.{Fault, placeOf}
+use Rattle.cbor.proofs.HeadExact.{judged-case, first-case, written, Whole, whole}
+
+-- a refused head's fault and place
+abbrev FaultIs : ℕ → List ℕ → HeadRead → Type 0
+FaultIs left s (HeadRead.Head major arg len) = Unit {0}
+FaultIs left s (HeadRead.Refused number place) = Fault left s number × (place ≡ placeOf number 0 (length s))
+
+fault-is : (left : ℕ) (s : List ℕ) → Bytes s → FaultIs left s (headAt s)
+unfolding headAt placeOf pick
+fault-is left [] b = (Fault.missing refl, refl)
+fault-is left (first ∷ s) b =
+    first-case
+    (FaultIs left (first ∷ s))
+    first
+    s
+    (λ low high. (Fault.reserved first s refl low high, refl))
+    (λ e. (Fault.indefinite first s refl e, refl))
+    (λ lt short. (Fault.cut first s refl lt short, add-one (length s)))
+    (λ lt room. judged-is (whole first s b lt room))
+  where
+    judged-is : {major arg width : ℕ} → Whole (first ∷ s) major arg width → FaultIs left (first ∷ s) (judged major arg width)
+    judged-is {major} {arg} {width} w =
+        let split : first ∷ s ≡ headBytes major width arg ++ drop (1 + width) (first ∷ s) = rw (← w .bytes) (sym (take-append-drop (1 + width) (first ∷ s))) in
+        judged-case
+        (FaultIs left (first ∷ s))
+        major
+        arg
+        width
+        (λ m e low. (Fault.low-simple arg (drop (1 + width) (first ∷ s)) (cc) low, refl))
+        (λ ne low. (Fault.long major width arg (drop (1 + width) (first ∷ s)) split (omega (arith, ne)) (w .sized) low, refl))
+        (λ _ _. tt)
+
+-- every refusal of a head is a fault of it
+pub head-fault : (left : ℕ) (s : List ℕ) (number place : ℕ) → Bytes s → headAt s ≡ HeadRead.Refused number place
+    → Fault left s number × (place ≡ placeOf number 0 (length s))
+head-fault left s number place b e = subst (FaultIs left s) e (fault-is left s b)
+
+-- ---- and every fault of a head is refused
+pub missing-refused : {s : List ℕ} → s ≡ [] → headAt s ≡ HeadRead.Refused 2 (placeOf 2 0 (length s))
+unfolding headAt placeOf pick
+missing-refused e = rw e
+
+pub reserved-refused : {s : List ℕ} (first : ℕ) (rest : List ℕ) → s ≡ first ∷ rest → 28 ≤ first % 32 → first % 32 < 31
+    → headAt s ≡ HeadRead.Refused 3 (placeOf 3 0 (length s))
+unfolding headAt headOf headBy initialOf placeOf pick
+reserved-refused first rest e low high = rw (e, ne-eqb (first % 32) 31 (omega arith), le-leb 28 (first % 32) low)
+
+pub indefinite-refused : {s : List ℕ} (first : ℕ) (rest : List ℕ) → s ≡ first ∷ rest → first % 32 ≡ 31
+    → headAt s ≡ HeadRead.Refused 4 (placeOf 4 0 (length s))
+unfolding headAt headOf headBy initialOf placeOf pick
+indefinite-refused first rest e h = rw (e, eq-eqb (first % 32) 31 h)
+
+pub cut-refused : {s : List ℕ} (first : ℕ) (rest : List ℕ) → s ≡ first ∷ rest → first % 32 < 28 → length rest < widthOf (first % 32)
+    → headAt s ≡ HeadRead.Refused 2 (placeOf 2 0 (length s))
+unfolding headAt headOf headBy headFrom initialOf placeOf pick
+cut-refused first rest e low short =
+    rw (e, ne-eqb (first % 32) 31 (omega arith), lt-leb 28 (first % 32) low, lt-ltb (length rest) (widthOf (first % 32)) short, add-one (length rest))
+
+pub low-simple-refused : {s : List ℕ} (value : ℕ) (rest : List ℕ) → s ≡ headBytes 7 1 value ++ rest → value < 32
+    → headAt s ≡ HeadRead.Refused 3 (placeOf 3 0 (length s))
+unfolding judged placeOf pick
+low-simple-refused value rest e low = ap headAt e ∙ written 7 1 value rest (Sized.one (omega arith)) ∙ rw (lt-ltb value 32 low)
+
+pub long-refused : {s : List ℕ} (major width arg : ℕ) (rest : List ℕ) → s ≡ headBytes major width arg ++ rest → major < 7 → Sized width arg → arg < leastOf width
+    → headAt s ≡ HeadRead.Refused 5 (placeOf 5 0 (length s))
+unfolding judged placeOf pick
+long-refused major width arg rest e m sized low =
+    ap headAt e ∙ written major width arg rest sized ∙ rw (ne-eqb major 7 (omega arith), lt-ltb arg (leastOf width) low)

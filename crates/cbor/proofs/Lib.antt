@@ -1,0 +1,20 @@
+-- For readers: `ItemLaws`, the first whole item held against the standard; `Utf8Exact`; `PutExact`, heads written.
+pub mod ItemLaws
+pub mod Utf8Exact
+pub mod PutExact
+-- For callers' proofs: heads read and written, items accepted and refused, tokens and their bounds.
+pub mod HeadExact
+pub mod HeadFault
+pub mod Accepts
+pub mod Exact
+pub mod Unique
+pub mod Refuses
+pub mod Tokens
+-- For the proofs of this crate.
+mod Bounds
+mod Runs
+mod Turn
+mod Steps
+mod Within
+mod Stores
+mod Utf8Scalar

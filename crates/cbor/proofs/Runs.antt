@@ -1,0 +1,93 @@
+-- The walk of `specs/Item.antt` with its count of turns out of the way: `runs` has as many as it needs, and obeys the three equations that
+-- `run` states, `runs-end`, `runs-close` and `runs-step`. And `runs-many`: a count that exceeds the bytes left may be any other such count.
+-- Assumes nothing.
+use mathlib.Core.Path.{_≡_, refl, ap, _∙_}
+use mathlib.Core.List.{List, [], _∷_, _++_, append-assoc}
+use Prim.Native.Nat.{ℕ, zero, suc, _+_, _-_, _*_, _≤_, _<_, zero-le}
+use native.Mathlib.Nat.{le-refl}
+use native.Mathlib.Omega.{arith}
+use lib.ListN.{length, drop, length-drop, length-append}
+use Rattle.cbor.specs.declared.item.Step.{Step}
+use Rattle.cbor.specs.declared.item.ItemRead.{ItemRead}
+use Rattle.cbor.specs.Item.{stepAt, itemsOf, next, run, enough}
+use Rattle.cbor.proofs.Bounds.{StepOk, step-ok}
+
+abbrev pub runs : ℕ → ℕ → List ℕ → List ℕ → ItemRead
+runs most at s stack = run most (enough s stack) at s stack
+
+-- two walks agree after a step where they agree on fewer bytes and at most one level more
+module _ (at : ℕ) (s st st′ : List ℕ) (go go′ : ℕ → List ℕ → List ℕ → ItemRead) where
+  next-same : (left : ℕ) (x : Step) → StepOk left (length s) x
+      → ((len : ℕ) (new : List ℕ) → 1 ≤ len → len ≤ length s → length new ≤ 1 → go (at + len) (drop len s) (new ++ st) ≡ go′ (at + len) (drop len s) (new ++ st′))
+      → next go at s st x ≡ next go′ at s st′ x
+  unfolding next
+  next-same left (Step.Refused number place) h agree = refl
+  next-same left (Step.Passed len) h agree = agree len [] (h .0) (h .1) zero-le
+  next-same left (Step.Opened len n pairs) h agree = agree len (itemsOf n pairs ∷ []) (h .0 .0) (h .0 .1) (le-refl 1)
+
+module _ (most : ℕ) where
+  -- a step by what may open here
+  here : List ℕ → List ℕ → Step
+  here s stack = stepAt (most - length stack) s
+
+  here-ok : (s stack : List ℕ) → StepOk (most - length stack) (length s) (here s stack)
+  unfolding here
+  here-ok s stack = step-ok (most - length stack) s
+
+  -- any count of turns that is large enough gives the same
+  any-turns : (f g at : ℕ) (s stack : List ℕ) → enough s stack ≤ f → enough s stack ≤ g → run most f at s stack ≡ run most g at s stack
+  unfolding run enough here
+  any-turns zero g at s stack hf hg = absurd (omega arith)
+  any-turns (suc f) zero at s stack hf hg = absurd (omega arith)
+  any-turns (suc f) (suc g) at s [] hf hg = refl
+  any-turns (suc f) (suc g) at s (zero ∷ stack) hf hg = any-turns f g at s stack (omega arith) (omega arith)
+  any-turns (suc f) (suc g) at s (suc n ∷ stack) hf hg =
+      next-same at s (n ∷ stack) (n ∷ stack) (run most f) (run most g) _ (here s stack) (here-ok s stack)
+      (λ len new lo hi one.
+      let d = length-drop len s in
+      let a = length-append new (n ∷ stack) in
+      any-turns f g (at + len) (drop len s) (new ++ n ∷ stack) (omega arith) (omega arith))
+
+  pub runs-end : (at : ℕ) (s : List ℕ) → runs most at s [] ≡ ItemRead.Ends at
+  unfolding run enough
+  runs-end at s = refl
+
+  pub runs-close : (at : ℕ) (s stack : List ℕ) → runs most at s (0 ∷ stack) ≡ runs most at s stack
+  unfolding run enough
+  runs-close at s stack = any-turns (2 * length s + length (0 ∷ stack)) (enough s stack) at s stack (omega arith) (omega arith)
+
+  pub runs-step : (at n : ℕ) (s stack : List ℕ)
+      → runs most at s (suc n ∷ stack) ≡ next (runs most) at s (n ∷ stack) (stepAt (most - length stack) s)
+  unfolding run enough here
+  runs-step at n s stack =
+      let turns = 2 * length s + length (suc n ∷ stack) in
+      next-same at s (n ∷ stack) (n ∷ stack) (run most turns) (runs most) _ (here s stack) (here-ok s stack)
+      (λ len new lo hi one.
+      let d = length-drop len s in
+      let a = length-append new (n ∷ stack) in
+      any-turns turns (enough (drop len s) (new ++ n ∷ stack)) (at + len) (drop len s) (new ++ n ∷ stack) (omega arith) (omega arith))
+
+  -- a count that exceeds the bytes left is never used up, so that it may be any other
+  many : (f at : ℕ) (s above : List ℕ) (c c′ : ℕ) (below : List ℕ) → length s < c → length s < c′
+      → run most f at s (above ++ c ∷ below) ≡ run most f at s (above ++ c′ ∷ below)
+  unfolding run here
+  many zero at s above c c′ below h h′ = refl
+  many (suc f) at s [] zero c′ below h h′ = absurd (omega arith)
+  many (suc f) at s [] (suc c) zero below h h′ = absurd (omega arith)
+  many (suc f) at s [] (suc c) (suc c′) below h h′ =
+      next-same at s (c ∷ below) (c′ ∷ below) (run most f) (run most f) _ (here s below) (here-ok s below)
+      (λ len new lo hi one. let d = length-drop len s in many f (at + len) (drop len s) new c c′ below (omega arith) (omega arith))
+  many (suc f) at s (zero ∷ above) c c′ below h h′ = many f at s above c c′ below h h′
+  many (suc f) at s (suc n ∷ above) c c′ below h h′ =
+      let same-levels : length (above ++ c ∷ below) ≡ length (above ++ c′ ∷ below) = simp length-append in
+      ap (λ (k : ℕ). next (run most f) at s (n ∷ above ++ c ∷ below) (stepAt (most - k) s)) same-levels
+      ∙ next-same at s (n ∷ above ++ c ∷ below) (n ∷ above ++ c′ ∷ below) (run most f) (run most f) _ (here s (above ++ c′ ∷ below))
+      (here-ok s (above ++ c′ ∷ below))
+      (λ len new lo hi one.
+      let d = length-drop len s in
+      rw (← append-assoc new (n ∷ above) (c ∷ below), ← append-assoc new (n ∷ above) (c′ ∷ below))
+      (many f (at + len) (drop len s) (new ++ n ∷ above) c c′ below (omega arith) (omega arith)))
+
+  pub runs-many : (at : ℕ) (s : List ℕ) (c c′ : ℕ) (stack : List ℕ) → length s < c → length s < c′ → runs most at s (c ∷ stack) ≡ runs most at s (c′ ∷ stack)
+  unfolding enough
+  runs-many at s c c′ stack h h′ = many _ at s [] c c′ stack h h′

@@ -1,0 +1,106 @@
+-- The bounds of a token and of an item's size, and how the code's answers meet the definitions.
+-- Assumes nothing.
+use mathlib.Core.Path.{_≡_, refl, sym, ap, _∙_, subst}
+use mathlib.Core.List.{List, []}
+use mathlib.Core.Bool.{Bool, true, false}
+use Prim.Native.Nat.{ℕ, _+_, _-_, _≤_, _<_, zero-le}
+use native.Mathlib.Nat.{le-refl}
+use native.Mathlib.Omega.{arith}
+use lib.ListN.{length, take, drop, length-drop}
+use lib.Dec.{leb}
+use borrow.Author.Tests.{leb-true, leb-false}
+use Rattle.base.proofs.Picks.{pick-case, both}
+use Rattle.base.proofs.Parts.{rest-is, drop-past}
+use Rattle.cbor.specs.declared.head.HeadRead.{HeadRead}
+use Rattle.cbor.specs.declared.item.ItemRead.{ItemRead}
+use Rattle.cbor.specs.declared.token.Token.{Token}
+use Rattle.cbor.specs.Head.{headAt}
+use Rattle.cbor.specs.Item.{firstItem, run, enough, next, stepAt, stepFrom}
+use Rattle.cbor.specs.Token.{nothingAt, tokenOf, tokenFrom, tokenAt, TokenIs, sizeFrom, sizeAt, SizeIs}
+use Rattle.cbor.proofs.Bounds.{HeadOk, head-ok}
+use Rattle.cbor.proofs.Within.{item-within}
+
+abbrev Bounds : ℕ → ℕ → Token → Type 0
+Bounds size at t = (t .at ≡ at) × (t .body ≤ t .next) × (t .next ≤ size)
+
+nothing-ok : (size at : ℕ) → Bounds size at (nothingAt at)
+unfolding nothingAt
+nothing-ok size at = (refl, le-refl 0, zero-le)
+
+token-of-ok : (at room major arg len : ℕ) → len ≤ room → Bounds (at + room) at (tokenOf at room major arg len)
+unfolding tokenOf
+token-of-ok at room major arg len h =
+    both B _ (both B _ (pick-case B _ (λ e. (refl, omega arith, omega (arith, leb-true arg (room - len) e))) (λ e. nothing-ok _ at)) leaf) leaf
+  where
+    B : Token → Type 0
+    B = Bounds (at + room) at
+
+    leaf : B (record { at = at; major = major; arg = arg; body = at + len; next = at + len })
+    leaf = (refl, le-refl (at + len), omega arith)
+
+token-from-ok : (at room : ℕ) (x : HeadRead) → HeadOk room x → Bounds (at + room) at (tokenFrom at room x)
+unfolding tokenFrom
+token-from-ok at room (HeadRead.Refused number place) h = nothing-ok _ at
+token-from-ok at room (HeadRead.Head major arg len) h = token-of-ok at room major arg len (h .1)
+
+pub token-past : (s : List ℕ) (at : ℕ) → length s < at → tokenAt s at ≡ nothingAt at
+unfolding tokenAt tokenFrom headAt
+token-past s at h = rw (drop-past s at (omega arith))
+
+-- the bounds of a token that is read
+pub token-is : (s : List ℕ) (at : ℕ) (t : Token) → t ≡ tokenAt s at → TokenIs s at t
+unfolding tokenAt
+token-is s at t e = by (leb at (length s)) refl
+  where
+    as-record : Bounds (length s) at t → TokenIs s at t
+    as-record k = record { is = e; here = k .0; start = k .1; end = k .2 }
+
+    by : (b : Bool) → leb at (length s) ≡ b → TokenIs s at t
+    by true h =
+        let sum : at + length (drop at s) ≡ length s = omega (arith, length-drop at s, leb-true at (length s) h) in
+        as-record (rw sum at (subst (Bounds (at + length (drop at s)) at) (sym e) (token-from-ok at (length (drop at s)) (headAt (drop at s)) (head-ok (drop at s)))))
+    by false h = as-record (subst (Bounds (length s) at) (sym (e ∙ token-past s at (leb-false at (length s) h))) (nothing-ok (length s) at))
+
+pub token-none : (s : List ℕ) (at : ℕ) (t : Token) → length s < at → t ≡ nothingAt at → TokenIs s at t
+token-none s at t h e = token-is s at t (e ∙ sym (token-past s at h))
+
+pub token-found : (s : List ℕ) (at : ℕ) (t : Token) (x y : HeadRead) → y ≡ headAt (take (length s - at) (drop at s)) → y ≡ x
+    → t ≡ tokenFrom at (length s - at) x → TokenIs s at t
+unfolding tokenAt
+token-found s at t x y e q f =
+    token-is s at t
+    (f
+    ∙ ap (tokenFrom at (length s - at)) (sym q ∙ e ∙ ap headAt (rest-is at s))
+    ∙ ap (λ (n : ℕ). tokenFrom at n (headAt (drop at s))) (sym (length-drop at s)))
+
+pub head-fits : (s : List ℕ) (at major arg len : ℕ) (y : HeadRead) → y ≡ headAt (take (length s - at) (drop at s)) → y ≡ HeadRead.Head major arg len → len ≤ length s - at
+head-fits s at major arg len y e q =
+    rw (length-drop at s) at (subst (HeadOk (length (drop at s))) (ap headAt (sym (rest-is at s)) ∙ sym e ∙ q) (head-ok (drop at s)) .1)
+
+pub token-end : (s : List ℕ) (at : ℕ) → tokenAt s at .next ≤ length s
+token-end s at = token-is s at (tokenAt s at) refl .end
+
+-- ---- an item passed over
+size-within : (s : List ℕ) (x : ItemRead) → firstItem 0 s ≡ x → sizeFrom x ≤ length s
+unfolding sizeFrom
+size-within s (ItemRead.Refused number place) e = zero-le
+size-within s (ItemRead.Ends end) e = item-within 0 s end e
+
+pub size-le : (s : List ℕ) (at : ℕ) → sizeAt s at ≤ length s - at
+unfolding sizeAt
+size-le s at = rw (length-drop at s) at (size-within (drop at s) (firstItem 0 (drop at s)) refl)
+
+first-of-nothing : firstItem 0 [] ≡ ItemRead.Refused 2 0
+unfolding firstItem run enough next stepAt stepFrom headAt
+first-of-nothing = refl
+
+pub size-none : (s : List ℕ) (at : ℕ) → length s < at → SizeIs s at 0
+unfolding sizeAt sizeFrom
+size-none s at h =
+    record { is = sym (ap (λ (l : List ℕ). sizeFrom (firstItem 0 l)) (drop-past s at (omega arith)) ∙ ap sizeFrom first-of-nothing); within = zero-le }
+
+pub size-found : (s : List ℕ) (at : ℕ) (x y : ItemRead) → y ≡ firstItem 0 (take (length s - at) (drop at s)) → y ≡ x → SizeIs s at (sizeFrom x)
+unfolding sizeAt
+size-found s at x y e q =
+    let same : x ≡ firstItem 0 (drop at s) = sym q ∙ e ∙ ap (firstItem 0) (rest-is at s) in
+    record { is = ap sizeFrom same; within = rw (length-drop at s) at (size-within (drop at s) x (sym same)) }

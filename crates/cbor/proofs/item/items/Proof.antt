@@ -1,0 +1,33 @@
+-- `cbor::item::items` meets its contract.
+-- Assumes nothing.
+use mathlib.Core.Logic.{inl, inr}
+use native.Mathlib.Omega.{arith}
+use Rattle.base.specs.Pick.{pick}
+use Rattle.cbor.specs.Item.{itemsOf}
+use borrow.Author.Needs.{needs}
+use Rattle.cbor.proofs.item.items.Statement.{statement}
+use Rattle.cbor.proofs.item.items.Tie as tie
+use Rattle.cbor.proofs.item.items.Reads as reads
+use Rattle.cbor.proofs.item.items.Lts as lts
+
+-- src/item.rt:140:20
+mul-result : tie.Need-mul-result
+mul-result c = search needs
+
+-- src/item.rt:140:13
+returns : tie.Need-returns
+unfolding itemsOf pick
+returns c = inl (rw (c .before .if1 .taken))
+
+-- src/item.rt:142:9
+returns-2 : tie.Need-returns-2
+unfolding itemsOf pick
+returns-2 c = inr (rw (c .before .if1 .taken) (omega arith))
+
+-- src/item.rt:135:1
+returns-3 : tie.Need-returns-3
+unfolding itemsOf pick
+returns-3 c = inl (rw (c .if1 .left))
+
+pub items-spec : {M : Type 1} → statement M
+items-spec = tie.close (tie.spec mul-result returns returns-2 returns-3)

@@ -1,0 +1,143 @@
+// The first whole item of a slice.
+ghost use mathlib.Core.Path.{_≡_};
+ghost use mathlib.Core.Logic.{_⊎_};
+ghost use Prim.Native.Nat.{_^_, _≤_};
+ghost use Rattle.cbor.specs.Item.{stepOf, stepAt, itemsOf, leftUnder, firstItem};
+use crate::head;
+use crate::head::HeadRead;
+
+// House limit: how many levels of arrays, maps and tags an item has at most.
+pub const MOST_LEVELS: usize = 8;
+
+// The first whole item: where it ends, or the refusal with its place.
+pub enum ItemRead {
+    Ends(usize),
+    Refused { number: u8, place: usize },
+}
+
+// A head with its string: passed, `len` bytes with nothing inside; an array, a map or a tag opened, a head of `len`
+// bytes that holds n items, or n pairs of items; or the refusal.
+pub enum Step {
+    Passed(usize),
+    Opened { len: usize, n: u64, pairs: bool },
+    Refused { number: u8, place: usize },
+}
+
+// The first whole item at the start of s, under so many open levels.
+pub fn first(levels: usize, s: &[u8]) -> ItemRead
+    ensures { λ r. ⌜ r ≡ firstItem levels (now (s .entry)) ⌝ }
+{
+    let most = left_under(levels);
+    // What each open level still lacks, the outermost first; the first count is for the item itself.
+    let mut counts = [0u64; 9];
+    counts[0] = 1;
+    let mut depth: usize = 1;
+    let mut at: usize = 0;
+    while 0 < depth {
+        let top = depth - 1;
+        let lacking = counts[top];
+        if lacking == 0 {
+            depth = top;
+        } else {
+            counts[top] = lacking - 1;
+            let step = step_at(most - top, &s[at..]);
+            match step {
+                Step::Refused { number, place } => {
+                    let place = at + place;
+                    return ItemRead::Refused { number, place };
+                }
+                Step::Passed(len) => {
+                    at = at + len;
+                }
+                Step::Opened { len, n, pairs } => {
+                    at = at + len;
+                    counts[depth] = items(n, pairs);
+                    depth = depth + 1;
+                }
+            }
+        }
+    }
+    ItemRead::Ends(at)
+}
+
+// How many levels may open under so many.
+fn left_under(levels: usize) -> usize
+    ensures { λ r. ⌜ r ≡ leftUnder levels ⌝ }
+{
+    if MOST_LEVELS <= levels {
+        return 0;
+    }
+    MOST_LEVELS - levels
+}
+
+// The head at the start of s with its string, where so many levels may open.
+fn step_at(left: usize, s: &[u8]) -> Step
+    ensures { λ r. ⌜ r ≡ stepAt left (now (s .entry)) ⌝ }
+{
+    let head = head::read(s);
+    match head {
+        HeadRead::Refused { number, place } => Step::Refused { number, place },
+        HeadRead::Head { major, arg, len } => step_of(left, s.len(), major, arg, len),
+    }
+}
+
+// What a head of `len` bytes passes or opens, where it and what follows it are `room` bytes.
+fn step_of(left: usize, room: usize, major: u8, arg: u64, len: usize) -> Step
+    requires { ⌜ len ≤ room ⌝ }
+    ensures { λ r. ⌜ r ≡ stepOf left room major arg len ⌝ }
+{
+    if major == 7 {
+        return Step::Passed(len);
+    }
+    if 4 <= major {
+        if left == 0 {
+            return Step::Refused {
+                number: 6,
+                place: 0,
+            };
+        }
+        if major == 4 {
+            return Step::Opened {
+                len,
+                n: arg,
+                pairs: false,
+            };
+        }
+        if major == 5 {
+            return Step::Opened {
+                len,
+                n: arg,
+                pairs: true,
+            };
+        }
+        return Step::Opened {
+            len,
+            n: 1,
+            pairs: false,
+        };
+    }
+    if 2 <= major {
+        if arg <= (room - len) as u64 {
+            let end = len + arg as usize;
+            return Step::Passed(end);
+        }
+        return Step::Refused {
+            number: 2,
+            place: room,
+        };
+    }
+    Step::Passed(len)
+}
+
+// How many items these are, or 2^63, which is more than any slice has bytes, where there are at least so many.
+fn items(n: u64, pairs: bool) -> u64
+    ensures { λ r. ⌜ (r ≡ itemsOf n pairs) ⊎ ((2 ^ 63 ≤ r) × (2 ^ 63 ≤ itemsOf n pairs)) ⌝ }
+{
+    if pairs {
+        if n < 0x4000_0000_0000_0000 {
+            return 2 * n;
+        }
+        return 0x8000_0000_0000_0000;
+    }
+    n
+}

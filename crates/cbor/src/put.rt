@@ -1,0 +1,84 @@
+// The shortest head written (RFC 8949, section 4.1).
+
+ghost use mathlib.Core.Path.{_≡_};
+ghost use Prim.Native.Nat.{_+_, _≤_};
+ghost use lib.ListN.{length};
+ghost use Rattle.base.specs.BigEndian.{bytesOf};
+ghost use Rattle.cbor.specs.Tree.{infoOf, Sized, shortest};
+ghost use Rattle.cbor.specs.Put.{put, headEnd, headPut};
+
+// How many bytes the shortest head with this argument has.
+pub fn head_len(arg: u64) -> usize
+    ensures { λ r. ⌜ r ≡ 1 + shortest arg ⌝ }
+{
+    if arg < 24 {
+        return 1;
+    }
+    if arg < 0x100 {
+        return 2;
+    }
+    if arg < 0x1_0000 {
+        return 3;
+    }
+    if arg < 0x1_0000_0000 {
+        return 5;
+    }
+    9
+}
+
+// The shortest head of major types 0 to 6 stored from `at` on; the answer is the position after it. Where it doesn't fit,
+// the answer is one past the end and nothing is stored.
+pub fn head(out: &mut [u8], at: usize, major: u8, arg: u64) -> usize
+    ensures { λ r. ⌜ r ≡ headEnd (now (out .entry)) at major arg ⌝ }
+    ensures { λ r. ⌜ now (out .exit) ≡ headPut (now (out .entry)) at major arg ⌝ }
+{
+    let room = out.len();
+    let len = head_len(arg);
+    if 6 < major {
+        return room + 1;
+    }
+    if room < len {
+        return room + 1;
+    }
+    if room - len < at {
+        return room + 1;
+    }
+    let width = len - 1;
+    out[at] = major * 32 + info(width, arg);
+    spell(out, at + 1, width, arg);
+    at + len
+}
+
+// The additional information of a head with so many bytes of argument.
+fn info(width: usize, arg: u64) -> u8
+    requires { ⌜ Sized width arg ⌝ }
+    ensures { λ r. ⌜ r ≡ infoOf width arg ⌝ }
+{
+    if width == 0 {
+        return arg as u8;
+    }
+    if width == 1 {
+        return 24;
+    }
+    if width == 2 {
+        return 25;
+    }
+    if width == 4 {
+        return 26;
+    }
+    27
+}
+
+// The n bytes that spell `value`, the most significant first, stored from `at` on.
+fn spell(out: &mut [u8], at: usize, n: usize, value: u64)
+    requires { ⌜ at + n ≤ length (now out) ⌝ }
+    ensures { λ r. ⌜ now (out .exit) ≡ put (now (out .entry)) at (bytesOf n value) ⌝ }
+{
+    let mut left = n;
+    let mut rest = value;
+    while 0 < left {
+        left -= 1;
+        out[at + left] = (rest % 256) as u8;
+        rest /= 256;
+    }
+}

@@ -1,0 +1,118 @@
+// The heads of an item that is known to be whole, one after the other: a head with its string, in place.
+ghost use mathlib.Core.Path.{_≡_};
+ghost use Prim.Native.Nat.{_+_, _≤_, _<_, _^_};
+ghost use Rattle.cbor.specs.Token.{nothingAt, tokenOf, TokenIs, SizeIs, itemsIn, upTo};
+use crate::head;
+use crate::head::HeadRead;
+use crate::item;
+use crate::item::ItemRead;
+
+// The head at `at`: its major type and argument, where what it heads begins, and where the next head stands (after a
+// string's bytes, else after the head itself). Major type 8 where no whole head with its string is there.
+pub struct Token {
+    pub at: usize,
+    pub major: u8,
+    pub arg: u64,
+    pub body: usize,
+    pub next: usize,
+}
+
+pub fn read_at(s: &[u8], at: usize) -> Token
+    ensures { λ r. ⌜ TokenIs (now (s .entry)) at r ⌝ }
+{
+    if s.len() < at {
+        return nothing_at(at);
+    }
+    let head = head::read(&s[at..]);
+    match head {
+        HeadRead::Refused {
+            number: _,
+            place: _,
+        } => nothing_at(at),
+        HeadRead::Head { major, arg, len } => token_of(at, s.len() - at, major, arg, len),
+    }
+}
+
+fn nothing_at(at: usize) -> Token
+    ensures { λ r. ⌜ r ≡ nothingAt at ⌝ }
+{
+    Token {
+        at,
+        major: 8,
+        arg: 0,
+        body: 0,
+        next: 0,
+    }
+}
+
+// A head of `len` bytes at `at`, where it and what follows it are `room` bytes.
+fn token_of(at: usize, room: usize, major: u8, arg: u64, len: usize) -> Token
+    requires { ⌜ (len ≤ room) × (at + room < 2 ^ 63) ⌝ }
+    ensures { λ r. ⌜ r ≡ tokenOf at room major arg len ⌝ }
+{
+    let body = at + len;
+    if 1 < major {
+        if major < 4 {
+            let left = (room - len) as u64;
+            if arg <= left {
+                let next = body + arg as usize;
+                return Token {
+                    at,
+                    major,
+                    arg,
+                    body,
+                    next,
+                };
+            }
+            return nothing_at(at);
+        }
+    }
+    Token {
+        at,
+        major,
+        arg,
+        body,
+        next: body,
+    }
+}
+
+// How many bytes the item at `at` has, or 0 where none is there.
+pub fn size_at(s: &[u8], at: usize) -> usize
+    ensures { λ r. ⌜ SizeIs (now (s .entry)) at r ⌝ }
+{
+    if s.len() < at {
+        return 0;
+    }
+    let read = item::first(0, &s[at..]);
+    match read {
+        ItemRead::Refused {
+            number: _,
+            place: _,
+        } => 0,
+        ItemRead::Ends(end) => end,
+    }
+}
+
+// How many items an array has: 0 for what is no array.
+pub fn items_in(t: Token) -> u64
+    ensures { λ r. ⌜ r ≡ itemsIn t ⌝ }
+{
+    if t.major == 4 {
+        return t.arg;
+    }
+    0
+}
+
+// An unsigned number: limit + 1 for what is none, or exceeds the limit.
+pub fn up_to(limit: u32, t: Token) -> u64
+    ensures { λ r. ⌜ r ≡ upTo limit t ⌝ }
+{
+    let most = limit as u64;
+    if t.major == 0 {
+        if t.arg <= most {
+            return t.arg;
+        }
+        return most + 1;
+    }
+    most + 1
+}

@@ -1,0 +1,102 @@
+// UTF-8 (RFC 3629).
+ghost use mathlib.Core.Path.{_≡_};
+ghost use Prim.Native.Nat.{_-_};
+ghost use lib.ListN.{take, drop};
+ghost use Rattle.cbor.specs.Utf8.{tailsOf, leastTail, greatestTail, isUtf8};
+
+// Whether `s` is UTF-8.
+pub fn is_utf8(s: &[u8]) -> bool
+    ensures { λ r. ⌜ r ≡ isUtf8 (now (s .entry)) ⌝ }
+{
+    // How many tails are still due, and the range of the next one.
+    let mut due: u8 = 0;
+    let mut low: u8 = 0x80;
+    let mut high: u8 = 0xBF;
+    let mut at: usize = 0;
+    while at < s.len() {
+        let b = s[at];
+        at += 1;
+        if due == 0 {
+            if 0x80 <= b {
+                due = tails(b);
+                if due == 0 {
+                    return false;
+                }
+                low = least(b);
+                high = greatest(b);
+            }
+        } else {
+            if b < low {
+                return false;
+            }
+            if high < b {
+                return false;
+            }
+            due -= 1;
+            low = 0x80;
+            high = 0xBF;
+        }
+    }
+    due == 0
+}
+
+// Whether the bytes of s from `from` on and before `to` are UTF-8: those of them that there are.
+pub fn is_utf8_in(s: &[u8], from: usize, to: usize) -> bool
+    ensures { λ r. ⌜ r ≡ isUtf8 (take (to - from) (drop from (now (s .entry)))) ⌝ }
+{
+    if to <= from {
+        return true;
+    }
+    if s.len() <= from {
+        return true;
+    }
+    if s.len() < to {
+        return is_utf8(&s[from..]);
+    }
+    is_utf8(&s[from..to])
+}
+
+// How many tails follow the lead byte `b`: none where `b` is no lead byte.
+fn tails(b: u8) -> u8
+    ensures { λ r. ⌜ r ≡ tailsOf b ⌝ }
+{
+    if b < 0xC2 {
+        return 0;
+    }
+    if b < 0xE0 {
+        return 1;
+    }
+    if b < 0xF0 {
+        return 2;
+    }
+    if b < 0xF5 {
+        return 3;
+    }
+    0
+}
+
+// The least first tail after the lead byte `b`.
+fn least(b: u8) -> u8
+    ensures { λ r. ⌜ r ≡ leastTail b ⌝ }
+{
+    if b == 0xE0 {
+        return 0xA0;
+    }
+    if b == 0xF0 {
+        return 0x90;
+    }
+    0x80
+}
+
+// The greatest first tail after the lead byte `b`.
+fn greatest(b: u8) -> u8
+    ensures { λ r. ⌜ r ≡ greatestTail b ⌝ }
+{
+    if b == 0xED {
+        return 0x9F;
+    }
+    if b == 0xF4 {
+        return 0x8F;
+    }
+    0xBF
+}

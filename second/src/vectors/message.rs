@@ -1,0 +1,94 @@
+//! The cases of `message_vectors`: messages, and bytes that are refused.
+
+mod examples;
+mod fields;
+mod generated;
+mod levels;
+mod lines;
+mod parts;
+mod refusals;
+mod shapes;
+mod sizes;
+mod term;
+mod texts;
+
+use std::collections::BTreeSet;
+
+use super::Files;
+
+/// The longest case.
+const LONGEST: usize = 4096;
+
+/// All cases, one after the other, and the line each gives.
+pub fn files() -> Files {
+    let cases = cases();
+    Files {
+        stdin: cases.iter().flat_map(|case| stored(case)).collect(),
+        stdout: cases.iter().flat_map(|case| lines::line(case)).collect(),
+    }
+}
+
+/// Every case once, in the order of the stored files.
+fn cases() -> Vec<Vec<u8>> {
+    let mut seen = BTreeSet::new();
+    [shapes_and_fields(), limits_and_faults()]
+        .into_iter()
+        .flatten()
+        .flatten()
+        .filter(|case| seen.insert(case.clone()))
+        .collect()
+}
+
+/// Examples, and every shape and field, right and wrong.
+fn shapes_and_fields() -> Vec<Vec<Vec<u8>>> {
+    vec![
+        examples::bytes_at_the_edges(),
+        examples::appendix_a(),
+        shapes::kinds_and_options(),
+        shapes::kinds(),
+        shapes::tails_of_other_kinds(),
+        shapes::replaced_items(),
+        shapes::wrapped_items(),
+        shapes::wrong_counts(),
+        shapes::false_claims(),
+        shapes::long_heads(),
+        shapes::cut_messages(),
+        shapes::sequences(),
+        shapes::pairs(),
+        shapes::ends(),
+        shapes::no_messages(),
+        fields::numbers(),
+        fields::option_numbers(),
+        fields::addresses(),
+        fields::protocols_and_ports(),
+        fields::locators_in_places(),
+    ]
+}
+
+/// Texts, levels and sizes, faults against each other, and random messages.
+fn limits_and_faults() -> Vec<Vec<Vec<u8>>> {
+    vec![
+        texts::names(),
+        texts::good_texts(),
+        texts::bad_texts(),
+        texts::unnamed_texts(),
+        texts::long_names_and_bad_texts(),
+        levels::values(),
+        levels::siblings(),
+        levels::other_places(),
+        sizes::filled(),
+        sizes::many(),
+        refusals::alone(),
+        refusals::in_competition(),
+        refusals::several(),
+        refusals::over_long(),
+        generated::messages(),
+        generated::near_messages(),
+    ]
+}
+
+/// The case's length, then its bytes.
+fn stored(case: &[u8]) -> Vec<u8> {
+    assert!(case.len() <= LONGEST);
+    [&(case.len() as u16).to_be_bytes(), case].concat()
+}
