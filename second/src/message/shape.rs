@@ -59,12 +59,10 @@ fn response(items: &[Item]) -> Option<Message> {
         return None;
     };
     // No other option has the shape of an objective, so if the last one does it is the objective.
-    let (targets, objective) = match options
-        .split_last()
-        .map(|(last, rest)| (rest, objective(last)))
-    {
-        Some((before, Some(objective))) => (before, Some(objective)),
-        _ => (options, None),
+    let objective = options.last().and_then(objective);
+    let targets = match objective {
+        Some(_) => &options[..options.len() - 1],
+        None => options,
     };
     Some(Message::Response {
         session: session.unsigned()?,
@@ -85,18 +83,17 @@ fn target(items: &[Item]) -> Option<Target> {
 
 /// A Flood's items after the kind.
 fn flood(items: &[Item]) -> Option<Message> {
-    let [session, initiator, ttl, first, more @ ..] = items else {
+    let [session, initiator, ttl, pairs @ ..] = items else {
         return None;
     };
+    if pairs.is_empty() {
+        return None;
+    }
     Some(Message::Flood {
         session: session.unsigned()?,
         initiator: address(initiator)?,
         ttl: ttl.unsigned()?,
-        pairs: [first]
-            .into_iter()
-            .chain(more)
-            .map(pair)
-            .collect::<Option<_>>()?,
+        pairs: pairs.iter().map(pair).collect::<Option<_>>()?,
     })
 }
 

@@ -1,22 +1,11 @@
 //! Numbers, addresses and locators at their limits.
 
+use super::super::encode::shortest_head;
 use super::parts::*;
 use super::term::{encoded, Term};
 
-/// Numbers on both sides of every limit of a field and of most head widths.
-const NUMBERS: &[u64] = &[
-    0,
-    6,
-    15,
-    16,
-    17,
-    255,
-    256,
-    65_536,
-    0xFFFF_FFFF,
-    1 << 32,
-    u64::MAX,
-];
+/// Numbers at the limits of fields; protocols and ports have cases of their own below.
+const NUMBERS: &[u64] = &[0, 15, 16, 255, 256, 65_536, 0xFFFF_FFFF, 1 << 32, u64::MAX];
 
 /// Every number of every sample at every limit.
 pub fn numbers() -> Vec<Vec<u8>> {
@@ -33,6 +22,39 @@ pub fn numbers() -> Vec<Vec<u8>> {
     encoded(cases)
 }
 
+/// Every number of every sample nearly said: a negative number or simple value with the same
+/// argument, and a number with the same low bits.
+pub fn near_numbers() -> Vec<Vec<u8>> {
+    let mut cases = Vec::new();
+    for sample in samples() {
+        for place in sample.places() {
+            let Term::Number(said) = *sample.at(&place) else {
+                continue;
+            };
+            cases.push(sample.with(&place, Term::Raw(shortest_head(1, said))));
+            cases.extend([1 << 8, 1 << 32].map(|more| sample.with(&place, number(said + more))));
+            if said < 24 || (32..256).contains(&said) {
+                cases.push(sample.with(&place, Term::Raw(shortest_head(7, said))));
+            }
+        }
+    }
+    encoded(cases)
+}
+
+/// Loop counts and flags at their limits, without and with a value, in every place.
+pub fn counts_and_flags() -> Vec<Vec<u8>> {
+    let mut cases = Vec::new();
+    for holder in AROUND_OBJECTIVE {
+        for objective in [ex1(), valued(text("v"))] {
+            for count in [0, 1, 23, 24, 255, 256] {
+                cases.push(holder(objective.with(&[2], number(count))));
+            }
+            cases.extend([0, 15, 16].map(|flags| holder(objective.with(&[1], number(flags)))));
+        }
+    }
+    encoded(cases)
+}
+
 /// Every nested array of every sample led by each number near those of the options.
 pub fn option_numbers() -> Vec<Vec<u8>> {
     let mut cases = Vec::new();
@@ -42,7 +64,7 @@ pub fn option_numbers() -> Vec<Vec<u8>> {
                 continue;
             }
             let first = [place, vec![0]].concat();
-            for option in (99..=107).chain([256 + 104]) {
+            for option in 99..=107 {
                 cases.push(sample.with(&first, number(option)));
             }
         }

@@ -13,7 +13,7 @@ const SELDOM: usize = 150;
 pub fn messages() -> Vec<Vec<u8>> {
     let mut random = Random::new(12);
     let mut cases = Vec::new();
-    for _ in 0..480 {
+    for _ in 0..440 {
         let message = message(&mut random).encoded();
         cases.extend(plain_and_damaged(&mut random, &message));
     }

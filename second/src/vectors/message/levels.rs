@@ -36,6 +36,17 @@ pub fn values() -> Vec<Vec<u8>> {
     encoded(values.iter().flat_map(with_value))
 }
 
+/// Faulty heads at level 8 and at level 9 in every place of a value: 6 comes after 2 to 5.
+pub fn faulty_heads() -> Vec<Vec<u8>> {
+    let mut values = Vec::new();
+    for depth in 5..=7 {
+        for fault in ["98 00", "D8 17", "9C", "BF", "82", "98"] {
+            values.push(nest(depth, fault, &AROUND[..1]));
+        }
+    }
+    encoded(values.iter().flat_map(with_value))
+}
+
 /// Two deep values side by side: a level that is left is given back.
 pub fn siblings() -> Vec<Vec<u8>> {
     let arrays = |depth| nest(depth, "00", &AROUND[..1]);

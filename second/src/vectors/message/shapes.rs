@@ -35,7 +35,6 @@ const KINDS: &[u64] = &[0, 1, 2, 3, 4, 5, 6, 7, 8, 9, 99];
 /// Items of every sort to stand where another is due.
 const OTHERS: &[&str] = &[
     "06",
-    "26",
     "44 C0000201",
     "64 61626364",
     "80",
@@ -147,16 +146,13 @@ pub fn replaced_items() -> Vec<Vec<u8>> {
     encoded(cases)
 }
 
-/// Every item of every sample in a tag and in an array, the whole too.
-pub fn wrapped_items() -> Vec<Vec<u8>> {
+/// Every item of every sample in a tag, the whole too.
+pub fn tagged_items() -> Vec<Vec<u8>> {
     let mut cases = Vec::new();
     for sample in samples() {
         for place in sample.places() {
-            let item = sample.at(&place).encoded();
-            for before in ["D9 D9F7", "81"] {
-                let wrapped = Term::Raw([unhex(before), item.clone()].concat());
-                cases.push(sample.with(&place, wrapped));
-            }
+            let tagged = [unhex("D9 D9F7"), sample.at(&place).encoded()].concat();
+            cases.push(sample.with(&place, Term::Raw(tagged)));
         }
     }
     encoded(cases)
@@ -204,6 +200,27 @@ pub fn false_claims() -> Vec<Vec<u8>> {
             for claim in [count.saturating_sub(1), count + 1, u64::MAX] {
                 let claimed = Term::Raw([shortest_head(4, claim), content.clone()].concat());
                 cases.push(sample.with(&place, claimed));
+            }
+        }
+    }
+    encoded(cases)
+}
+
+/// Every array of every sample as a map of the same items, or of twice as many.
+pub fn maps_for_arrays() -> Vec<Vec<u8>> {
+    let mut cases = Vec::new();
+    for sample in samples() {
+        for place in sample.places() {
+            let item = sample.at(&place);
+            let count = item.items().len() as u64;
+            if count > 0 && count.is_multiple_of(2) {
+                let map = [shortest_head(5, count / 2), item.content()].concat();
+                cases.push(sample.with(&place, Term::Raw(map)));
+            }
+            if count > 0 {
+                let content = [item.content(), vec![0x00; item.items().len()]].concat();
+                let map = [shortest_head(5, count), content].concat();
+                cases.push(sample.with(&place, Term::Raw(map)));
             }
         }
     }
@@ -288,6 +305,9 @@ pub fn pairs() -> Vec<Vec<u8>> {
             }
         }
     }
+    for second in ["40", "60", "F7", "C0 80", "81 80", "A1 00 00"] {
+        cases.push(flood([pair(ex1(), raw(second))]));
+    }
     for last in parts {
         cases.push(flood([array([ex1(), nowhere(), last])]));
     }
@@ -324,6 +344,26 @@ fn wait_for(item: Term) -> Term {
     wait(0).with(&[2], item)
 }
 
+/// Maps, tags and arrays in arrays that are led by kinds and by other numbers.
+const LED_BY_NUMBERS: &[&str] = &[
+    "A1 00 00",
+    "A1 01 07",
+    "A1 0A 00",
+    "A2 0A 07 00 00",
+    "C0 0A",
+    "C0 18 C8",
+    "C0 81 0A",
+    "81 81 00",
+    "81 81 0A",
+    "82 81 00 81 00",
+    "81 C0 00",
+    "81 C0 0A",
+    "81 2A",
+    "81 38 C7",
+    "81 F8 C8",
+    "81 4A 00000000000000000000",
+];
+
 /// Items that are no message's array.
 pub fn no_messages() -> Vec<Vec<u8>> {
     let mut cases: Vec<Vec<u8>> = OTHERS.iter().map(|other| unhex(other)).collect();
@@ -338,15 +378,6 @@ pub fn no_messages() -> Vec<Vec<u8>> {
             cases.push([head, bytes.clone()].concat());
         }
     }
-    cases.extend(
-        [
-            "A1 00 00",
-            "A1 01 07",
-            "81 81 00",
-            "82 81 00 81 00",
-            "81 C0 00",
-        ]
-        .map(unhex),
-    );
+    cases.extend(LED_BY_NUMBERS.iter().map(|item| unhex(item)));
     cases
 }

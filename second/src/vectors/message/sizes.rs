@@ -56,15 +56,13 @@ pub fn filled() -> Vec<Vec<u8>> {
 /// Arrays of about 24 items and of as many as 2,048 bytes hold, with a fault last and first.
 pub fn many() -> Vec<Vec<u8>> {
     let least = || pair(named("").with(&[1], number(0)), nowhere());
-    let tiny = || domain("");
+    let tiny = || bare_uri("");
     let mut cases = Vec::new();
-    for count in [18, 19, 20, 21, 22, 23, 24, 25, 190, 330] {
+    for count in [18, 19, 20, 21, 22, 23, 24, 25, 251, 252, 253, 337] {
         cases.push(flood(vec![least(); count]));
-        if count <= 190 {
-            cases.push(response(vec![tiny(); count]));
-            cases.push(response([vec![tiny(); count], vec![ex1()]].concat()));
-            cases.push(response([divert(vec![tiny(); count])]));
-        }
+        cases.push(response(vec![tiny(); count]));
+        cases.push(response([vec![tiny(); count], vec![ex1()]].concat()));
+        cases.push(response([divert(vec![tiny(); count])]));
     }
     let pairs = [pair(ex1(), number(0)), pair(named([b'n'; 65]), nowhere())];
     for odd in pairs.into_iter().chain([pair(ex1(), uri(b"\xFF"))]) {
