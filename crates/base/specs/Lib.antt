@@ -1,3 +1,4 @@
--- `Pick`: the choice by a test. `BigEndian`: numbers spelled in bytes.
+-- `Pick`: the choice by a test. `BigEndian`: numbers spelled in bytes. `Lists`: what holds of each element.
 pub mod Pick
 pub mod BigEndian
+pub mod Lists

@@ -17,7 +17,7 @@ pub struct Token {
     pub next: usize,
 }
 
-pub fn read_at(s: &[u8], at: usize) -> Token
+pub fn token_at(s: &[u8], at: usize) -> Token
     ensures { λ r. ⌜ TokenIs (now (s .entry)) at r ⌝ }
 {
     if s.len() < at {

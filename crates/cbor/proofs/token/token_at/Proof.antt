@@ -1,14 +1,14 @@
--- `cbor::token::read_at` meets its contract.
+-- `cbor::token::token_at` meets its contract.
 -- Assumes nothing.
 use native.Mathlib.Omega.{arith}
 use Rattle.cbor.specs.declared.head.HeadRead.{HeadRead}
 use Rattle.cbor.specs.Token.{tokenFrom}
 use Rattle.cbor.proofs.Tokens.{token-none, token-found, head-fits}
 use borrow.Author.Needs.{needs}
-use Rattle.cbor.proofs.token.read_at.Statement.{statement}
-use Rattle.cbor.proofs.token.read_at.Tie as tie
-use Rattle.cbor.proofs.token.read_at.Reads as reads
-use Rattle.cbor.proofs.token.read_at.Lts as lts
+use Rattle.cbor.proofs.token.token_at.Statement.{statement}
+use Rattle.cbor.proofs.token.token_at.Tie as tie
+use Rattle.cbor.proofs.token.token_at.Reads as reads
+use Rattle.cbor.proofs.token.token_at.Lts as lts
 use Rattle.cbor.proofs.head.read.Reads as read-reads
 use Rattle.cbor.proofs.token.nothing_at.Reads as nothing-at-reads
 use Rattle.cbor.proofs.token.token_of.Reads as token-of-reads
@@ -67,8 +67,8 @@ returns-3 : tie.Need-returns-3
 unfolding tokenFrom
 returns-3 c = token-found _ _ _ (HeadRead.Head _ _ _) _ (c .before .before .before .before .read .ensures) (c .before .before .head .given .1) (c .token-of .ensures)
 
-pub read-at-spec : {M : Type 1} → statement M
-read-at-spec =
+pub token-at-spec : {M : Type 1} → statement M
+token-at-spec =
     tie.close
     (tie.spec
     nothing-at-requires

@@ -1,0 +1,90 @@
+-- The rules' limits on texts: named texts are UTF-8 (`Utf8.utf8-exactly` of `cbor` says what that means), and names have at most 64 bytes.
+use Prim.Native.Nat.{ℕ, _≤_}
+use mathlib.Core.List.{List, [], _∷_, _++_}
+use mathlib.Core.Bool.{true}
+use mathlib.Core.Path.{_≡_}
+use mathlib.Core.Option.{Option, none, some}
+use lib.ListN.{length}
+use Rattle.base.specs.Lists.{Every}
+use Rattle.cbor.specs.Utf8.{isUtf8}
+use Rattle.options.specs.Objective.{mostName}
+use Rattle.grammar.specs.Cddl.{Loc, Obj, Aim, Ending, Msg}
+
+abbrev pub Utf8 : List ℕ → Type 0
+Utf8 t = isUtf8 t ≡ true
+
+abbrev pub Short : List ℕ → Type 0
+Short name = length name ≤ mostName
+
+-- the named texts: objectives' names, domain names, URIs and reasons, in the message's order
+unfoldable pub locTexts : Loc → List (List ℕ)
+locTexts (Loc.v6 address protocol port) = []
+locTexts (Loc.v4 address protocol port) = []
+locTexts (Loc.domain name protocol port) = name ∷ []
+locTexts (Loc.uri uri protocol port) = uri ∷ []
+
+unfoldable pub locsTexts : List Loc → List (List ℕ)
+locsTexts [] = []
+locsTexts (l ∷ ls) = locTexts l ++ locsTexts ls
+
+unfoldable pub tagTexts : Option Loc → List (List ℕ)
+tagTexts none = []
+tagTexts (some l) = locTexts l
+
+unfoldable pub pairTexts : Obj × Option Loc → List (List ℕ)
+pairTexts p = p .0 .name ∷ tagTexts (p .1)
+
+unfoldable pub pairsTexts : List (Obj × Option Loc) → List (List ℕ)
+pairsTexts [] = []
+pairsTexts (p ∷ ps) = pairTexts p ++ pairsTexts ps
+
+-- the names of objectives
+unfoldable pub pairsNames : List (Obj × Option Loc) → List (List ℕ)
+pairsNames [] = []
+pairsNames (p ∷ ps) = p .0 .name ∷ pairsNames ps
+
+unfoldable pub optionalNames : Option Obj → List (List ℕ)
+optionalNames none = []
+optionalNames (some obj) = obj .name ∷ []
+
+unfoldable pub aimTexts : Aim → List (List ℕ)
+aimTexts (Aim.locators ls) = locsTexts ls
+aimTexts (Aim.divert ls) = locsTexts ls
+
+unfoldable pub endingTexts : Ending → List (List ℕ)
+endingTexts Ending.accept = []
+endingTexts Ending.decline = []
+endingTexts (Ending.reason t) = t ∷ []
+
+unfoldable pub namesOf : Msg → List (List ℕ)
+namesOf Msg.noop = []
+namesOf (Msg.discovery session initiator obj) = obj .name ∷ []
+namesOf (Msg.response session initiator ttl aim obj) = optionalNames obj
+namesOf (Msg.request-negotiation session obj) = obj .name ∷ []
+namesOf (Msg.request-synchronization session obj) = obj .name ∷ []
+namesOf (Msg.negotiate session obj) = obj .name ∷ []
+namesOf (Msg.end session e) = []
+namesOf (Msg.wait session time) = []
+namesOf (Msg.synch session obj) = obj .name ∷ []
+namesOf (Msg.flood session initiator ttl ps) = pairsNames ps
+namesOf (Msg.invalid session item) = []
+
+unfoldable pub textsOf : Msg → List (List ℕ)
+textsOf Msg.noop = []
+textsOf (Msg.discovery session initiator obj) = obj .name ∷ []
+textsOf (Msg.response session initiator ttl aim obj) = aimTexts aim ++ optionalNames obj
+textsOf (Msg.request-negotiation session obj) = obj .name ∷ []
+textsOf (Msg.request-synchronization session obj) = obj .name ∷ []
+textsOf (Msg.negotiate session obj) = obj .name ∷ []
+textsOf (Msg.end session e) = endingTexts e
+textsOf (Msg.wait session time) = []
+textsOf (Msg.synch session obj) = obj .name ∷ []
+textsOf (Msg.flood session initiator ttl ps) = pairsTexts ps
+textsOf (Msg.invalid session item) = []
+
+-- 11 and 10 aren't due
+abbrev pub TextsGood : Msg → Type 0
+TextsGood msg = Every Utf8 (textsOf msg)
+
+abbrev pub NamesGood : Msg → Type 0
+NamesGood msg = Every Short (namesOf msg)

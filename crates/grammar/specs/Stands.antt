@@ -1,0 +1,74 @@
+-- What the answers of the readers describe, by the message's bytes.
+use Prim.Native.Nat.{ℕ, _+_, _-_, _≤_}
+use mathlib.Core.List.{List, _++_}
+use mathlib.Core.Path.{_≡_}
+use mathlib.Core.Option.{Option, none, some}
+use lib.ListN.{length, take, drop}
+use lib.Dec.{eqb}
+use Rattle.base.specs.Pick.{pick}
+use Rattle.cbor.specs.Tree.{Item, Items, headBytes, encode, encodes, Good, Goods}
+use Rattle.options.specs.declared.Span.{Span}
+use Rattle.options.specs.declared.locator.Locator.{Locator}
+use Rattle.options.specs.declared.locator.Locator.the-variants as L
+use Rattle.options.specs.declared.objective.Objective.{Objective}
+use Rattle.options.specs.declared.pair.Tag.{Tag}
+use Rattle.options.specs.Text.{spanOf}
+use Rattle.grammar.specs.Cddl.{uint, text, Loc, Obj}
+
+-- the item x stands in the bytes s from p to e
+pub record Stands (s : List ℕ) (p e : ℕ) (x : Item) : Type 0 where
+  pub good : Good x
+  pub is : drop p s ≡ encode x ++ drop e s
+  pub end : e ≡ p + length (encode x)
+  pub within : e ≤ length s
+
+pub record StandAll (s : List ℕ) (p e : ℕ) (xs : Items) : Type 0 where
+  pub good : Goods xs
+  pub is : drop p s ≡ encodes xs ++ drop e s
+  pub end : e ≡ p + length (encodes xs)
+  pub within : e ≤ length s
+
+-- the bytes that a span holds
+abbrev pub held : List ℕ → Span → List ℕ
+held s span = take (span .len) (drop (span .at) s)
+
+-- a URI's protocol and port, where 0 and 65,536 stand for null
+unfoldable pub orNull : ℕ → ℕ → Option ℕ
+orNull null n = pick (eqb n null) none (some n)
+
+-- the locator that an answer describes
+unfoldable pub locOf : List ℕ → Locator → Loc
+locOf s (L.V6 at protocol port) = Loc.v6 (take 16 (drop at s)) protocol port
+locOf s (L.V4 at protocol port) = Loc.v4 (take 4 (drop at s)) protocol port
+locOf s (L.Domain name protocol port) = Loc.domain (held s name) protocol port
+locOf s (L.Uri uri protocol port) = Loc.uri (held s uri) (orNull 0 protocol) (orNull 65536 port)
+
+unfoldable pub tagOf : List ℕ → Tag → Option Loc
+tagOf s Tag.Empty = none
+tagOf s (Tag.At l) = some (locOf s l)
+
+-- the item that a span holds: none where it has no bytes
+pub data ValueIs (s : List ℕ) (span : Span) : Option Item → Type 0 where
+  absent : span .len ≡ 0 → ValueIs s span none
+  present : {x : Item} → Stands s (span .at) (span .at + span .len) x → ValueIs s span (some x)
+
+-- the objective that an answer describes, read of the item from p to e: each part stands right after the one before it
+pub record ObjectiveIs (s : List ℕ) (p e : ℕ) (o : Objective) (obj : Obj) : Type 0 where
+  -- the widths of the heads of the array, the name, the flags and the count; how many items the array has
+  pub array-width : ℕ
+  pub name-width : ℕ
+  pub flags-width : ℕ
+  pub count-width : ℕ
+  pub items : ℕ
+  -- where the name's item and the flags stand
+  pub name-at : ℕ
+  pub flags-at : ℕ
+  pub opened : name-at ≡ p + length (headBytes 4 array-width items)
+  pub name-item : Stands s name-at flags-at (text name-width (obj .name))
+  pub name : o .name ≡ spanOf (flags-at - length (obj .name)) (length (obj .name))
+  pub flags-item : Stands s flags-at (o .«count_at») (uint flags-width (obj .flags))
+  pub flags : o .flags ≡ obj .flags
+  pub count-item : Stands s (o .«count_at») (o .value .at) (uint count-width (obj .count))
+  pub count : o .count ≡ obj .count
+  pub value : ValueIs s (o .value) (obj .value)
+  pub ends : e ≡ o .value .at + o .value .len

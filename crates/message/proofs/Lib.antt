@@ -1,0 +1,2 @@
+-- `Fits`: what is read lies within the message, and the turns of the loops.
+pub mod Fits

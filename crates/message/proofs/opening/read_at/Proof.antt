@@ -1,0 +1,102 @@
+-- `message::opening::read_at` meets its contract.
+-- Assumes nothing.
+use Rattle.message.proofs.Fits.{opening-is}
+use Rattle.message.specs.Opening.{openingAt}
+use Rattle.base.specs.Pick.{pick}
+use borrow.Author.Tests.{lt-ltb, le-ltb, not-true, not-false}
+use borrow.Author.Needs.{needs}
+use Rattle.message.proofs.opening.read_at.Statement.{statement}
+use Rattle.message.proofs.opening.read_at.Tie as tie
+use Rattle.message.proofs.opening.read_at.Reads as reads
+use Rattle.message.proofs.opening.read_at.Lts as lts
+use Rattle.cbor.proofs.token.token_at.Reads as token-at-reads
+use Rattle.cbor.proofs.token.up_to.Reads as up-to-reads
+use Rattle.message.proofs.opening.is_initiator.Reads as is-initiator-reads
+
+-- src/opening.rt:27:9
+token-at-requires : tie.Need-token-at-requires
+token-at-requires c κs = search needs
+
+-- src/opening.rt:28:9
+up-to-requires : tie.Need-up-to-requires
+up-to-requires c κs = search needs
+
+-- src/opening.rt:29:9
+cast-if1 : tie.Need-cast-if1
+cast-if1 c = search needs
+
+-- src/opening.rt:30:9
+returns : tie.Need-returns
+unfolding openingAt pick
+returns c =
+    opening-is _ _ _ (rw (← c .before .before .token-at .ensures .is, ← c .before .up-to .ensures, lt-ltb _ _ (c .if1 .taken)))
+
+-- src/opening.rt:32:9
+token-at-requires-2 : tie.Need-token-at-requires-2
+token-at-requires-2 c κs = search needs
+
+-- src/opening.rt:33:9
+is-initiator-requires : tie.Need-is-initiator-requires
+is-initiator-requires c κs = search needs
+
+-- src/opening.rt:34:9
+returns-2 : tie.Need-returns-2
+unfolding openingAt pick
+returns-2 c =
+    opening-is _ _ _ (rw (← c .before .before .before .before .before .token-at .ensures .is, ← c .before .before .before .before .up-to .ensures, le-ltb _ _ (c .before .before .before .if1 .left), ← c .before .before .token-at2 .ensures .is, ← c .before .is-initiator .ensures, not-true (c .before .is-initiator .result) (c .if2 .taken)))
+
+-- src/opening.rt:36:9
+token-at-requires-3 : tie.Need-token-at-requires-3
+token-at-requires-3 c κs = search needs
+
+-- src/opening.rt:37:9
+up-to-requires-2 : tie.Need-up-to-requires-2
+up-to-requires-2 c κs = search needs
+
+-- src/opening.rt:38:9
+cast-if3 : tie.Need-cast-if3
+cast-if3 c = search needs
+
+-- src/opening.rt:39:9
+returns-3 : tie.Need-returns-3
+unfolding openingAt pick
+returns-3 c =
+    opening-is _ _ _ (rw (← c .before .before .before .before .before .before .before .before .token-at .ensures .is, ← c .before .before .before .before .before .before .before .up-to .ensures, le-ltb _ _ (c .before .before .before .before .before .before .if1 .left), ← c .before .before .before .before .before .token-at2 .ensures .is, ← c .before .before .before .before .is-initiator .ensures, not-false (c .before .before .before .before .is-initiator .result) (c .before .before .before .if2 .left), ← c .before .before .token-at3 .ensures .is, ← c .before .up-to2 .ensures, lt-ltb _ _ (c .if3 .taken)))
+
+-- src/opening.rt:43:14
+sub-t12 : tie.Need-sub-t12
+sub-t12 c = search needs
+
+-- src/opening.rt:47:22
+cast-t13 : tie.Need-cast-t13
+cast-t13 c = search needs
+
+-- src/opening.rt:49:18
+cast-t14 : tie.Need-cast-t14
+cast-t14 c = search needs
+
+-- src/opening.rt:24:1
+returns-4 : tie.Need-returns-4
+unfolding openingAt pick
+returns-4 c =
+    opening-is _ _ _ (rw (← c .before .before .before .before .before .before .before .before .before .token-at .ensures .is, ← c .before .before .before .before .before .before .before .before .up-to .ensures, le-ltb _ _ (c .before .before .before .before .before .before .before .if1 .left), ← c .before .before .before .before .before .before .token-at2 .ensures .is, ← c .before .before .before .before .before .is-initiator .ensures, not-false (c .before .before .before .before .before .is-initiator .result) (c .before .before .before .before .if2 .left), ← c .before .before .before .token-at3 .ensures .is, ← c .before .before .up-to2 .ensures, le-ltb _ _ (c .before .if3 .left)))
+
+pub read-at-spec : {M : Type 1} → statement M
+read-at-spec =
+    tie.close
+    (tie.spec
+    token-at-requires
+    up-to-requires
+    cast-if1
+    returns
+    token-at-requires-2
+    is-initiator-requires
+    returns-2
+    token-at-requires-3
+    up-to-requires-2
+    cast-if3
+    returns-3
+    sub-t12
+    cast-t13
+    cast-t14
+    returns-4)

@@ -1,0 +1,40 @@
+-- `message::sequence::text_led` meets its contract.
+-- Assumes nothing.
+use Rattle.message.specs.Sequence.{textLed}
+use Rattle.base.specs.Pick.{pick}
+use borrow.Author.Tests.{eq-eqb, ne-eqb}
+use borrow.Author.Needs.{needs}
+use Rattle.message.proofs.sequence.text_led.Statement.{statement}
+use Rattle.message.proofs.sequence.text_led.Tie as tie
+use Rattle.message.proofs.sequence.text_led.Reads as reads
+use Rattle.message.proofs.sequence.text_led.Lts as lts
+use Rattle.cbor.proofs.token.items_in.Reads as items-in-reads
+use Rattle.cbor.proofs.token.token_at.Reads as token-at-reads
+
+-- src/sequence.rt:65:9
+token-at-requires : tie.Need-token-at-requires
+token-at-requires c κs = search needs
+
+-- src/sequence.rt:66:8
+items-in-requires : tie.Need-items-in-requires
+items-in-requires c κs = search needs
+
+-- src/sequence.rt:67:9
+returns : tie.Need-returns
+unfolding textLed pick
+returns c =
+    rw (← c .before .before .token-at .ensures .is, ← c .before .items-in .ensures, eq-eqb _ _ (c .if1 .taken))
+
+-- src/sequence.rt:69:9
+token-at-requires-2 : tie.Need-token-at-requires-2
+token-at-requires-2 c κs = search needs
+
+-- src/sequence.rt:62:1
+returns-2 : tie.Need-returns-2
+unfolding textLed pick
+returns-2 c =
+    rw (← c .before .before .before .before .token-at .ensures .is, ← c .before .before .before .items-in .ensures, ne-eqb _ _ (c .before .before .if1 .left), ← c .before .token-at2 .ensures .is)
+
+pub text-led-spec : {M : Type 1} → statement M
+text-led-spec =
+    tie.close (tie.spec token-at-requires items-in-requires returns token-at-requires-2 returns-2)

@@ -1,0 +1,85 @@
+-- `message::shape::wait_at` meets its contract.
+-- Assumes nothing.
+use Rattle.message.specs.Shape.{waitAt}
+use Rattle.base.specs.Pick.{pick}
+use borrow.Author.Tests.{lt-ltb, le-ltb, eq-eqb, ne-eqb}
+use borrow.Author.Needs.{needs}
+use Rattle.message.proofs.shape.wait_at.Statement.{statement}
+use Rattle.message.proofs.shape.wait_at.Tie as tie
+use Rattle.message.proofs.shape.wait_at.Reads as reads
+use Rattle.message.proofs.shape.wait_at.Lts as lts
+use Rattle.cbor.proofs.token.token_at.Reads as token-at-reads
+use Rattle.cbor.proofs.token.up_to.Reads as up-to-reads
+
+-- src/shape.rt:157:9
+returns : tie.Need-returns
+unfolding waitAt pick
+returns c =
+    rw (ne-eqb _ _ (c .if1 .taken))
+
+-- src/shape.rt:159:9
+token-at-requires : tie.Need-token-at-requires
+token-at-requires c κs = search needs
+
+-- src/shape.rt:160:9
+up-to-requires : tie.Need-up-to-requires
+up-to-requires c κs = search needs
+
+-- src/shape.rt:161:9
+cast-if2 : tie.Need-cast-if2
+cast-if2 c = search needs
+
+-- src/shape.rt:162:9
+returns-2 : tie.Need-returns-2
+unfolding waitAt pick
+returns-2 c =
+    rw (eq-eqb _ _ (c .before .before .before .if1 .left), ← c .before .before .token-at .ensures .is, ← c .before .up-to .ensures, lt-ltb _ _ (c .if2 .taken))
+
+-- src/shape.rt:164:9
+token-at-requires-2 : tie.Need-token-at-requires-2
+token-at-requires-2 c κs = search needs
+
+-- src/shape.rt:165:9
+up-to-requires-2 : tie.Need-up-to-requires-2
+up-to-requires-2 c κs = search needs
+
+-- src/shape.rt:166:9
+cast-if3 : tie.Need-cast-if3
+cast-if3 c = search needs
+
+-- src/shape.rt:167:9
+returns-3 : tie.Need-returns-3
+unfolding waitAt pick
+returns-3 c =
+    rw (eq-eqb _ _ (c .before .before .before .before .before .before .if1 .left), ← c .before .before .before .before .before .token-at .ensures .is, ← c .before .before .before .before .up-to .ensures, le-ltb _ _ (c .before .before .before .if2 .left), ← c .before .before .token-at2 .ensures .is, ← c .before .up-to2 .ensures, lt-ltb _ _ (c .if3 .taken))
+
+-- src/shape.rt:171:22
+cast-t10 : tie.Need-cast-t10
+cast-t10 c = search needs
+
+-- src/shape.rt:172:19
+cast-t11 : tie.Need-cast-t11
+cast-t11 c = search needs
+
+-- src/shape.rt:153:1
+returns-4 : tie.Need-returns-4
+unfolding waitAt pick
+returns-4 c =
+    rw (eq-eqb _ _ (c .before .before .before .before .before .before .if1 .left), ← c .before .before .before .before .before .token-at .ensures .is, ← c .before .before .before .before .up-to .ensures, le-ltb _ _ (c .before .before .before .if2 .left), ← c .before .before .token-at2 .ensures .is, ← c .before .up-to2 .ensures, le-ltb _ _ (c .if3 .left))
+
+pub wait-at-spec : {M : Type 1} → statement M
+wait-at-spec =
+    tie.close
+    (tie.spec
+    returns
+    token-at-requires
+    up-to-requires
+    cast-if2
+    returns-2
+    token-at-requires-2
+    up-to-requires-2
+    cast-if3
+    returns-3
+    cast-t10
+    cast-t11
+    returns-4)

@@ -1,0 +1,45 @@
+-- What several kinds begin with (RFC 8990, section 2.8): a session, an initiator and a ttl.
+use Prim.Native.Nat.{ℕ, _-_, _≤_}
+use mathlib.Core.List.{List}
+use mathlib.Core.Bool.{Bool, true, false}
+use mathlib.Core.Path.{_≡_}
+use lib.ListN.{length}
+use lib.Dec.{ltb, eqb}
+use Rattle.base.specs.Pick.{pick}
+use Rattle.cbor.specs.declared.token.Token.{Token}
+use Rattle.cbor.specs.Token.{tokenAt, upTo}
+use Rattle.options.specs.declared.Span.{Span}
+use Rattle.options.specs.Text.{unless, spanOf}
+use Rattle.message.specs.declared.opening.OpeningRead.{OpeningRead}
+use Rattle.message.specs.declared.opening.OpeningRead.the-variants.{Bad, Got}
+
+-- the greatest session, ttl and waiting time
+abbrev pub most : ℕ
+most = 4294967295
+
+-- where a string's bytes stand
+abbrev pub contentOf : Token → Span
+contentOf t = spanOf (t .body) (t .next - t .body)
+
+-- a byte string of 4 or 16 bytes
+unfoldable pub isInitiator : Token → Bool
+isInitiator t = pick (eqb (t .major) 2) (pick (eqb (t .arg) 4) true (eqb (t .arg) 16)) false
+
+unfoldable pub openingAt : List ℕ → ℕ → OpeningRead
+openingAt s at =
+    let i = tokenAt s at in
+    let j = tokenAt s (i .next) in
+    let t = tokenAt s (j .next) in
+    pick (ltb most (upTo most i)) (Bad (i .at))
+    (unless (isInitiator j) (Bad (j .at))
+    (pick (ltb most (upTo most t)) (Bad (t .at))
+    (Got (record { session = upTo most i; initiator = contentOf j; ttl = upTo most t }) (t .next))))
+
+-- the place after the three lies within the message
+abbrev pub OpeningOk : ℕ → OpeningRead → Type 0
+OpeningOk size (Bad place) = Unit {0}
+OpeningOk size (Got opening next) = next ≤ size
+
+pub record OpeningIs (s : List ℕ) (at : ℕ) (r : OpeningRead) : Type 0 where
+  pub is : r ≡ openingAt s at
+  pub within : OpeningOk (length s) r

@@ -1,0 +1,64 @@
+-- What `read` answers: the message that s is, or the refusal, in the order of the rules: 1, the walk's 2 to 6, 7, 8, 9, 11, 10.
+use Prim.Native.Nat.{ℕ}
+use mathlib.Core.List.{List}
+use lib.ListN.{length}
+use lib.Dec.{ltb, eqb}
+use Rattle.base.specs.Pick.{pick}
+use Rattle.cbor.specs.declared.item.ItemRead.{ItemRead}
+use Rattle.cbor.specs.Item.{firstItem}
+use Rattle.cbor.specs.Token.{tokenAt, itemsIn}
+use Rattle.options.specs.Text.{unless}
+use Rattle.message.specs.declared.shape.Shape.{Shape}
+use Rattle.message.specs.declared.Reading.{Reading}
+use Rattle.message.specs.declared.Examined.{Examined}
+use Rattle.message.specs.declared.Examined.the-variants.{Refused, Accepted}
+use Rattle.message.specs.Shape.{noopAt, discoveryAt, exchangeAt, waitAt, invalidAt, endAt}
+use Rattle.message.specs.Response.{responseAt}
+use Rattle.message.specs.Flood.{floodAt}
+
+-- house limit: how many bytes a message has at most
+abbrev pub mostBytes : ℕ
+mostBytes = 2048
+
+-- the shape of a known kind
+unfoldable pub byKind : List ℕ → ℕ → ℕ → ℕ → Shape
+byKind s kind n at =
+    pick (eqb kind 0) (noopAt n)
+    (pick (eqb kind 1) (discoveryAt s n at)
+    (pick (eqb kind 2) (responseAt s n at)
+    (pick (eqb kind 6) (endAt s n at)
+    (pick (eqb kind 7) (waitAt s n at)
+    (pick (eqb kind 9) (floodAt s n at)
+    (pick (eqb kind 99) (invalidAt s n at)
+    (exchangeAt s kind n at)))))))
+
+-- 9, then 11, then 10
+unfoldable pub judged : Shape → Examined
+judged (Shape.Bad place) = Refused 9 place
+judged (Shape.Good m bad long) = unless (eqb bad 0) (Refused 11 bad) (unless (eqb long 0) (Refused 10 long) (Accepted m))
+
+-- one whole item: 9 for what is no array or has no number first, 8 for an unknown kind, then by the kind
+unfoldable pub shaped : List ℕ → Examined
+shaped s =
+    let a = tokenAt s 0 in
+    let k = tokenAt s (a .next) in
+    pick (eqb (itemsIn a) 0) (Refused 9 0)
+    (unless (eqb (k .major) 0) (Refused 9 (k .at))
+    (pick (ltb 9 (k .arg)) (unless (eqb (k .arg) 99) (Refused 8 (k .at)) (judged (byKind s (k .arg) (a .arg) (k .next))))
+    (judged (byKind s (k .arg) (a .arg) (k .next)))))
+
+unfoldable pub framed : List ℕ → ItemRead → Examined
+framed s (ItemRead.Refused number place) = Refused number place
+framed s (ItemRead.Ends end) = unless (eqb end (length s)) (Refused 7 end) (shaped s)
+
+-- the message that s is, or the refusal with its place
+unfoldable pub examined : List ℕ → Examined
+examined s = pick (eqb (length s) 0) (Refused 1 0) (pick (ltb mostBytes (length s)) (Refused 1 0) (framed s (firstItem 0 s)))
+
+-- without the place
+unfoldable pub placeless : Examined → Reading
+placeless (Refused number place) = Reading.Refused number
+placeless (Accepted m) = Reading.Read m
+
+unfoldable pub readOf : List ℕ → Reading
+readOf s = placeless (examined s)

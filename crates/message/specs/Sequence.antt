@@ -1,0 +1,52 @@
+-- Locators and pairs, one after the other.
+use Prim.Native.Nat.{ℕ, zero, suc, _+_, _≤_}
+use mathlib.Core.List.{List}
+use mathlib.Core.Bool.{Bool, false}
+use mathlib.Core.Path.{_≡_}
+use lib.ListN.{length}
+use lib.Dec.{eqb}
+use Rattle.base.specs.Pick.{pick}
+use Rattle.cbor.specs.Token.{tokenAt, itemsIn}
+use Rattle.options.specs.declared.locator.LocatorRead.{LocatorRead}
+use Rattle.options.specs.declared.pair.PairRead.{PairRead}
+use Rattle.options.specs.Text.{firstOf}
+use Rattle.options.specs.Locator.{locatorAt}
+use Rattle.options.specs.Pair.{pairAt}
+use Rattle.message.specs.declared.sequence.LocatorsRead.{LocatorsRead}
+use Rattle.message.specs.declared.sequence.PairsRead.{PairsRead}
+
+-- an array that a text leads
+unfoldable pub textLed : List ℕ → ℕ → Bool
+textLed s at =
+    let o = tokenAt s at in
+    let x = tokenAt s (o .next) in
+    pick (eqb (itemsIn o) 0) false (eqb (x .major) 3)
+
+-- locators, n at most, up to an array that a text leads
+unfoldable pub locatorNext : (ℕ → ℕ → LocatorsRead) → ℕ → ℕ → LocatorRead → LocatorsRead
+locatorNext go at bad (LocatorRead.Bad place) = LocatorsRead.Bad place
+locatorNext go at bad (LocatorRead.Got l size bad′) = go (at + size) (firstOf bad bad′)
+
+unfoldable pub locatorsFrom : List ℕ → ℕ → ℕ → ℕ → LocatorsRead
+locatorsFrom s zero at bad = LocatorsRead.Ran at 0 bad
+locatorsFrom s (suc n) at bad =
+    let rest = locatorNext (locatorsFrom s n) at bad (locatorAt s at) in
+    pick (textLed s at) (LocatorsRead.Ran at (suc n) bad) rest
+
+-- where the locators end lies within the message, and no more items are left than there were
+abbrev pub LocatorsOk : ℕ → ℕ → LocatorsRead → Type 0
+LocatorsOk size n (LocatorsRead.Bad place) = Unit {0}
+LocatorsOk size n (LocatorsRead.Ran end left bad) = (end ≤ size) × (left ≤ n)
+
+pub record LocatorsAre (s : List ℕ) (n from : ℕ) (r : LocatorsRead) : Type 0 where
+  pub is : r ≡ locatorsFrom s n from 0
+  pub within : LocatorsOk (length s) n r
+
+-- n pairs
+unfoldable pub pairNext : (ℕ → ℕ → ℕ → PairsRead) → ℕ → ℕ → ℕ → PairRead → PairsRead
+pairNext go at bad long (PairRead.Bad place) = PairsRead.Bad place
+pairNext go at bad long (PairRead.Got o t size bad′ long′) = go (at + size) (firstOf bad bad′) (firstOf long long′)
+
+unfoldable pub pairsFrom : List ℕ → ℕ → ℕ → ℕ → ℕ → PairsRead
+pairsFrom s zero at bad long = PairsRead.Ran bad long
+pairsFrom s (suc n) at bad long = pairNext (pairsFrom s n) at bad long (pairAt s at)

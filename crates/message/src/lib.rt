@@ -1,0 +1,204 @@
+// GRASP messages (RFC 8990): reading. A message is one of eleven kinds; what it holds is told by numbers and by places in its bytes.
+ghost use mathlib.Core.Path.{_≡_};
+ghost use Rattle.message.specs.Read.{judged, shaped, examined, readOf};
+use cbor::item;
+use cbor::item::ItemRead;
+use cbor::token;
+use options::Span;
+use options::objective::Objective;
+use shape::Shape;
+
+pub mod fields;
+mod flood;
+mod opening;
+mod response;
+mod sequence;
+mod shape;
+
+// House limit: how many bytes a message has at most.
+pub const MOST_BYTES: usize = 2_048;
+
+// So many items one after the other, the first at `at`.
+pub struct Series {
+    pub at: usize,
+    pub many: u64,
+}
+
+// What a Response points at: locators, or a divert's locators.
+pub enum Targets {
+    Locators(Series),
+    Divert(Series),
+}
+
+// An objective that may be left out.
+pub enum Extra {
+    Without,
+    With(Objective),
+}
+
+// How a negotiation ends: accepted, declined, or declined with a reason.
+pub enum Outcome {
+    Accept,
+    Decline,
+    Reason(Span),
+}
+
+// A Flood has its first objective beside its pairs, and Invalid an item of 0 bytes where it has none.
+pub enum Message {
+    Noop,
+    Discovery {
+        session: u32,
+        initiator: Span,
+        objective: Objective,
+    },
+    Response {
+        session: u32,
+        initiator: Span,
+        ttl: u32,
+        targets: Targets,
+        extra: Extra,
+    },
+    RequestNegotiation {
+        session: u32,
+        objective: Objective,
+    },
+    RequestSynchronization {
+        session: u32,
+        objective: Objective,
+    },
+    Negotiate {
+        session: u32,
+        objective: Objective,
+    },
+    End {
+        session: u32,
+        outcome: Outcome,
+    },
+    Wait {
+        session: u32,
+        time: u32,
+    },
+    Synch {
+        session: u32,
+        objective: Objective,
+    },
+    Flood {
+        session: u32,
+        initiator: Span,
+        ttl: u32,
+        first: Objective,
+        pairs: Series,
+    },
+    Invalid {
+        session: u32,
+        item: Span,
+    },
+}
+
+// A message, or the number of the refusal.
+pub enum Reading {
+    Refused(u8),
+    Read(Message),
+}
+
+// A message, or the refusal with its place.
+pub enum Examined {
+    Refused { number: u8, place: usize },
+    Accepted(Message),
+}
+
+// The message that s is, or the number of the refusal.
+pub fn read(s: &[u8]) -> Reading
+    ensures { λ r. ⌜ r ≡ readOf (now (s .entry)) ⌝ }
+{
+    let answer = examine(s);
+    match answer {
+        Examined::Refused { number, place: _ } => Reading::Refused(number),
+        Examined::Accepted(message) => Reading::Read(message),
+    }
+}
+
+// 1; the walk's 2 to 6; 7; then the shape.
+pub(crate) fn examine(s: &[u8]) -> Examined
+    ensures { λ r. ⌜ r ≡ examined (now (s .entry)) ⌝ }
+{
+    if s.len() == 0 {
+        return Examined::Refused {
+            number: 1,
+            place: 0,
+        };
+    }
+    if MOST_BYTES < s.len() {
+        return Examined::Refused {
+            number: 1,
+            place: 0,
+        };
+    }
+    let whole = item::first(0, s);
+    match whole {
+        ItemRead::Refused { number, place } => Examined::Refused { number, place },
+        ItemRead::Ends(end) => {
+            if end != s.len() {
+                return Examined::Refused {
+                    number: 7,
+                    place: end,
+                };
+            }
+            examine_item(s)
+        }
+    }
+}
+
+// One whole item as a message: 9 for what is no array or has no number first, 8 for an unknown kind, then by the kind.
+fn examine_item(s: &[u8]) -> Examined
+    ensures { λ r. ⌜ r ≡ shaped (now (s .entry)) ⌝ }
+{
+    let a = token::token_at(s, 0);
+    if token::items_in(a) == 0 {
+        return Examined::Refused {
+            number: 9,
+            place: 0,
+        };
+    }
+    let k = token::token_at(s, a.next);
+    if k.major != 0 {
+        return Examined::Refused {
+            number: 9,
+            place: k.at,
+        };
+    }
+    if 9 < k.arg {
+        if k.arg != 99 {
+            return Examined::Refused {
+                number: 8,
+                place: k.at,
+            };
+        }
+        return judge(shape::by_kind(s, k.arg, a.arg, k.next));
+    }
+    judge(shape::by_kind(s, k.arg, a.arg, k.next))
+}
+
+// 9, then 11, then 10.
+fn judge(shape: Shape) -> Examined
+    ensures { λ r. ⌜ r ≡ judged shape ⌝ }
+{
+    match shape {
+        Shape::Bad(place) => Examined::Refused { number: 9, place },
+        Shape::Good { message, bad, long } => {
+            if bad != 0 {
+                return Examined::Refused {
+                    number: 11,
+                    place: bad,
+                };
+            }
+            if long != 0 {
+                return Examined::Refused {
+                    number: 10,
+                    place: long,
+                };
+            }
+            Examined::Accepted(message)
+        }
+    }
+}

@@ -1,0 +1,109 @@
+// Locators and pairs, one after the other.
+ghost use mathlib.Core.Path.{_≡_};
+ghost use Prim.Native.Nat.{_≤_};
+ghost use lib.ListN.{length};
+ghost use Rattle.message.specs.Sequence.{textLed, pairsFrom, LocatorsAre};
+use cbor::token;
+use options::locator;
+use options::locator::LocatorRead;
+use options::pair;
+use options::pair::PairRead;
+
+// The place of the first departure; or where the locators end, how many items are left, and the place of the first text
+// that isn't UTF-8, else 0.
+pub enum LocatorsRead {
+    Bad(usize),
+    Ran { end: usize, left: u64, bad: usize },
+}
+
+// The place of the first departure; or the places of the first text that isn't UTF-8 and of the first name over 64 bytes,
+// else 0.
+pub enum PairsRead {
+    Bad(usize),
+    Ran { bad: usize, long: usize },
+}
+
+// The locators from `from` on, n at most, up to an array that a text leads.
+pub(crate) fn read_locators(s: &[u8], n: u64, from: usize) -> LocatorsRead
+    requires { ⌜ from ≤ length (now s) ⌝ }
+    ensures { λ r. ⌜ LocatorsAre (now (s .entry)) n from r ⌝ }
+{
+    let mut left = n;
+    let mut at = from;
+    let mut bad: usize = 0;
+    while 0 < left {
+        if text_led(s, at) {
+            return LocatorsRead::Ran { end: at, left, bad };
+        }
+        let read = locator::read_at(s, at);
+        match read {
+            LocatorRead::Bad(place) => {
+                return LocatorsRead::Bad(place);
+            }
+            LocatorRead::Got {
+                locator: _,
+                size,
+                bad: bad2,
+            } => {
+                at = at + size;
+                bad = options::first_of(bad, bad2);
+                left = left - 1;
+            }
+        }
+    }
+    LocatorsRead::Ran {
+        end: at,
+        left: 0,
+        bad,
+    }
+}
+
+// An array that a text leads.
+fn text_led(s: &[u8], at: usize) -> bool
+    ensures { λ r. ⌜ r ≡ textLed (now (s .entry)) at ⌝ }
+{
+    let o = token::token_at(s, at);
+    if token::items_in(o) == 0 {
+        return false;
+    }
+    let x = token::token_at(s, o.next);
+    x.major == 3
+}
+
+// The n pairs from `from` on, after such places.
+pub(crate) fn read_pairs(
+    s: &[u8],
+    n: u64,
+    from: usize,
+    first_bad: usize,
+    first_long: usize,
+) -> PairsRead
+    requires { ⌜ from ≤ length (now s) ⌝ }
+    ensures { λ r. ⌜ r ≡ pairsFrom (now (s .entry)) n from «first_bad» «first_long» ⌝ }
+{
+    let mut left = n;
+    let mut at = from;
+    let mut bad = first_bad;
+    let mut long = first_long;
+    while 0 < left {
+        let read = pair::read_at(s, at);
+        match read {
+            PairRead::Bad(place) => {
+                return PairsRead::Bad(place);
+            }
+            PairRead::Got {
+                objective: _,
+                tag: _,
+                size,
+                bad: bad2,
+                long: long2,
+            } => {
+                at = at + size;
+                bad = options::first_of(bad, bad2);
+                long = options::first_of(long, long2);
+                left = left - 1;
+            }
+        }
+    }
+    PairsRead::Ran { bad, long }
+}

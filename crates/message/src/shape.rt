@@ -1,0 +1,282 @@
+// The shapes of the kinds (RFC 8990, section 2.8), each judged by its number of items, then by its items from left to right.
+ghost use mathlib.Core.Path.{_≡_};
+ghost use Rattle.message.specs.Shape.{noopAt, discoveryAt, exchangeOf, exchangeAt, waitAt, invalidAt, optionAt, endAt};
+ghost use Rattle.message.specs.Read.{byKind};
+use crate::Message;
+use crate::Outcome;
+use crate::flood;
+use crate::opening;
+use crate::opening::MOST_NUMBER;
+use crate::response;
+use cbor::token;
+use options::Span;
+use options::objective;
+use options::objective::Objective;
+use options::objective::ObjectiveRead;
+
+// The place of the first departure from the shape; or a message, with the places of its first text that isn't UTF-8 and of
+// its first name over 64 bytes, else 0.
+pub enum Shape {
+    Bad(usize),
+    Good {
+        message: Message,
+        bad: usize,
+        long: usize,
+    },
+}
+
+// A message of a known kind, of n items in all, the first after the kind at `at`.
+pub(crate) fn by_kind(s: &[u8], kind: u64, n: u64, at: usize) -> Shape
+    ensures { λ r. ⌜ r ≡ byKind (now (s .entry)) kind n at ⌝ }
+{
+    if kind == 0 {
+        return noop_at(n);
+    }
+    if kind == 1 {
+        return discovery_at(s, n, at);
+    }
+    if kind == 2 {
+        return response::read_at(s, n, at);
+    }
+    if kind == 6 {
+        return end_at(s, n, at);
+    }
+    if kind == 7 {
+        return wait_at(s, n, at);
+    }
+    if kind == 9 {
+        return flood::read_at(s, n, at);
+    }
+    if kind == 99 {
+        return invalid_at(s, n, at);
+    }
+    exchange_at(s, kind, n, at)
+}
+
+fn noop_at(n: u64) -> Shape
+    ensures { λ r. ⌜ r ≡ noopAt n ⌝ }
+{
+    if n != 1 {
+        return Shape::Bad(0);
+    }
+    Shape::Good {
+        message: Message::Noop,
+        bad: 0,
+        long: 0,
+    }
+}
+
+// Session, initiator, objective.
+fn discovery_at(s: &[u8], n: u64, at: usize) -> Shape
+    ensures { λ r. ⌜ r ≡ discoveryAt (now (s .entry)) n at ⌝ }
+{
+    if n != 4 {
+        return Shape::Bad(0);
+    }
+    let i = token::token_at(s, at);
+    let session = token::up_to(MOST_NUMBER, i);
+    if (MOST_NUMBER as u64) < session {
+        return Shape::Bad(i.at);
+    }
+    let j = token::token_at(s, i.next);
+    if !opening::is_initiator(j) {
+        return Shape::Bad(j.at);
+    }
+    let initiator = Span {
+        at: j.body,
+        len: j.next - j.body,
+    };
+    let read = objective::read_at(s, j.next);
+    match read {
+        ObjectiveRead::Bad(place) => Shape::Bad(place),
+        ObjectiveRead::Got {
+            objective,
+            size: _,
+            bad,
+            long,
+        } => Shape::Good {
+            message: Message::Discovery {
+                session: session as u32,
+                initiator,
+                objective,
+            },
+            bad,
+            long,
+        },
+    }
+}
+
+// Kinds 3, 4, 5 and 8: session, objective.
+fn exchange_at(s: &[u8], kind: u64, n: u64, at: usize) -> Shape
+    ensures { λ r. ⌜ r ≡ exchangeAt (now (s .entry)) kind n at ⌝ }
+{
+    if n != 3 {
+        return Shape::Bad(0);
+    }
+    let i = token::token_at(s, at);
+    let session = token::up_to(MOST_NUMBER, i);
+    if (MOST_NUMBER as u64) < session {
+        return Shape::Bad(i.at);
+    }
+    let read = objective::read_at(s, i.next);
+    match read {
+        ObjectiveRead::Bad(place) => Shape::Bad(place),
+        ObjectiveRead::Got {
+            objective,
+            size: _,
+            bad,
+            long,
+        } => Shape::Good {
+            message: exchange_of(kind, session as u32, objective),
+            bad,
+            long,
+        },
+    }
+}
+
+fn exchange_of(kind: u64, session: u32, objective: Objective) -> Message
+    ensures { λ r. ⌜ r ≡ exchangeOf kind session objective ⌝ }
+{
+    if kind == 3 {
+        return Message::RequestNegotiation { session, objective };
+    }
+    if kind == 4 {
+        return Message::RequestSynchronization { session, objective };
+    }
+    if kind == 5 {
+        return Message::Negotiate { session, objective };
+    }
+    Message::Synch { session, objective }
+}
+
+// Session, waiting time.
+fn wait_at(s: &[u8], n: u64, at: usize) -> Shape
+    ensures { λ r. ⌜ r ≡ waitAt (now (s .entry)) n at ⌝ }
+{
+    if n != 3 {
+        return Shape::Bad(0);
+    }
+    let i = token::token_at(s, at);
+    let session = token::up_to(MOST_NUMBER, i);
+    if (MOST_NUMBER as u64) < session {
+        return Shape::Bad(i.at);
+    }
+    let t = token::token_at(s, i.next);
+    let time = token::up_to(MOST_NUMBER, t);
+    if (MOST_NUMBER as u64) < time {
+        return Shape::Bad(t.at);
+    }
+    Shape::Good {
+        message: Message::Wait {
+            session: session as u32,
+            time: time as u32,
+        },
+        bad: 0,
+        long: 0,
+    }
+}
+
+// Session, an optional item of any sort.
+fn invalid_at(s: &[u8], n: u64, at: usize) -> Shape
+    ensures { λ r. ⌜ r ≡ invalidAt (now (s .entry)) n at ⌝ }
+{
+    if n < 2 {
+        return Shape::Bad(0);
+    }
+    if 3 < n {
+        return Shape::Bad(0);
+    }
+    let i = token::token_at(s, at);
+    let session = token::up_to(MOST_NUMBER, i);
+    if (MOST_NUMBER as u64) < session {
+        return Shape::Bad(i.at);
+    }
+    let end = i.next;
+    if n == 2 {
+        return Shape::Good {
+            message: Message::Invalid {
+                session: session as u32,
+                item: Span { at: end, len: 0 },
+            },
+            bad: 0,
+            long: 0,
+        };
+    }
+    let len = token::size_at(s, end);
+    if len == 0 {
+        return Shape::Bad(end);
+    }
+    Shape::Good {
+        message: Message::Invalid {
+            session: session as u32,
+            item: Span { at: end, len },
+        },
+        bad: 0,
+        long: 0,
+    }
+}
+
+// Session, accept or decline.
+fn end_at(s: &[u8], n: u64, at: usize) -> Shape
+    ensures { λ r. ⌜ r ≡ endAt (now (s .entry)) n at ⌝ }
+{
+    if n != 3 {
+        return Shape::Bad(0);
+    }
+    let i = token::token_at(s, at);
+    let session = token::up_to(MOST_NUMBER, i);
+    if (MOST_NUMBER as u64) < session {
+        return Shape::Bad(i.at);
+    }
+    option_at(s, session as u32, i.next)
+}
+
+// An accept or a decline at `at`, by its first item, its number of items, and its reason.
+fn option_at(s: &[u8], session: u32, at: usize) -> Shape
+    ensures { λ r. ⌜ r ≡ optionAt (now (s .entry)) session at ⌝ }
+{
+    let o = token::token_at(s, at);
+    if token::items_in(o) == 0 {
+        return Shape::Bad(o.at);
+    }
+    let x = token::token_at(s, o.next);
+    let lead = token::up_to(102, x);
+    if lead < 101 {
+        return Shape::Bad(x.at);
+    }
+    if 102 < lead {
+        return Shape::Bad(x.at);
+    }
+    if o.arg == 1 {
+        if lead == 101 {
+            return ended(session, Outcome::Accept, 0);
+        }
+        return ended(session, Outcome::Decline, 0);
+    }
+    if lead == 101 {
+        return Shape::Bad(o.at);
+    }
+    if o.arg != 2 {
+        return Shape::Bad(o.at);
+    }
+    let t = token::token_at(s, x.next);
+    if t.major != 3 {
+        return Shape::Bad(t.at);
+    }
+    let reason = Span {
+        at: t.body,
+        len: t.next - t.body,
+    };
+    let bad = options::bad_text(s, t, t.at);
+    ended(session, Outcome::Reason(reason), bad)
+}
+
+fn ended(session: u32, outcome: Outcome, bad: usize) -> Shape
+    ensures { λ r. ⌜ r ≡ Shape.Good (Message.End session outcome) bad 0 ⌝ }
+{
+    Shape::Good {
+        message: Message::End { session, outcome },
+        bad,
+        long: 0,
+    }
+}

@@ -1,0 +1,2 @@
+-- `Fits`: what is read lies within the part.
+pub mod Fits

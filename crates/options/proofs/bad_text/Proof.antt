@@ -1,0 +1,29 @@
+-- `options::bad_text` meets its contract.
+-- Assumes nothing.
+use Rattle.base.specs.Pick.{pick}
+use Rattle.options.specs.Text.{badText}
+use borrow.Author.Needs.{needs}
+use Rattle.options.proofs.bad_text.Statement.{statement}
+use Rattle.options.proofs.bad_text.Tie as tie
+use Rattle.options.proofs.bad_text.Reads as reads
+use Rattle.options.proofs.bad_text.Lts as lts
+use Rattle.cbor.proofs.utf8.is_utf8_in.Reads as is-utf8-in-reads
+
+-- src/lib.rt:23:8
+is-utf8-in-requires : tie.Need-is-utf8-in-requires
+is-utf8-in-requires c κs = search needs
+
+-- src/lib.rt:24:9
+returns : tie.Need-returns
+unfolding badText pick
+returns c =
+    rw (← c .before .is-utf8-in .ensures, c .if1 .taken)
+
+-- src/lib.rt:20:1
+returns-2 : tie.Need-returns-2
+unfolding badText pick
+returns-2 c =
+    rw (← c .before .is-utf8-in .ensures, c .if1 .left)
+
+pub bad-text-spec : {M : Type 1} → statement M
+bad-text-spec = tie.close (tie.spec is-utf8-in-requires returns returns-2)

@@ -1,0 +1,41 @@
+-- `options::locator::read_at` meets its contract.
+-- Assumes nothing.
+use mathlib.Core.Path.{_∙_, ap}
+use Rattle.base.proofs.Parts.{rest-is}
+use Rattle.options.proofs.Fits.{locator-past}
+use Rattle.options.specs.Locator.{locatorIn}
+use borrow.Author.Needs.{needs}
+use Rattle.options.proofs.locator.read_at.Statement.{statement}
+use Rattle.options.proofs.locator.read_at.Tie as tie
+use Rattle.options.proofs.locator.read_at.Reads as reads
+use Rattle.options.proofs.locator.read_at.Lts as lts
+use Rattle.options.proofs.locator.read_in.Reads as read-in-reads
+
+-- src/locator.rt:35:9
+returns : tie.Need-returns
+returns c = locator-past _ _ (c .if1 .taken)
+
+-- src/locator.rt:37:13
+sub-read-in : tie.Need-sub-read-in
+sub-read-in c = search needs
+
+-- src/locator.rt:37:13
+part-read-in-start : tie.Need-part-read-in-start
+part-read-in-start c = search needs
+
+-- src/locator.rt:37:13
+part-read-in-end : tie.Need-part-read-in-end
+part-read-in-end c = search needs
+
+-- src/locator.rt:37:5
+read-in-requires : tie.Need-read-in-requires
+read-in-requires c κs = search needs
+
+-- src/locator.rt:31:1
+returns-2 : tie.Need-returns-2
+returns-2 c = c .read-in .ensures ∙ ap (locatorIn (c .before .before .before .before .args .at)) (rest-is (c .before .before .before .before .args .at) (c .before .before .before .before .args .s .now))
+
+pub read-at-spec : {M : Type 1} → statement M
+read-at-spec =
+    tie.close
+    (tie.spec returns sub-read-in part-read-in-start part-read-in-end read-in-requires returns-2)

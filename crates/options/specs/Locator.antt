@@ -1,0 +1,69 @@
+-- Locator options (RFC 8990, section 2.9.5): what is read of the bytes s that begin at the own head and stand at `base` of the message. An array
+-- is judged by its first item, then by its number of items, then by its other items from left to right; `Bad` has the place of the first departure.
+use Prim.Native.Nat.{ℕ, _+_, _-_}
+use mathlib.Core.List.{List}
+use mathlib.Core.Bool.{Bool, false}
+use lib.ListN.{drop}
+use lib.Dec.{ltb, leb, eqb}
+use Rattle.base.specs.Pick.{pick}
+use Rattle.cbor.specs.declared.token.Token.{Token}
+use Rattle.cbor.specs.Token.{tokenAt, itemsIn, upTo}
+use Rattle.options.specs.declared.locator.Locator.{Locator}
+use Rattle.options.specs.declared.locator.Locator.the-variants as L
+use Rattle.options.specs.declared.locator.LocatorRead.{LocatorRead}
+use Rattle.options.specs.declared.locator.LocatorRead.the-variants as LR
+use Rattle.options.specs.Text.{unless, spanOf, badText}
+
+-- null: simple value 22, which has a head of one byte (a float has a longer one)
+unfoldable pub isNull : Token → Bool
+isNull w = pick (eqb (w .major) 7) (pick (eqb (w .arg) 22) (pick (ltb (w .at) (w .body)) (eqb (w .body - w .at) 1) false) false) false
+
+-- 16 bytes for 103, 4 for 104, a text for 105 and 106
+unfoldable pub addressFits : ℕ → Token → Bool
+addressFits kind w = pick (leb 105 kind) (eqb (w .major) 3) (pick (eqb (w .major) 2) (pick (eqb kind 103) (eqb (w .arg) 16) (eqb (w .arg) 4)) false)
+
+-- 6 or 17, and 0 for null, which 106 may have; 255 for all else
+unfoldable pub protocolOf : ℕ → Token → ℕ
+protocolOf kind w =
+    pick (eqb (w .major) 0)
+    (pick (eqb (w .arg) 6) 6 (pick (eqb (w .arg) 17) 17 255))
+    (pick (eqb kind 106) (pick (isNull w) 0 255) 255)
+
+-- up to 65,535, and 65,536 for null, which 106 may have; 65,537 for all else
+unfoldable pub portOf : ℕ → Token → ℕ
+portOf kind w =
+    pick (eqb (w .major) 0)
+    (pick (leb (w .arg) 65535) (w .arg) 65537)
+    (pick (eqb kind 106) (pick (isNull w) 65536 65537) 65537)
+
+unfoldable pub locatorOf : ℕ → ℕ → ℕ → ℕ → ℕ → Locator
+locatorOf kind at len protocol port =
+    pick (eqb kind 103) (L.V6 at protocol port)
+    (pick (eqb kind 104) (L.V4 at protocol port)
+    (pick (eqb kind 105) (L.Domain (spanOf at len) protocol port)
+    (L.Uri (spanOf at len) protocol port)))
+
+unfoldable pub textOf : List ℕ → ℕ → Token → ℕ → ℕ
+textOf s kind w place = pick (ltb kind 105) 0 (badText s w place)
+
+-- a locator: kind, address, protocol and port
+unfoldable pub locatorIn : ℕ → List ℕ → LocatorRead
+locatorIn base s =
+    let a = tokenAt s 0 in
+    let k = tokenAt s (a .next) in
+    let b = tokenAt s (k .next) in
+    let p = tokenAt s (b .next) in
+    let q = tokenAt s (p .next) in
+    let kind = upTo 106 k in
+    pick (eqb (itemsIn a) 0) (LR.Bad base)
+    (pick (ltb kind 103) (LR.Bad (base + k .at))
+    (pick (ltb 106 kind) (LR.Bad (base + k .at))
+    (unless (eqb (a .arg) 4) (LR.Bad base)
+    (unless (addressFits kind b) (LR.Bad (base + b .at))
+    (pick (eqb (protocolOf kind p) 255) (LR.Bad (base + p .at))
+    (pick (ltb 65536 (portOf kind q)) (LR.Bad (base + q .at))
+    (LR.Got (locatorOf kind (base + b .body) (b .next - b .body) (protocolOf kind p) (portOf kind q)) (q .next) (textOf s kind b (base + b .at)))))))))
+
+-- the locator at a place of the message s
+abbrev pub locatorAt : List ℕ → ℕ → LocatorRead
+locatorAt s at = locatorIn at (drop at s)

@@ -1,0 +1,54 @@
+-- Objective options (RFC 8990, section 2.10.1): what is read of the bytes s that begin at the own head and stand at `base` of the message.
+use Prim.Native.Nat.{ℕ, _+_, _-_}
+use mathlib.Core.List.{List}
+use lib.ListN.{drop}
+use lib.Dec.{ltb, eqb}
+use Rattle.base.specs.Pick.{pick}
+use Rattle.cbor.specs.declared.token.Token.{Token}
+use Rattle.cbor.specs.Token.{tokenAt, sizeAt, itemsIn, upTo}
+use Rattle.options.specs.declared.objective.Objective.{Objective}
+use Rattle.options.specs.declared.objective.ObjectiveRead.{ObjectiveRead}
+use Rattle.options.specs.declared.objective.ObjectiveRead.the-variants as OR
+use Rattle.options.specs.Text.{unless, spanOf, badText}
+
+-- house limit: how many bytes an objective's name has at most
+abbrev pub mostName : ℕ
+mostName = 64
+
+-- `place` where a name is longer than that, else 0
+unfoldable pub longName : Token → ℕ → ℕ
+longName w place = pick (ltb mostName (w .arg)) place 0
+
+-- an objective: name, flags, count and an optional value
+unfoldable pub objectiveIn : ℕ → List ℕ → ObjectiveRead
+objectiveIn base s =
+    let a = tokenAt s 0 in
+    let n = tokenAt s (a .next) in
+    let f = tokenAt s (n .next) in
+    let c = tokenAt s (f .next) in
+    let len = sizeAt s (c .next) in
+    let bad = badText s n (base + n .at) in
+    let long = longName n (base + n .at) in
+    pick (eqb (itemsIn a) 0) (OR.Bad base)
+    (unless (eqb (n .major) 3) (OR.Bad (base + n .at))
+    (pick (ltb (a .arg) 3) (OR.Bad base)
+    (pick (ltb 4 (a .arg)) (OR.Bad base)
+    (pick (ltb 15 (upTo 15 f)) (OR.Bad (base + f .at))
+    (pick (ltb 255 (upTo 255 c)) (OR.Bad (base + c .at))
+    (pick (eqb (a .arg) 3) (OR.Got (objectiveOf base n f c 0) (c .next) bad long)
+    (pick (eqb len 0) (OR.Bad (base + c .next))
+    (OR.Got (objectiveOf base n f c len) (c .next + len) bad long))))))))
+  where
+    objectiveOf : ℕ → Token → Token → Token → ℕ → Objective
+    objectiveOf base n f c len =
+        record {
+          name = spanOf (base + n .body) (n .next - n .body);
+          flags = upTo 15 f;
+          count = upTo 255 c;
+          «count_at» = base + c .at;
+          value = spanOf (base + c .next) len;
+        }
+
+-- the objective at a place of the message s
+abbrev pub objectiveAt : List ℕ → ℕ → ObjectiveRead
+objectiveAt s at = objectiveIn at (drop at s)

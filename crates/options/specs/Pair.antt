@@ -1,0 +1,47 @@
+-- The pairs of a Flood (RFC 8990, section 2.8.11): what is read of the bytes s that begin at the own head and stand at `base` of the message.
+use Prim.Native.Nat.{ℕ, _+_}
+use mathlib.Core.List.{List}
+use mathlib.Core.Bool.{Bool, false}
+use lib.ListN.{drop}
+use lib.Dec.{eqb}
+use Rattle.base.specs.Pick.{pick}
+use Rattle.cbor.specs.declared.token.Token.{Token}
+use Rattle.cbor.specs.Token.{tokenAt, itemsIn}
+use Rattle.options.specs.declared.locator.LocatorRead.{LocatorRead}
+use Rattle.options.specs.declared.locator.LocatorRead.the-variants as LR
+use Rattle.options.specs.declared.objective.Objective.{Objective}
+use Rattle.options.specs.declared.objective.ObjectiveRead.{ObjectiveRead}
+use Rattle.options.specs.declared.objective.ObjectiveRead.the-variants as OR
+use Rattle.options.specs.declared.pair.Tag.{Tag}
+use Rattle.options.specs.declared.pair.PairRead.{PairRead}
+use Rattle.options.specs.declared.pair.PairRead.the-variants as PR
+use Rattle.options.specs.Text.{unless, firstOf}
+use Rattle.options.specs.Locator.{locatorIn}
+use Rattle.options.specs.Objective.{objectiveIn}
+
+-- an empty array
+unfoldable pub isEmpty : Token → Bool
+isEmpty w = pick (eqb (w .major) 4) (eqb (w .arg) 0) false
+
+-- a pair: an objective, and a locator or an empty array
+unfoldable pub pairTagged : ℕ → Objective → ℕ → ℕ → LocatorRead → PairRead
+pairTagged at o bad long (LR.Bad place) = PR.Bad place
+pairTagged at o bad long (LR.Got l size bad′) = PR.Got o (Tag.At l) (at + size) (firstOf bad bad′) long
+
+unfoldable pub pairTail : ℕ → List ℕ → ℕ → Objective → ℕ → ℕ → PairRead
+pairTail base s at o bad long =
+    let w = tokenAt s at in
+    pick (isEmpty w) (PR.Got o Tag.Empty (w .next) bad long) (pairTagged at o bad long (locatorIn (base + at) (drop at s)))
+
+unfoldable pub pairLed : ℕ → List ℕ → ℕ → ℕ → ObjectiveRead → PairRead
+pairLed base s n at (OR.Bad place) = PR.Bad place
+pairLed base s n at (OR.Got o size bad long) = unless (eqb n 2) (PR.Bad base) (pairTail base s (at + size) o bad long)
+
+unfoldable pub pairIn : ℕ → List ℕ → PairRead
+pairIn base s =
+    let a = tokenAt s 0 in
+    pick (eqb (itemsIn a) 0) (PR.Bad base) (pairLed base s (a .arg) (a .next) (objectiveIn (base + a .next) (drop (a .next) s)))
+
+-- the pair at a place of the message s
+abbrev pub pairAt : List ℕ → ℕ → PairRead
+pairAt s at = pairIn at (drop at s)

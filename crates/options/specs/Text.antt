@@ -1,0 +1,29 @@
+-- Named texts, and places.
+use Prim.Native.Nat.{ℕ, _-_}
+use mathlib.Core.List.{List}
+use mathlib.Core.Bool.{Bool}
+use lib.ListN.{take, drop}
+use lib.Dec.{eqb}
+use Rattle.base.specs.Pick.{pick}
+use Rattle.cbor.specs.declared.token.Token.{Token}
+use Rattle.cbor.specs.Utf8.{isUtf8}
+use Rattle.options.specs.declared.Span.{Span}
+
+-- the rest where a test holds
+abbrev pub unless : {A : Type 0} → Bool → A → A → A
+unless test else rest = pick test rest else
+
+abbrev pub spanOf : ℕ → ℕ → Span
+spanOf at len = record { at = at; len = len }
+
+-- the bytes of a string
+abbrev pub contentIn : List ℕ → Token → List ℕ
+contentIn s t = take (t .next - t .body) (drop (t .body) s)
+
+-- `place` where a text isn't UTF-8, else 0
+unfoldable pub badText : List ℕ → Token → ℕ → ℕ
+badText s t place = pick (isUtf8 (contentIn s t)) 0 place
+
+-- the first of two places, where 0 is none
+unfoldable pub firstOf : ℕ → ℕ → ℕ
+firstOf a b = pick (eqb a 0) b a

@@ -1,0 +1,187 @@
+// Locator options (RFC 8990, section 2.9.5).
+ghost use mathlib.Core.Path.{_≡_};
+ghost use Prim.Native.Nat.{_+_, _<_, _^_};
+ghost use lib.ListN.{length};
+ghost use Rattle.options.specs.Locator.{isNull, addressFits, protocolOf, portOf, locatorOf, textOf, locatorIn, locatorAt};
+use crate::Span;
+use cbor::token;
+use cbor::token::Token;
+
+// Where a locator's address, domain name or URI stands in the message, its protocol and its port; a null protocol is 0, a
+// null port 65,536 (a URI's only).
+pub enum Locator {
+    V6 { at: usize, protocol: u8, port: u32 },
+    V4 { at: usize, protocol: u8, port: u32 },
+    Domain { name: Span, protocol: u8, port: u32 },
+    Uri { uri: Span, protocol: u8, port: u32 },
+}
+
+// The place of the first departure from the shape; or a locator of `size` bytes, with the place `bad` of its text where that
+// isn't UTF-8, else 0.
+pub enum LocatorRead {
+    Bad(usize),
+    Got {
+        locator: Locator,
+        size: usize,
+        bad: usize,
+    },
+}
+
+// The locator at `at` of the message s.
+pub fn read_at(s: &[u8], at: usize) -> LocatorRead
+    ensures { λ r. ⌜ r ≡ locatorAt (now (s .entry)) at ⌝ }
+{
+    if s.len() < at {
+        return LocatorRead::Bad(at);
+    }
+    read_in(&s[at..], at)
+}
+
+// The locator at the start of s, which stands at `base` of the message.
+pub(crate) fn read_in(s: &[u8], base: usize) -> LocatorRead
+    requires { ⌜ base + length (now s) < 2 ^ 63 ⌝ }
+    ensures { λ r. ⌜ r ≡ locatorIn base (now (s .entry)) ⌝ }
+{
+    let a = token::token_at(s, 0);
+    if token::items_in(a) == 0 {
+        return LocatorRead::Bad(base);
+    }
+    let k = token::token_at(s, a.next);
+    let kind = token::up_to(106, k);
+    if kind < 103 {
+        return LocatorRead::Bad(base + k.at);
+    }
+    if 106 < kind {
+        return LocatorRead::Bad(base + k.at);
+    }
+    if a.arg != 4 {
+        return LocatorRead::Bad(base);
+    }
+    let b = token::token_at(s, k.next);
+    if !address_fits(kind, b) {
+        return LocatorRead::Bad(base + b.at);
+    }
+    let p = token::token_at(s, b.next);
+    let protocol = protocol_of(kind, p);
+    if protocol == 255 {
+        return LocatorRead::Bad(base + p.at);
+    }
+    let q = token::token_at(s, p.next);
+    let port = port_of(kind, q);
+    if 65536 < port {
+        return LocatorRead::Bad(base + q.at);
+    }
+    let locator = locator_of(kind, base + b.body, b.next - b.body, protocol, port);
+    let bad = text_of(s, kind, b, base + b.at);
+    LocatorRead::Got {
+        locator,
+        size: q.next,
+        bad,
+    }
+}
+
+// 16 bytes for 103, 4 for 104, a text for 105 and 106.
+fn address_fits(kind: u64, t: Token) -> bool
+    ensures { λ r. ⌜ r ≡ addressFits kind t ⌝ }
+{
+    if 105 <= kind {
+        return t.major == 3;
+    }
+    if t.major == 2 {
+        if kind == 103 {
+            return t.arg == 16;
+        }
+        return t.arg == 4;
+    }
+    false
+}
+
+// 6 or 17, or 0 for the null that a URI's locator may have; 255 for what is no protocol.
+fn protocol_of(kind: u64, t: Token) -> u8
+    ensures { λ r. ⌜ r ≡ protocolOf kind t ⌝ }
+{
+    if t.major == 0 {
+        if t.arg == 6 {
+            return 6;
+        }
+        if t.arg == 17 {
+            return 17;
+        }
+        return 255;
+    }
+    if kind == 106 {
+        if is_null(t) {
+            return 0;
+        }
+        return 255;
+    }
+    255
+}
+
+// Up to 65,535, or 65,536 for the null that a URI's locator may have; 65,537 for what is no port.
+fn port_of(kind: u64, t: Token) -> u32
+    ensures { λ r. ⌜ r ≡ portOf kind t ⌝ }
+{
+    if t.major == 0 {
+        if t.arg <= 65535 {
+            return t.arg as u32;
+        }
+        return 65537;
+    }
+    if kind == 106 {
+        if is_null(t) {
+            return 65536;
+        }
+        return 65537;
+    }
+    65537
+}
+
+// The simple value 22, whose head has one byte (a float's is longer).
+fn is_null(t: Token) -> bool
+    ensures { λ r. ⌜ r ≡ isNull t ⌝ }
+{
+    if t.major == 7 {
+        if t.arg == 22 {
+            if t.at < t.body {
+                return t.body - t.at == 1;
+            }
+            return false;
+        }
+        return false;
+    }
+    false
+}
+
+fn locator_of(kind: u64, at: usize, len: usize, protocol: u8, port: u32) -> Locator
+    ensures { λ r. ⌜ r ≡ locatorOf kind at len protocol port ⌝ }
+{
+    if kind == 103 {
+        return Locator::V6 { at, protocol, port };
+    }
+    if kind == 104 {
+        return Locator::V4 { at, protocol, port };
+    }
+    if kind == 105 {
+        return Locator::Domain {
+            name: Span { at, len },
+            protocol,
+            port,
+        };
+    }
+    Locator::Uri {
+        uri: Span { at, len },
+        protocol,
+        port,
+    }
+}
+
+// The place of a domain name or URI where it isn't UTF-8, else 0.
+fn text_of(s: &[u8], kind: u64, t: Token, place: usize) -> usize
+    ensures { λ r. ⌜ r ≡ textOf (now (s .entry)) kind t place ⌝ }
+{
+    if kind < 105 {
+        return 0;
+    }
+    crate::bad_text(s, t, place)
+}

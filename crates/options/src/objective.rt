@@ -1,0 +1,128 @@
+// Objective options (RFC 8990, section 2.10.1).
+ghost use mathlib.Core.Path.{_≡_};
+ghost use Prim.Native.Nat.{_+_, _<_, _^_};
+ghost use lib.ListN.{length};
+ghost use Rattle.options.specs.Objective.{longName, objectiveIn, objectiveAt};
+use crate::Span;
+use cbor::token;
+use cbor::token::Token;
+
+// House limit: how many bytes an objective's name has at most.
+pub const MOST_NAME: u64 = 64;
+
+// The head of the loop count begins at `count_at` and ends at `value.at`. A value of 0 bytes is none.
+pub struct Objective {
+    pub name: Span,
+    pub flags: u8,
+    pub count: u8,
+    pub count_at: usize,
+    pub value: Span,
+}
+
+// The place of the first departure from the shape; or an objective of `size` bytes, with the place `bad` of its name where
+// that isn't UTF-8, and `long` where it has over 64 bytes, else 0.
+pub enum ObjectiveRead {
+    Bad(usize),
+    Got {
+        objective: Objective,
+        size: usize,
+        bad: usize,
+        long: usize,
+    },
+}
+
+// The objective at `at` of the message s.
+pub fn read_at(s: &[u8], at: usize) -> ObjectiveRead
+    ensures { λ r. ⌜ r ≡ objectiveAt (now (s .entry)) at ⌝ }
+{
+    if s.len() < at {
+        return ObjectiveRead::Bad(at);
+    }
+    read_in(&s[at..], at)
+}
+
+// The objective at the start of s, which stands at `base` of the message.
+pub(crate) fn read_in(s: &[u8], base: usize) -> ObjectiveRead
+    requires { ⌜ base + length (now s) < 2 ^ 63 ⌝ }
+    ensures { λ r. ⌜ r ≡ objectiveIn base (now (s .entry)) ⌝ }
+{
+    let a = token::token_at(s, 0);
+    if token::items_in(a) == 0 {
+        return ObjectiveRead::Bad(base);
+    }
+    let n = token::token_at(s, a.next);
+    if n.major != 3 {
+        return ObjectiveRead::Bad(base + n.at);
+    }
+    if a.arg < 3 {
+        return ObjectiveRead::Bad(base);
+    }
+    if 4 < a.arg {
+        return ObjectiveRead::Bad(base);
+    }
+    let f = token::token_at(s, n.next);
+    let flags = token::up_to(15, f);
+    if 15 < flags {
+        return ObjectiveRead::Bad(base + f.at);
+    }
+    let c = token::token_at(s, f.next);
+    let count = token::up_to(255, c);
+    if 255 < count {
+        return ObjectiveRead::Bad(base + c.at);
+    }
+    let end = c.next;
+    let name = Span {
+        at: base + n.body,
+        len: n.next - n.body,
+    };
+    let bad = crate::bad_text(s, n, base + n.at);
+    let long = long_name(n, base + n.at);
+    if a.arg == 3 {
+        let objective = Objective {
+            name,
+            flags: flags as u8,
+            count: count as u8,
+            count_at: base + c.at,
+            value: Span {
+                at: base + end,
+                len: 0,
+            },
+        };
+        return ObjectiveRead::Got {
+            objective,
+            size: end,
+            bad,
+            long,
+        };
+    }
+    let len = token::size_at(s, end);
+    if len == 0 {
+        return ObjectiveRead::Bad(base + end);
+    }
+    let objective = Objective {
+        name,
+        flags: flags as u8,
+        count: count as u8,
+        count_at: base + c.at,
+        value: Span {
+            at: base + end,
+            len,
+        },
+    };
+    ObjectiveRead::Got {
+        objective,
+        size: end + len,
+        bad,
+        long,
+    }
+}
+
+// `place` where a name has over 64 bytes, else 0.
+fn long_name(t: Token, place: usize) -> usize
+    ensures { λ r. ⌜ r ≡ longName t place ⌝ }
+{
+    if MOST_NAME < t.arg {
+        return place;
+    }
+    0
+}

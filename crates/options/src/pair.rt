@@ -1,0 +1,118 @@
+// The pairs of a Flood (RFC 8990, section 2.8.11): an objective, tagged with a locator or with none.
+ghost use mathlib.Core.Path.{_≡_};
+ghost use Prim.Native.Nat.{_+_, _≤_, _<_, _^_};
+ghost use lib.ListN.{length};
+ghost use Rattle.options.specs.Pair.{isEmpty, pairTail, pairIn, pairAt};
+use crate::locator;
+use crate::locator::Locator;
+use crate::locator::LocatorRead;
+use crate::objective;
+use crate::objective::Objective;
+use crate::objective::ObjectiveRead;
+use cbor::token;
+use cbor::token::Token;
+
+// What a flooded objective is tagged with.
+pub enum Tag {
+    Empty,
+    At(Locator),
+}
+
+// The place of the first departure from the shape; or a pair of `size` bytes, with the places of its first text that isn't
+// UTF-8 and of a name over 64 bytes, else 0.
+pub enum PairRead {
+    Bad(usize),
+    Got {
+        objective: Objective,
+        tag: Tag,
+        size: usize,
+        bad: usize,
+        long: usize,
+    },
+}
+
+// The pair at `at` of the message s.
+pub fn read_at(s: &[u8], at: usize) -> PairRead
+    ensures { λ r. ⌜ r ≡ pairAt (now (s .entry)) at ⌝ }
+{
+    if s.len() < at {
+        return PairRead::Bad(at);
+    }
+    read_in(&s[at..], at)
+}
+
+// The pair at the start of s, which stands at `base` of the message.
+pub(crate) fn read_in(s: &[u8], base: usize) -> PairRead
+    requires { ⌜ base + length (now s) < 2 ^ 63 ⌝ }
+    ensures { λ r. ⌜ r ≡ pairIn base (now (s .entry)) ⌝ }
+{
+    let a = token::token_at(s, 0);
+    if token::items_in(a) == 0 {
+        return PairRead::Bad(base);
+    }
+    let at = a.next;
+    let read = objective::read_in(&s[at..], base + at);
+    match read {
+        ObjectiveRead::Bad(place) => PairRead::Bad(place),
+        ObjectiveRead::Got {
+            objective,
+            size,
+            bad,
+            long,
+        } => {
+            if a.arg == 2 {
+                return read_tag(s, base, at + size, objective, bad, long);
+            }
+            PairRead::Bad(base)
+        }
+    }
+}
+
+// A pair's second item, at `at` of the pair's part, after its objective.
+fn read_tag(
+    s: &[u8],
+    base: usize,
+    at: usize,
+    objective: Objective,
+    bad: usize,
+    long: usize,
+) -> PairRead
+    requires { ⌜ (base + length (now s) < 2 ^ 63) × (at ≤ length (now s)) ⌝ }
+    ensures { λ r. ⌜ r ≡ pairTail base (now (s .entry)) at objective bad long ⌝ }
+{
+    let t = token::token_at(s, at);
+    if is_empty(t) {
+        return PairRead::Got {
+            objective,
+            tag: Tag::Empty,
+            size: t.next,
+            bad,
+            long,
+        };
+    }
+    let read = locator::read_in(&s[at..], base + at);
+    match read {
+        LocatorRead::Bad(place) => PairRead::Bad(place),
+        LocatorRead::Got {
+            locator,
+            size,
+            bad: bad2,
+        } => PairRead::Got {
+            objective,
+            tag: Tag::At(locator),
+            size: at + size,
+            bad: crate::first_of(bad, bad2),
+            long,
+        },
+    }
+}
+
+// An empty array.
+fn is_empty(t: Token) -> bool
+    ensures { λ r. ⌜ r ≡ isEmpty t ⌝ }
+{
+    if t.major == 4 {
+        return t.arg == 0;
+    }
+    false
+}
