@@ -1,16 +1,12 @@
-//! The second program: the rules of 01 written again, and the stored test files they give.
-
-mod cbor;
-mod message;
-mod random;
-mod vectors;
+//! The second program: stores and checks the test files, or reads one message.
 
 use std::io::Read;
 use std::path::Path;
 use std::process::ExitCode;
 use std::{env, fs, io};
 
-use vectors::Stored;
+use second::message;
+use second::vectors::{self, Stored};
 
 const USAGE: &str = "usage: second store|check [repository root], or second read < message";
 

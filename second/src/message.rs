@@ -168,6 +168,40 @@ pub fn read(bytes: &[u8]) -> Result<Message, u8> {
     Ok(message)
 }
 
+/// Where each locator or pair of a message's list stands, if it has a list.
+pub fn elements(bytes: &[u8], message: &Message) -> Vec<Span> {
+    let root = Item::at(bytes, 0).ok();
+    let options = root
+        .as_ref()
+        .and_then(Item::array)
+        .and_then(|all| all.get(4..));
+    let listed = match (message, options.unwrap_or_default()) {
+        (Message::Flood { pairs, .. }, options) => options.get(..pairs.len()),
+        (Message::Response { target, .. }, options) => match target {
+            Target::Locators(locators) => options.get(..locators.len()),
+            Target::Divert(locators) => options
+                .first()
+                .and_then(Item::array)
+                .and_then(|divert| divert.get(1..1 + locators.len())),
+        },
+        _ => None,
+    };
+    let listed = listed.unwrap_or_default();
+    listed.iter().map(|item| item.span).collect()
+}
+
+/// The locator that stands at this place, by its shape alone, and the place after it.
+pub fn locator_at(bytes: &[u8], at: usize) -> Option<(Locator, usize)> {
+    let item = Item::inside(bytes, at, 1).ok()?;
+    Some((shape::locator(&item)?, item.span.end()))
+}
+
+/// The same for a Flood's pair; its value may have as many levels as a message.
+pub fn pair_at(bytes: &[u8], at: usize) -> Option<(Pair, usize)> {
+    let item = Item::inside(bytes, at, 2).ok()?;
+    Some((shape::pair(&item)?, item.span.end()))
+}
+
 impl Message {
     /// The number that stands first in the message.
     pub fn kind(&self) -> u8 {

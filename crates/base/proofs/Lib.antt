@@ -1,6 +1,7 @@
 -- `Tests`: the rules that close a `returns` whose definition picks by tests. `Picks`: going by a test's two cases.
--- `Parts`: parts of a slice as lists. `Digits`: numbers of n bytes, once for every n.
+-- `Parts`: parts of a slice as lists. `Digits`: numbers of n bytes, once for every n. `Lists`: what holds of each element.
 pub mod Tests
 pub mod Picks
 pub mod Parts
 pub mod Digits
+pub mod Lists

@@ -6,7 +6,7 @@ use mathlib.Core.Option.{Option, none, some}
 use lib.ListN.{length, take, drop}
 use lib.Dec.{eqb}
 use Rattle.base.specs.Pick.{pick}
-use Rattle.cbor.specs.Tree.{Item, Items, headBytes, encode, encodes, Good, Goods}
+use Rattle.cbor.specs.Tree.{Item, Items, Right, headBytes, encode, encodes, Good, Goods}
 use Rattle.options.specs.declared.Span.{Span}
 use Rattle.options.specs.declared.locator.Locator.{Locator}
 use Rattle.options.specs.declared.locator.Locator.the-variants as L
@@ -27,6 +27,13 @@ pub record StandAll (s : List ℕ) (p e : ℕ) (xs : Items) : Type 0 where
   pub is : drop p s ≡ encodes xs ++ drop e s
   pub end : e ≡ p + length (encodes xs)
   pub within : e ≤ length s
+
+-- the head of an array of n items stands at p, its first item at q
+pub record ArrayHead (s : List ℕ) (p q n : ℕ) : Type 0 where
+  pub width : ℕ
+  pub right : Right 4 width n
+  pub is : drop p s ≡ headBytes 4 width n ++ drop q s
+  pub end : q ≡ p + length (headBytes 4 width n)
 
 -- the bytes that a span holds
 abbrev pub held : List ℕ → Span → List ℕ
@@ -52,18 +59,21 @@ pub data ValueIs (s : List ℕ) (span : Span) : Option Item → Type 0 where
   absent : span .len ≡ 0 → ValueIs s span none
   present : {x : Item} → Stands s (span .at) (span .at + span .len) x → ValueIs s span (some x)
 
+-- how many items an objective's array has
+abbrev pub itemsWith : Option Item → ℕ
+itemsWith none = 3
+itemsWith (some x) = 4
+
 -- the objective that an answer describes, read of the item from p to e: each part stands right after the one before it
 pub record ObjectiveIs (s : List ℕ) (p e : ℕ) (o : Objective) (obj : Obj) : Type 0 where
-  -- the widths of the heads of the array, the name, the flags and the count; how many items the array has
-  pub array-width : ℕ
+  -- the widths of the heads of the name, the flags and the count
   pub name-width : ℕ
   pub flags-width : ℕ
   pub count-width : ℕ
-  pub items : ℕ
   -- where the name's item and the flags stand
   pub name-at : ℕ
   pub flags-at : ℕ
-  pub opened : name-at ≡ p + length (headBytes 4 array-width items)
+  pub opened : ArrayHead s p name-at (itemsWith (obj .value))
   pub name-item : Stands s name-at flags-at (text name-width (obj .name))
   pub name : o .name ≡ spanOf (flags-at - length (obj .name)) (length (obj .name))
   pub flags-item : Stands s flags-at (o .«count_at») (uint flags-width (obj .flags))

@@ -1,4 +1,4 @@
--- What reading answers: `Opening`, `Sequence`, `Response`, `Flood`, `Shape` for the kinds' shapes, `Read` for the whole. `Fields`: what a message holds.
+-- What reading answers: `Opening`, `Sequence`, `Response`, `Flood`, `Shape` for the kinds' shapes, `Read` for the whole. `Fields`: what a message holds. `Line`: what the program prints.
 pub mod Opening
 pub mod Sequence
 pub mod Shape
@@ -6,3 +6,4 @@ pub mod Response
 pub mod Flood
 pub mod Read
 pub mod Fields
+pub mod Line

@@ -10,6 +10,7 @@ use shape::Shape;
 
 pub mod fields;
 mod flood;
+pub mod line;
 mod opening;
 mod response;
 mod sequence;

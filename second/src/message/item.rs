@@ -1,7 +1,7 @@
 //! The message's bytes as a tree of items, each with its place.
 
 use super::Span;
-use crate::cbor::{head, item, Refusal};
+use crate::cbor::{head, item, Refusal, ENDED};
 
 /// An item and the bytes it takes.
 pub struct Item {
@@ -33,7 +33,9 @@ impl Item {
             0 => Sort::Unsigned(head.argument),
             2 => Sort::Bytes(content),
             3 => Sort::Text(content),
-            4 => Sort::Array(Item::several(bytes, content.at, head.argument)?),
+            4 => Sort::Array(Item::several(content.at, head.argument, |at| {
+                Item::at(bytes, at)
+            })?),
             7 if rest[0] == 0xF6 => Sort::Null,
             _ => Sort::Other,
         };
@@ -41,12 +43,36 @@ impl Item {
         Ok(Item { span, sort })
     }
 
-    /// So many items, one after the other.
-    fn several(bytes: &[u8], at: usize, count: u64) -> Result<Vec<Item>, Refusal> {
+    /// The item at any place, with the outermost `free` arrays counted as no level.
+    pub fn inside(bytes: &[u8], at: usize, free: usize) -> Result<Item, Refusal> {
+        let nothing = Refusal {
+            number: ENDED,
+            place: 0,
+        };
+        let head = head(bytes.get(at..).ok_or(nothing)?)?;
+        if head.major != 4 || free == 0 {
+            return Item::at(bytes, at);
+        }
+        let start = at + head.length;
+        let items = Item::several(start, head.argument, |at| Item::inside(bytes, at, free - 1))?;
+        let end = items.last().map_or(start, |last| last.span.end());
+        let span = Span {
+            at,
+            length: end - at,
+        };
+        let sort = Sort::Array(items);
+        Ok(Item { span, sort })
+    }
+
+    /// So many items, one after the other, each as `read` gives it.
+    fn several<F>(at: usize, count: u64, read: F) -> Result<Vec<Item>, Refusal>
+    where
+        F: Fn(usize) -> Result<Item, Refusal>,
+    {
         let mut items = Vec::new();
         let mut start = at;
         for _ in 0..count {
-            let item = Item::at(bytes, start)?;
+            let item = read(start)?;
             start = item.span.end();
             items.push(item);
         }

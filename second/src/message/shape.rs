@@ -98,7 +98,7 @@ fn flood(items: &[Item]) -> Option<Message> {
 }
 
 /// An objective with a locator or an empty array.
-fn pair(item: &Item) -> Option<Pair> {
+pub fn pair(item: &Item) -> Option<Pair> {
     let [about, place] = item.array()? else {
         return None;
     };
@@ -149,7 +149,7 @@ fn locators(items: &[Item]) -> Option<Vec<Locator>> {
     }
 }
 
-fn locator(item: &Item) -> Option<Locator> {
+pub fn locator(item: &Item) -> Option<Locator> {
     let [number, place, transport, door] = item.array()? else {
         return None;
     };

@@ -168,3 +168,59 @@ fn responses_are_in_order() {
         assert_eq!(response(&wrong), Err(SHAPE));
     }
 }
+
+#[test]
+fn elements_are_found() {
+    let places = |bytes| elements(bytes, &read(bytes).expect("a message"));
+    assert_eq!(places(FLOOD), [span(11, 9)]);
+    assert_eq!(places(ANSWER), [span(11, 24)]);
+    assert_eq!(places(DISCOVERY), []);
+    let divert = [b"\x85", &ANSWER[1..11], b"\x82\x18\x64", &ANSWER[11..]].concat();
+    assert_eq!(places(&divert), [span(14, 24)]);
+}
+
+#[test]
+fn locators_at_places() {
+    let v6 = Locator::V6 {
+        at: 15,
+        protocol: 6,
+        port: 7_017,
+    };
+    assert_eq!(locator_at(ANSWER, 11), Some((v6, 35)));
+    for at in [0, 10, 12, 34, 35, 36, usize::MAX] {
+        assert_eq!(locator_at(ANSWER, at), None);
+    }
+    // Only the shape counts.
+    let bare = Locator::Uri {
+        text: span(4, 1),
+        protocol: None,
+        port: None,
+    };
+    assert_eq!(
+        locator_at(b"\x84\x18\x6A\x61\xFF\xF6\xF6", 0),
+        Some((bare, 7))
+    );
+}
+
+#[test]
+fn pairs_at_places() {
+    let pair = Pair {
+        objective: ex1(4, 2, 14, 1),
+        locator: None,
+    };
+    assert_eq!(pair_at(FLOOD, 11), Some((pair, 20)));
+    for at in [0, 10, 12, 19, 20, 21, usize::MAX] {
+        assert_eq!(pair_at(FLOOD, at), None);
+    }
+    // The levels are counted in the value alone.
+    let deep = |levels| {
+        [
+            b"\x82\x84\x60\x00\x00",
+            &vec![0x81; levels][..],
+            b"\x00\x80",
+        ]
+        .concat()
+    };
+    assert_eq!(pair_at(&deep(8), 0).map(|(_, after)| after), Some(15));
+    assert_eq!(pair_at(&deep(9), 0), None);
+}

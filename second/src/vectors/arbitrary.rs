@@ -79,7 +79,7 @@ fn mostly_shortest(random: &mut Random, major: u8, argument: u64) -> Vec<u8> {
 pub fn character(random: &mut Random) -> char {
     let bits = *random.pick(&[7, 11, 16, 21]);
     loop {
-        let code = (random.next() as u32) & ((1 << bits) - 1);
+        let code = (random.bits() as u32) & ((1 << bits) - 1);
         if let Some(character) = char::from_u32(code) {
             return character;
         }

@@ -14,6 +14,11 @@ pub fn plain_and_damaged(random: &mut Random, bytes: &[u8]) -> [Vec<u8>; 6] {
     ]
 }
 
+/// The bytes damaged in one of these ways.
+pub fn damaged(random: &mut Random, bytes: &[u8]) -> Vec<u8> {
+    random.pick(&[followed, cut, changed, inserted, removed])(random, bytes)
+}
+
 /// Followed by 1 to 4 more bytes.
 fn followed(random: &mut Random, bytes: &[u8]) -> Vec<u8> {
     let length = 1 + random.below(4);

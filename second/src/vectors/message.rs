@@ -2,7 +2,7 @@
 
 mod examples;
 mod fields;
-mod generated;
+pub mod generated;
 mod levels;
 mod lines;
 mod parts;
@@ -17,10 +17,10 @@ use std::collections::BTreeSet;
 use super::Files;
 
 /// The longest case.
-const LONGEST: usize = 4096;
+pub const LONGEST: usize = 4096;
 
 /// All cases, one after the other, and the line each gives.
-pub fn files() -> Files {
+pub(super) fn files() -> Files {
     let cases = cases();
     Files {
         stdin: cases.iter().flat_map(|case| stored(case)).collect(),
@@ -29,7 +29,7 @@ pub fn files() -> Files {
 }
 
 /// Every case once, in the order of the stored files.
-fn cases() -> Vec<Vec<u8>> {
+pub fn cases() -> Vec<Vec<u8>> {
     let mut seen = BTreeSet::new();
     [shapes_and_fields(), limits_and_faults()]
         .into_iter()

@@ -2,10 +2,10 @@
 
 mod arbitrary;
 mod cbor;
-mod damage;
+pub mod damage;
 mod edges;
 mod encode;
-mod message;
+pub mod message;
 
 /// A file of the repository that this program computes.
 pub struct Stored {
@@ -40,12 +40,12 @@ fn program(name: &str, files: Files) -> [Stored; 2] {
 }
 
 /// Bytes as lower-case hexadecimal digits.
-fn hex(bytes: &[u8]) -> String {
+pub fn hex(bytes: &[u8]) -> String {
     bytes.iter().map(|byte| format!("{byte:02x}")).collect()
 }
 
 /// The bytes that hexadecimal digits say; blanks between digits are skipped.
-fn unhex(text: &str) -> Vec<u8> {
+pub fn unhex(text: &str) -> Vec<u8> {
     let digits: Vec<u8> = text
         .chars()
         .filter(|character| *character != ' ')

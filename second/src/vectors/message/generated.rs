@@ -6,6 +6,9 @@ use super::parts::*;
 use super::term::Term;
 use crate::random::Random;
 
+/// The most locators or pairs of a random message.
+const FEW: usize = 3;
+
 /// How rarely a field is not as it should be.
 const SELDOM: usize = 150;
 
@@ -14,13 +17,14 @@ pub fn messages() -> Vec<Vec<u8>> {
     let mut random = Random::new(12);
     let mut cases = Vec::new();
     for _ in 0..440 {
-        let message = message(&mut random).encoded();
+        let message = message(&mut random, FEW);
         cases.extend(plain_and_damaged(&mut random, &message));
     }
     cases
 }
 
-fn message(random: &mut Random) -> Term {
+/// A message of any kind with up to so many locators or pairs; a field is seldom wrong.
+pub fn message(random: &mut Random, most: usize) -> Vec<u8> {
     let kind = *random.pick(&[0, 1, 1, 2, 2, 2, 2, 3, 4, 5, 6, 6, 7, 8, 9, 9, 9, 9, 99]);
     let mut items = vec![number(kind)];
     if kind > 0 {
@@ -32,19 +36,19 @@ fn message(random: &mut Random) -> Term {
     if matches!(kind, 2 | 7 | 9) {
         items.push(limited(random, u64::from(u32::MAX)));
     }
-    items.extend(options(random, kind));
+    items.extend(options(random, kind, most));
     if random.once_in(SELDOM) {
         items.push(any(random));
     }
-    array(items)
+    array(items).encoded()
 }
 
 /// What follows the numbers and the initiator.
-fn options(random: &mut Random, kind: u64) -> Vec<Term> {
+fn options(random: &mut Random, kind: u64, most: usize) -> Vec<Term> {
     match kind {
         1 | 3 | 4 | 5 | 8 => vec![objective(random)],
         2 => {
-            let some = some_locators(random);
+            let some = some_locators(random, most);
             let mut options = if random.once_in(2) {
                 vec![divert(some)]
             } else {
@@ -60,7 +64,7 @@ fn options(random: &mut Random, kind: u64) -> Vec<Term> {
             1 => vec![decline()],
             _ => vec![array([number(102), words(random, 30)])],
         },
-        9 => (0..1 + random.below(3))
+        9 => (0..1 + random.below(most))
             .map(|_| random_pair(random))
             .collect(),
         99 if random.once_in(2) => vec![any(random)],
@@ -68,8 +72,10 @@ fn options(random: &mut Random, kind: u64) -> Vec<Term> {
     }
 }
 
-fn some_locators(random: &mut Random) -> Vec<Term> {
-    (0..1 + random.below(3)).map(|_| locator(random)).collect()
+fn some_locators(random: &mut Random, most: usize) -> Vec<Term> {
+    (0..1 + random.below(most))
+        .map(|_| locator(random))
+        .collect()
 }
 
 fn random_pair(random: &mut Random) -> Term {
@@ -158,19 +164,40 @@ fn any(random: &mut Random) -> Term {
     Term::Raw(tree(random, depth))
 }
 
+/// A message with one part of up to 4,000 bytes, within the limits or over them.
+pub fn long_message(random: &mut Random) -> Vec<u8> {
+    let length = random.below(4_000);
+    let mut options = vec![random_pair(random)];
+    let long = match random.below(5) {
+        0 => invalid([bytes(length)]),
+        1 => response([locator(random), uri(vec![b'u'; length])]),
+        2 => response([divert([domain(vec![b'd'; length]), locator(random)])]),
+        3 => {
+            options.push(pair(named(vec![b'n'; length]), locator(random)));
+            flood(options)
+        }
+        _ => {
+            options.push(pair(valued(bytes(length)), locator(random)));
+            flood(options)
+        }
+    };
+    long.encoded()
+}
+
 /// Random arrays led by a kind, of small items and options that may be right or not.
 pub fn near_messages() -> Vec<Vec<u8>> {
     let mut random = Random::new(13);
-    let mut cases = Vec::new();
-    for _ in 0..800 {
-        let kind = *random.pick(&[0, 1, 2, 3, 4, 5, 6, 7, 8, 9, 10, 99]);
-        let mut items = vec![number(kind)];
-        for _ in 0..random.below(6) {
-            items.push(near_part(&mut random));
-        }
-        cases.push(array(items).encoded());
+    (0..800).map(|_| near_message(&mut random)).collect()
+}
+
+/// An array led by a kind, of up to five parts that may be right or not.
+pub fn near_message(random: &mut Random) -> Vec<u8> {
+    let kind = *random.pick(&[0, 1, 2, 3, 4, 5, 6, 7, 8, 9, 10, 99]);
+    let mut items = vec![number(kind)];
+    for _ in 0..random.below(6) {
+        items.push(near_part(random));
     }
-    cases
+    array(items).encoded()
 }
 
 fn near_part(random: &mut Random) -> Term {

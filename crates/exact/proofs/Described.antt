@@ -1,0 +1,170 @@
+-- A message of the grammar is described in one way: each part stands right after the one before it, so every place follows from the start.
+-- Assumes nothing.
+use mathlib.Core.Path.{_≡_, refl, sym, ap, ap₂, _∙_, subst}
+use mathlib.Core.List.{List}
+use mathlib.Core.Option.{Option}
+use Prim.Native.Nat.{ℕ, suc, _+_, _-_}
+use native.Mathlib.Omega.{arith}
+use lib.ListN.{length, drop}
+use Rattle.cbor.specs.declared.head.HeadRead.{HeadRead}
+use Rattle.cbor.specs.Head.{headAt}
+use Rattle.cbor.specs.Tree.{Item, Items, headBytes, count, encode}
+use Rattle.cbor.proofs.HeadExact.{head-read}
+use Rattle.options.specs.declared.Span.{Span}
+use Rattle.options.specs.declared.objective.Objective.{Objective}
+use Rattle.options.specs.Text.{spanOf}
+use Rattle.grammar.specs.Cddl.{Loc, LocatorItems, Obj, PairItems, Aim, Ending, Msg}
+use Rattle.grammar.specs.Stands.{Stands, StandAll, ArrayHead, ValueIs, ObjectiveIs}
+use Rattle.grammar.proofs.Bridge.{split, none-end, stands-once}
+use Rattle.message.specs.declared.Series.{Series}
+use Rattle.message.specs.declared.Targets.{Targets}
+use Rattle.message.specs.declared.Extra.{Extra}
+use Rattle.message.specs.declared.Outcome.{Outcome}
+use Rattle.message.specs.declared.Message.{Message}
+use Rattle.message.specs.declared.Message.the-variants as M
+use Rattle.exact.specs.Describes.{KindIs, NumberIs, InitiatorIs, AimIs, ExtraIs, OutcomeIs, Describes}
+
+-- ---- from one start
+-- items end at one place
+ends-once : {s : List ℕ} {p p′ e e′ : ℕ} {x y : Item} → p ≡ p′ → Stands s p e x → Stands s p′ e′ y → e ≡ e′
+ends-once {s} {p} {e′ = e′} {y = y} q a b =
+    let b′ = subst (λ (k : ℕ). Stands s k e′ y) (sym q) b in
+    a .end ∙ ap (λ (z : Item). p + length (encode z)) (stands-once a b′) ∙ sym (b′ .end)
+
+-- as many items end at one place
+all-end-once : {s : List ℕ} {p p′ e e′ : ℕ} (xs ys : Items) → p ≡ p′ → count xs ≡ count ys → StandAll s p e xs → StandAll s p′ e′ ys → e ≡ e′
+unfolding count
+all-end-once Items.done Items.done q c a b = none-end a ∙ q ∙ sym (none-end b)
+all-end-once Items.done (Items.more y ys) q c a b = absurd (omega arith)
+all-end-once (Items.more x xs) Items.done q c a b = absurd (omega arith)
+all-end-once (Items.more x xs) (Items.more y ys) q c a b =
+    let i = split a in
+    let j = split b in
+    all-end-once xs ys (ends-once q (i .first) (j .first)) (omega arith) (i .rest) (j .rest)
+
+-- the head of an array ends at one place
+head-once : {s : List ℕ} {p p′ q q′ n n′ : ℕ} → p ≡ p′ → ArrayHead s p q n → ArrayHead s p′ q′ n′ → q ≡ q′
+head-once {s} {p} {p′} {q} {q′} {n} {n′} e a b =
+    let first : headAt (drop p s) ≡ HeadRead.Head 4 n (length (headBytes 4 (a .width) n)) = ap headAt (a .is) ∙ head-read 4 (a .width) n (drop q s) (a .right) in
+    let second : headAt (drop p′ s) ≡ HeadRead.Head 4 n′ (length (headBytes 4 (b .width) n′)) = ap headAt (b .is) ∙ head-read 4 (b .width) n′ (drop q′ s) (b .right) in
+    let same : length (headBytes 4 (a .width) n) ≡ length (headBytes 4 (b .width) n′) = cc (ap (λ (k : ℕ). headAt (drop k s)) e) in
+    omega (arith, a .end, b .end)
+
+-- the kind
+kind-once : {s : List ℕ} {k p p′ : ℕ} → KindIs s k p → KindIs s k p′ → p ≡ p′
+kind-once a b = ends-once (head-once refl (a .opened) (b .opened)) (a .stands) (b .stands)
+
+-- a number
+number-once : {s : List ℕ} {p p′ e e′ n : ℕ} → p ≡ p′ → NumberIs s p e n → NumberIs s p′ e′ n → e ≡ e′
+number-once q a b = ends-once q (a .stands) (b .stands)
+
+-- an initiator, and its span
+initiator-once : {s : List ℕ} {p p′ e e′ : ℕ} {i i′ : Span} {from : List ℕ} → p ≡ p′ → InitiatorIs s p e i from → InitiatorIs s p′ e′ i′ from → (e ≡ e′) × (i ≡ i′)
+initiator-once {from = from} q a b =
+    let same = ends-once q (a .stands) (b .stands) in
+    (same, a .held ∙ ap (λ (k : ℕ). spanOf (k - length from) (length from)) same ∙ sym (b .held))
+
+-- ---- objectives and values
+-- a value, from one place
+value-once : {s : List ℕ} {i i′ : Span} {v : Option Item} → i .at ≡ i′ .at → ValueIs s i v → ValueIs s i′ v → i .len ≡ i′ .len
+value-once q (ValueIs.absent e) (ValueIs.absent e′) = e ∙ sym e′
+value-once q (ValueIs.present a) (ValueIs.present b) = omega (arith, ends-once q a b)
+
+-- spans by their parts
+span-ext : (i i′ : Span) → i .at ≡ i′ .at → i .len ≡ i′ .len → i ≡ i′
+span-ext i i′ a b = ap₂ spanOf a b
+
+-- objectives by their parts
+objective-ext : (o o′ : Objective) → o .name ≡ o′ .name → o .flags ≡ o′ .flags → o .count ≡ o′ .count → o .«count_at» ≡ o′ .«count_at» → o .value ≡ o′ .value → o ≡ o′
+objective-ext o o′ a b c d e = same a b c d e
+  where
+    of : Span → ℕ → ℕ → ℕ → Span → Objective
+    of name flags count place value = record { name = name; flags = flags; count = count; «count_at» = place; value = value }
+
+    same : {n n′ v v′ : Span} {f f′ c c′ k k′ : ℕ} → n ≡ n′ → f ≡ f′ → c ≡ c′ → k ≡ k′ → v ≡ v′ → of n f c k v ≡ of n′ f′ c′ k′ v′
+    same a b c d e = cc
+
+-- an objective, from one place
+objective-once : {s : List ℕ} {p p′ e e′ : ℕ} {o o′ : Objective} {obj : Obj} → p ≡ p′ → ObjectiveIs s p e o obj → ObjectiveIs s p′ e′ o′ obj → o ≡ o′
+objective-once {o = o} {o′} {obj} q a b =
+    let name = head-once q (a .opened) (b .opened) in
+    let flags = ends-once name (a .name-item) (b .name-item) in
+    let counts = ends-once flags (a .flags-item) (b .flags-item) in
+    let value = ends-once counts (a .count-item) (b .count-item) in
+    objective-ext o o′ (a .name ∙ ap (λ (k : ℕ). spanOf (k - length (obj .name)) (length (obj .name))) flags ∙ sym (b .name)) (a .flags ∙ sym (b .flags)) (a .count ∙ sym (b .count)) counts
+    (span-ext (o .value) (o′ .value) value (value-once value (a .value) (b .value)))
+
+-- ---- series, and what a Response holds
+-- series by their parts
+abbrev series-of : ℕ → ℕ → Series
+series-of at many = record { at = at; many = many }
+
+series-ext : (i i′ : Series) → i .at ≡ i′ .at → i .many ≡ i′ .many → i ≡ i′
+series-ext i i′ a b = ap₂ (λ (at many : ℕ). series-of at many) a b
+
+-- there are as many items as locators
+locators-count : {xs : Items} {ls : List Loc} → LocatorItems xs ls → count xs ≡ length ls
+unfolding count
+locators-count LocatorItems.empty = refl
+locators-count (LocatorItems.more i is) = ap suc (locators-count is)
+
+-- and as pairs
+pairs-count : {xs : Items} {ps : List (Obj × Option Loc)} → PairItems xs ps → count xs ≡ length ps
+unfolding count
+pairs-count PairItems.empty = refl
+pairs-count (PairItems.more i is) = ap suc (pairs-count is)
+
+-- locators or a divert
+aim-once : {s : List ℕ} {p p′ e e′ : ℕ} {t t′ : Targets} {aim : Aim} → p ≡ p′ → AimIs s p e t aim → AimIs s p′ e′ t′ aim → (t ≡ t′) × (e ≡ e′)
+aim-once q (AimIs.locators {series} at i) (AimIs.locators {series = series′} at′ i′) =
+    let place : series .at ≡ series′ .at = at ∙ q ∙ sym at′ in
+    let many = locators-count (i .are) ∙ sym (locators-count (i′ .are)) in
+    (ap Targets.Locators (series-ext series series′ place (i .many ∙ many ∙ sym (i′ .many))), all-end-once (i .items) (i′ .items) place many (i .stand) (i′ .stand))
+aim-once q (AimIs.divert {series} head lead i) (AimIs.divert {series = series′} head′ lead′ i′) =
+    let place = ends-once (head-once q head head′) lead lead′ in
+    let many = locators-count (i .are) ∙ sym (locators-count (i′ .are)) in
+    (ap Targets.Divert (series-ext series series′ place (i .many ∙ many ∙ sym (i′ .many))), all-end-once (i .items) (i′ .items) place many (i .stand) (i′ .stand))
+
+-- an objective that may be left out
+extra-once : {s : List ℕ} {p p′ : ℕ} {x x′ : Extra} {obj : Option Obj} → p ≡ p′ → ExtraIs s p x obj → ExtraIs s p′ x′ obj → x ≡ x′
+extra-once q (ExtraIs.without e) (ExtraIs.without e′) = refl
+extra-once q (ExtraIs.with-one i) (ExtraIs.with-one i′) = ap Extra.With (objective-once q i i′)
+
+-- how a negotiation ends
+outcome-once : {s : List ℕ} {r r′ : Outcome} {e : Ending} → OutcomeIs s r e → OutcomeIs s r′ e → r ≡ r′
+outcome-once OutcomeIs.accept OutcomeIs.accept = refl
+outcome-once OutcomeIs.decline OutcomeIs.decline = refl
+outcome-once (OutcomeIs.reason h) (OutcomeIs.reason h′) = ap Outcome.Reason (h ∙ sym h′)
+
+-- ---- messages
+-- a session and an objective
+exchange-once : {s : List ℕ} {k p p′ q q′ session : ℕ} {o o′ : Objective} {obj : Obj} → KindIs s k p → NumberIs s p q session → ObjectiveIs s q (length s) o obj
+    → KindIs s k p′ → NumberIs s p′ q′ session → ObjectiveIs s q′ (length s) o′ obj → o ≡ o′
+exchange-once k i o k′ i′ o′ = objective-once (number-once (kind-once k k′) i i′) o o′
+
+-- a message is described in one way
+pub described-once : {s : List ℕ} {m m′ : Message} {msg : Msg} → Describes s m msg → Describes s m′ msg → m ≡ m′
+described-once Describes.noop Describes.noop = refl
+described-once (Describes.discovery {session} k n i o) (Describes.discovery k′ n′ i′ o′) =
+    let (after, initiator) = initiator-once (number-once (kind-once k k′) n n′) i i′ in
+    ap₂ (M.Discovery session) initiator (objective-once after o o′)
+described-once (Describes.response {session} {ttl} k n i t a x) (Describes.response k′ n′ i′ t′ a′ x′) =
+    let (after, initiator) = initiator-once (number-once (kind-once k k′) n n′) i i′ in
+    let (targets, end) = aim-once (number-once after t t′) a a′ in
+    let extra = extra-once end x x′ in
+    cc
+described-once (Describes.request-negotiation {session} k n o) (Describes.request-negotiation k′ n′ o′) = ap (M.RequestNegotiation session) (exchange-once k n o k′ n′ o′)
+described-once (Describes.request-synchronization {session} k n o) (Describes.request-synchronization k′ n′ o′) = ap (M.RequestSynchronization session) (exchange-once k n o k′ n′ o′)
+described-once (Describes.negotiate {session} k n o) (Describes.negotiate k′ n′ o′) = ap (M.Negotiate session) (exchange-once k n o k′ n′ o′)
+described-once (Describes.end {session} r) (Describes.end r′) = ap (M.End session) (outcome-once r r′)
+described-once Describes.wait Describes.wait = refl
+described-once (Describes.synch {session} k n o) (Describes.synch k′ n′ o′) = ap (M.Synch session) (exchange-once k n o k′ n′ o′)
+described-once (Describes.flood {series = series} k n i t is h o) (Describes.flood {series = series′} k′ n′ i′ t′ is′ h′ o′) =
+    let (after, initiator) = initiator-once (number-once (kind-once k k′) n n′) i i′ in
+    let place = number-once after t t′ in
+    let first = objective-once (head-once place h h′) o o′ in
+    let pairs = series-ext series series′ place (is .many ∙ pairs-count (is .are) ∙ sym (pairs-count (is′ .are)) ∙ sym (is′ .many)) in
+    cc
+described-once (Describes.invalid {session} {span = span} k n v e) (Describes.invalid {span = span′} k′ n′ v′ e′) =
+    let place = number-once (kind-once k k′) n n′ in
+    ap (M.Invalid session) (span-ext span span′ place (omega arith))

@@ -1,0 +1,19 @@
+-- For readers: `Exact`, which bytes are accepted and what is said of them; `Refused`, each refusal held against its row.
+pub mod Exact
+pub mod Refused
+-- Their proof: what any bytes are answered; what one item is answered, of all kinds; that it is one message only, described in one way.
+pub mod Answers
+pub mod Shaped
+pub mod Once
+pub mod Described
+-- The kinds, each both ways.
+pub mod Plain
+pub mod Exchange
+pub mod Response
+pub mod Flood
+-- What they share.
+pub mod Whole
+pub mod Heads
+pub mod Opening
+pub mod Locators
+pub mod Noted

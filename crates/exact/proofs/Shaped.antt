@@ -1,0 +1,236 @@
+-- The eleven kinds together: what `shaped` answers of one item that is the whole of the bytes.
+-- Assumes nothing.
+use mathlib.Core.Path.{_≡_, refl, sym, ap, _∙_, subst}
+use mathlib.Core.Logic.{_⊎_, inl, inr, _≢_}
+use mathlib.Core.List.{List, _++_, append-assoc}
+use mathlib.Core.Bool.{true, false}
+use Prim.Native.Nat.{ℕ, suc, _/_, _≤_, _<_, zero-le}
+use native.Mathlib.Decide.{decLt}
+use native.Mathlib.Omega.{arith}
+use lib.ListN.{length, drop}
+use lib.Dec.{ltb, eqb}
+use borrow.Author.Tests.{ltb-true, ltb-false, eqb-true, eqb-false, ne-eqb, eq-eqb, lt-ltb}
+use Rattle.base.specs.Pick.{pick}
+use Rattle.base.specs.BigEndian.{Bytes}
+use Rattle.base.proofs.Picks.{pick-case}
+use Rattle.cbor.specs.declared.head.HeadRead.{HeadRead}
+use Rattle.cbor.specs.declared.item.ItemRead.{ItemRead}
+use Rattle.cbor.specs.declared.token.Token.{Token}
+use Rattle.cbor.specs.Head.{headAt}
+use Rattle.cbor.specs.Item.{mostLevels, firstItem}
+use Rattle.cbor.specs.Token.{tokenAt, itemsIn}
+use Rattle.cbor.specs.Tree.{Item, Items, Good, Right, headBytes, count, encode, encodes, depth}
+use Rattle.cbor.proofs.HeadExact.{head-read}
+use Rattle.cbor.proofs.Tokens.{token-end}
+use Rattle.grammar.specs.Cddl.{uint, Msg, MessageItem}
+use Rattle.grammar.specs.Stands.{Stands, StandAll}
+use Rattle.grammar.proofs.Bridge.{Heading, token-heading, split, last, stands-once}
+use Rattle.grammar.proofs.Pieces.{is-array, array-items, array-at, array-head}
+use Rattle.message.specs.declared.Message.{Message}
+use Rattle.message.specs.declared.shape.Shape.{Shape}
+use Rattle.message.specs.declared.shape.Shape.the-variants as S
+use Rattle.message.specs.declared.Examined.{Examined}
+use Rattle.message.specs.declared.Examined.the-variants as E
+use Rattle.message.specs.Shape.{exchangeAt}
+use Rattle.message.specs.Read.{byKind, judged, shaped}
+use Rattle.exact.specs.Rows.{UnknownKind}
+use Rattle.exact.proofs.Whole.{ShapeIs, ShapeOk, Reads, Kinded}
+use Rattle.exact.proofs.Heads.{uint-at, uint-passed, array-passed}
+use Rattle.exact.proofs.Plain.{noop-sound, noop-complete, wait-sound, wait-complete, invalid-sound, invalid-complete, invalid-with-complete, end-sound, end-complete}
+use Rattle.exact.proofs.Exchange.{discovery-sound, discovery-complete, request-negotiation-sound, request-synchronization-sound, negotiate-sound, synch-sound, exchange-complete}
+use Rattle.exact.proofs.Response.{response-sound, response-complete}
+use Rattle.exact.proofs.Flood.{flood-sound, flood-complete}
+
+-- ---- from what was read to the message
+-- a known kind that is none of those tested before
+up : {n k : ℕ} → n ≤ k → k ≢ n → suc n ≤ k
+up h other = omega arith
+
+down : {n k : ℕ} → k ≤ suc n → k ≢ suc n → k ≤ n
+down h other = omega arith
+
+low : {k : ℕ} → (k ≤ 9) ⊎ (k ≡ 99) → k ≢ 99 → k ≤ 9
+low (inl h) other = h
+low (inr h) other = absurd (other h)
+
+-- what is read of a known kind is a message of that kind
+shape-sound : {s : List ℕ} {kind n at : ℕ} → Kinded s kind n at → (kind ≤ 9) ⊎ (kind ≡ 99) → ShapeOk s (byKind s kind n at)
+unfolding byKind
+shape-sound {s} {kind} {n} {at} k known =
+    pick-case Ok _ (λ e. noop-sound (of-kind 0 (eqb-true kind 0 e)))
+    (λ e₀. pick-case Ok _ (λ e. discovery-sound (of-kind 1 (eqb-true kind 1 e)))
+    (λ e₁. pick-case Ok _ (λ e. response-sound (of-kind 2 (eqb-true kind 2 e)))
+    (λ e₂. pick-case Ok _ (λ e. end-sound (of-kind 6 (eqb-true kind 6 e)))
+    (λ e₆. pick-case Ok _ (λ e. wait-sound (of-kind 7 (eqb-true kind 7 e)))
+    (λ e₇. pick-case Ok _ (λ e. flood-sound (of-kind 9 (eqb-true kind 9 e)))
+    (λ e₉. pick-case Ok _ (λ e. invalid-sound (of-kind 99 (eqb-true kind 99 e)))
+    (λ e₉₉. exchange (up (up (up zero-le (eqb-false kind 0 e₀)) (eqb-false kind 1 e₁)) (eqb-false kind 2 e₂))
+    (down (low known (eqb-false kind 99 e₉₉)) (eqb-false kind 9 e₉)) (λ six. up (up six (eqb-false kind 6 e₆)) (eqb-false kind 7 e₇)))))))))
+  where
+    Ok : Shape → Type 0
+    Ok = ShapeOk s
+
+    of-kind : (kind′ : ℕ) → kind ≡ kind′ → Kinded s kind′ n at
+    of-kind kind′ e = subst (λ (v : ℕ). Kinded s v n at) e k
+
+    to : (kind′ : ℕ) → kind ≡ kind′ → ShapeOk s (exchangeAt s kind′ n at) → ShapeOk s (exchangeAt s kind n at)
+    to kind′ e = subst (λ (v : ℕ). ShapeOk s (exchangeAt s v n at)) (sym e)
+
+    exchange : 3 ≤ kind → kind ≤ 8 → (6 ≤ kind → 8 ≤ kind) → ShapeOk s (exchangeAt s kind n at)
+    exchange lo hi high =
+        elim (decLt kind 4) [
+          | yes l ↦ let e : kind ≡ 3 = omega arith in to 3 e (request-negotiation-sound (of-kind 3 e))
+          | no l ↦
+              elim (decLt kind 5) [
+                | yes l′ ↦ let e : kind ≡ 4 = omega arith in to 4 e (request-synchronization-sound (of-kind 4 e))
+                | no l′ ↦
+                    elim (decLt kind 6) [
+                      | yes l″ ↦ let e : kind ≡ 5 = omega arith in to 5 e (negotiate-sound (of-kind 5 e))
+                      | no l″ ↦ let e : kind ≡ 8 = omega (arith, high (omega arith)) in to 8 e (synch-sound (of-kind 8 e))
+                    ]
+              ]
+        ]
+
+-- ---- which items a kind can lead
+-- the major type of a head is read of it
+same-major : (m w n m′ w′ n′ : ℕ) (r r′ : List ℕ) → Right m w n → Right m′ w′ n′ → headBytes m w n ++ r ≡ headBytes m′ w′ n′ ++ r′ → m ≡ m′
+same-major m w n m′ w′ n′ r r′ right right′ e =
+    let heads : HeadRead.Head m n (length (headBytes m w n)) ≡ HeadRead.Head m′ n′ (length (headBytes m′ w′ n′))
+    = sym (head-read m w n r right) ∙ ap headAt e ∙ head-read m′ w′ n′ r′ right′ in
+    cc
+
+-- an array
+data IsArray : Item → Type 0 where
+  array : {w : ℕ} {xs : Items} → IsArray (Item.array w xs)
+
+-- where the head of an array is read, an array stands
+array-there : {s : List ℕ} {p e : ℕ} {t : Token} (x : Item) → Stands s p e x → Heading s p t → t .major ≡ 4 → IsArray x
+unfolding encode
+array-there {s} {p} {e} {t} x a h four = by x (a .good) (sym (a .is) ∙ h .head)
+  where
+    other : {A : Type 0} (m w n : ℕ) (r : List ℕ) → Right m w n → headBytes m w n ++ r ≡ headBytes (t .major) (h .width) (t .arg) ++ drop (t .body) s → m ≢ 4 → A
+    other m w n r right is no-array = absurd (no-array (same-major m w n (t .major) (h .width) (t .arg) r (drop (t .body) s) right (h .right) is ∙ four))
+
+    by : (x : Item) → Good x → encode x ++ drop e s ≡ headBytes (t .major) (h .width) (t .arg) ++ drop (t .body) s → IsArray x
+    by (Item.number true w n) good is = other 1 w n _ good is (λ z. omega arith)
+    by (Item.number false w n) good is = other 0 w n _ good is (λ z. omega arith)
+    by (Item.string true w bs) good is = other 3 w (length bs) _ (good .0) (sym (append-assoc (headBytes 3 w (length bs)) bs (drop e s)) ∙ is) (λ z. omega arith)
+    by (Item.string false w bs) good is = other 2 w (length bs) _ (good .0) (sym (append-assoc (headBytes 2 w (length bs)) bs (drop e s)) ∙ is) (λ z. omega arith)
+    by (Item.array w xs) good is = IsArray.array
+    by (Item.map w xs) good is = other 5 w (count xs / 2) _ (good .0) (sym (append-assoc (headBytes 5 w (count xs / 2)) (encodes xs) (drop e s)) ∙ is) (λ z. omega arith)
+    by (Item.tagged w n x) good is = other 6 w n _ (good .0) (sym (append-assoc (headBytes 6 w n) (encode x) (drop e s)) ∙ is) (λ z. omega arith)
+    by (Item.simple w n) good is = other 7 w n _ good is (λ z. omega arith)
+
+-- and where an unsigned number leads it, it is that number
+unknown-there : {s : List ℕ} {e : ℕ} {x : Item} → Bytes s → Stands s 0 e x → IsArray x → (itemsIn (tokenAt s 0) ≡ 0 → ⊥) → tokenAt s (tokenAt s 0 .next) .major ≡ 0
+    → 9 < tokenAt s (tokenAt s 0 .next) .arg → tokenAt s (tokenAt s 0 .next) .arg ≢ 99 → UnknownKind x
+unfolding count itemsIn pick
+unknown-there {s} b a (IsArray.array {xs = Items.done}) filled number high other =
+    let t = array-passed (last a) in
+    absurd (filled (rw (t .major, t .arg)))
+unknown-there {s} b a (IsArray.array {w} {xs = Items.more y ys}) filled number high other =
+    let t = array-passed (last a) in
+    let c = split (t .items) in
+    let i = uint-at b (token-end s 0) number in
+    let same = stands-once (i .stands) (c .first) in
+    subst (λ (y : Item). UnknownKind (Item.array w (Items.more y ys))) same (UnknownKind.unknown high other)
+
+-- ---- the answers, of one item x that is the whole
+module _ {s : List ℕ} {x : Item} (b : Bytes s) (walked : firstItem 0 s ≡ ItemRead.Ends (length s)) (stands : Stands s 0 (length s) x) where
+  -- the head of an array, and a kind after it
+  heading : (itemsIn (tokenAt s 0) ≡ 0 → ⊥) → Heading s 0 (tokenAt s 0)
+  heading filled = token-heading s 0 (tokenAt s 0) b zero-le refl (omega (arith, is-array (tokenAt s 0) filled))
+
+  kinded : (itemsIn (tokenAt s 0) ≡ 0 → ⊥) → tokenAt s (tokenAt s 0 .next) .major ≡ 0
+      → Kinded s (tokenAt s (tokenAt s 0 .next) .arg) (tokenAt s 0 .arg) (tokenAt s (tokenAt s 0 .next) .next)
+  kinded filled number =
+      let h = heading filled in
+      let i = uint-at b (token-end s 0) number in
+      record {
+        bytes = b;
+        walked = walked;
+        from = tokenAt s 0 .next;
+        array-width = h .width;
+        width = i .width;
+        opened = array-head h (is-array (tokenAt s 0) filled);
+        lead = i .stands;
+        close = λ e xs counted stand. array-at h (is-array (tokenAt s 0) filled) counted stand;
+      }
+
+  -- an unknown kind, a departure, or a message that is described
+  pub shaped-case : (P : Examined → Type 0) → ((place : ℕ) → UnknownKind x → P (E.Refused 8 place)) → ((place : ℕ) → P (E.Refused 9 place))
+      → ((m : Message) (bad long : ℕ) → ShapeIs s m bad long → P (judged (S.Good m bad long))) → P (shaped s)
+  unfolding shaped judged
+  shaped-case P unknown departs reads =
+      let a = tokenAt s 0 in
+      let k = tokenAt s (a .next) in
+      pick-case P _ (λ _. departs _)
+      (λ e₁. pick-case P _
+      (λ e₂.
+      let filled = eqb-false (itemsIn a) 0 e₁ in
+      let number = eqb-true (k .major) 0 e₂ in
+      let at-kind = kinded filled number in
+      pick-case P _
+      (λ e₃. pick-case P _ (λ e₄. shape (shape-sound at-kind (inr (eqb-true (k .arg) 99 e₄))))
+      (λ e₄. unknown _
+      (unknown-there b stands (array-there x stands (heading filled) (is-array a filled)) filled number (ltb-true 9 (k .arg) e₃) (eqb-false (k .arg) 99 e₄))))
+      (λ e₃. shape (shape-sound at-kind (inl (ltb-false 9 (k .arg) e₃)))))
+      (λ _. departs _))
+    where
+      shape : {r : Shape} → ShapeOk s r → P (judged r)
+      shape (ShapeOk.bad {place}) = departs place
+      shape (ShapeOk.good {m} {bad} {long} i) = reads m bad long i
+
+-- an array that a number leads, and what `shaped` reads of it
+record Led (s : List ℕ) (kind : ℕ) (xs : Items) : Type 0 where
+  at : ℕ
+  place : ℕ
+  end : ℕ
+  stand : StandAll s at end xs
+  is : let read = judged (byKind s kind (suc (count xs)) at) in shaped s ≡ pick (ltb 9 kind) (pick (eqb kind 99) read (E.Refused 8 place)) read
+
+-- such an array is so read
+led : {s : List ℕ} {w v kind : ℕ} {xs : Items} → Stands s 0 (length s) (Item.array w (Items.more (uint v kind) xs)) → Led s kind xs
+unfolding shaped count pick
+led {s} {kind = kind} {xs} a =
+    let t = array-passed (last a) in
+    let (number, arg, stand) = uint-passed (t .items) in
+    record {
+      at = tokenAt s (tokenAt s 0 .next) .next;
+      place = tokenAt s (tokenAt s 0 .next) .at;
+      end = t .mid;
+      stand = stand;
+      is = rw (ne-eqb (itemsIn (tokenAt s 0)) 0 (array-items (tokenAt s 0) (count xs) (t .major) (t .arg)), eq-eqb (tokenAt s (tokenAt s 0 .next) .major) 0 number, arg, t .arg);
+    }
+
+-- an item of no known kind
+pub unknown-complete : {s : List ℕ} {x : Item} → Stands s 0 (length s) x → UnknownKind x → (place : ℕ) × (shaped s ≡ E.Refused 8 place)
+unfolding pick
+unknown-complete a (UnknownKind.unknown {n = n} high other) = let l = led a in (l .place, l .is ∙ rw (lt-ltb 9 n high, ne-eqb n 99 other))
+
+-- a message
+pub record MessageReads (s : List ℕ) : Type 0 where
+  pub message : Message
+  pub bad : ℕ
+  pub long : ℕ
+  pub is : shaped s ≡ judged (S.Good message bad long)
+
+-- as its shape is read
+reads-of : {s : List ℕ} (r : Shape) → shaped s ≡ judged r → Reads r → MessageReads s
+reads-of _ e (Reads.reads {m} {bad} {long}) = record { message = m; bad = bad; long = long; is = e }
+
+-- each message is read
+pub shape-complete : {s : List ℕ} {x : Item} {msg : Msg} → Stands s 0 (length s) x → depth x ≤ mostLevels → MessageItem x msg → MessageReads s
+unfolding byKind pick count depth
+shape-complete a d MessageItem.noop = reads-of _ (led a .is) noop-complete
+shape-complete a d (MessageItem.discovery i j o) = let l = led a in reads-of _ (l .is) (discovery-complete (l .stand) i j o (omega arith))
+shape-complete a d (MessageItem.response i j t is) = let l = led a in reads-of _ (l .is) (response-complete (l .stand) i j t is (omega arith) (omega arith))
+shape-complete a d (MessageItem.request-negotiation i o) = let l = led a in reads-of _ (l .is) (exchange-complete 3 (l .stand) i o (omega arith))
+shape-complete a d (MessageItem.request-synchronization i o) = let l = led a in reads-of _ (l .is) (exchange-complete 4 (l .stand) i o (omega arith))
+shape-complete a d (MessageItem.negotiate i o) = let l = led a in reads-of _ (l .is) (exchange-complete 5 (l .stand) i o (omega arith))
+shape-complete a d (MessageItem.end i o) = let l = led a in reads-of _ (l .is) (end-complete (l .stand) i o)
+shape-complete a d (MessageItem.wait i t) = let l = led a in reads-of _ (l .is) (wait-complete (l .stand) i t)
+shape-complete a d (MessageItem.synch i o) = let l = led a in reads-of _ (l .is) (exchange-complete 8 (l .stand) i o (omega arith))
+shape-complete a d (MessageItem.flood i j t is) = let l = led a in reads-of _ (l .is) (flood-complete (l .stand) i j t is (omega arith) (omega arith))
+shape-complete a d (MessageItem.invalid i) = let l = led a in reads-of _ (l .is) (invalid-complete (l .stand) i)
+shape-complete a d (MessageItem.invalid-with i) = let l = led a in reads-of _ (l .is) (invalid-with-complete (l .stand) i (omega arith))

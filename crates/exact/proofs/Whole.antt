@@ -1,0 +1,108 @@
+-- What every kind's laws share: what is said of a shape, the frame that makes the items of a message the message, and going by a shape's tests.
+-- Assumes nothing.
+use mathlib.Core.Path.{_≡_, sym, ap, _∙_, subst}
+use mathlib.Core.Logic.{_↔_}
+use mathlib.Core.List.{List, [], append-nil}
+use mathlib.Core.Bool.{Bool, true, false}
+use Prim.Native.Nat.{ℕ, suc, _≤_}
+use native.Mathlib.Omega.{arith}
+use lib.ListN.{length, drop}
+use lib.Seq.{take-length}
+use Rattle.base.specs.Pick.{pick}
+use Rattle.base.specs.BigEndian.{Bytes}
+use Rattle.base.proofs.Picks.{pick-case}
+use Rattle.cbor.specs.declared.item.ItemRead.{ItemRead}
+use Rattle.cbor.specs.Item.{mostLevels, firstItem}
+use Rattle.cbor.specs.Tree.{Item, Items, Good, count, depth, encode}
+use Rattle.cbor.proofs.Exact.{item-exact}
+use Rattle.cbor.proofs.Unique.{unique}
+use Rattle.grammar.specs.Cddl.{uint, Msg, MessageItem}
+use Rattle.grammar.specs.Limits.{TextsGood, NamesGood}
+use Rattle.grammar.specs.Stands.{Stands, StandAll, ArrayHead}
+use Rattle.grammar.proofs.Bridge.{join}
+use Rattle.message.specs.declared.Message.{Message}
+use Rattle.message.specs.declared.shape.Shape.{Shape}
+use Rattle.message.specs.declared.shape.Shape.the-variants as S
+use Rattle.exact.specs.Describes.{KindIs, Describes}
+
+-- s is the encoding of a message that m describes, bad is 0 exactly if its texts are UTF-8, and long exactly if its names are short
+pub record ShapeIs (s : List ℕ) (m : Message) (bad long : ℕ) : Type 0 where
+  pub item : Item
+  pub msg : Msg
+  pub bytes : encode item ≡ s
+  pub good : Good item
+  pub shallow : depth item ≤ mostLevels
+  pub is : MessageItem item msg
+  pub describes : Describes s m msg
+  pub texts : bad ≡ 0 ↔ TextsGood msg
+  pub names : long ≡ 0 ↔ NamesGood msg
+
+-- a shape that was read is one of a message
+pub data ShapeOk (s : List ℕ) : Shape → Type 0 where
+  bad : {place : ℕ} → ShapeOk s (S.Bad place)
+  good : {m : Message} {bad long : ℕ} → ShapeIs s m bad long → ShapeOk s (S.Good m bad long)
+
+-- what the tests leave
+pub past-case : {s : List ℕ} {t : Bool} (place : ℕ) {x : Shape} → (t ≡ false → ShapeOk s x) → ShapeOk s (pick t (S.Bad place) x)
+past-case {s} {t} place f = pick-case (ShapeOk s) t (λ _. ShapeOk.bad) f
+
+pub held-case : {s : List ℕ} {t : Bool} (place : ℕ) {x : Shape} → (t ≡ true → ShapeOk s x) → ShapeOk s (pick t x (S.Bad place))
+held-case {s} {t} place f = pick-case (ShapeOk s) t f (λ _. ShapeOk.bad)
+
+-- a shape that is read, and the tests that lead there
+pub data Reads : Shape → Type 0 where
+  reads : {m : Message} {bad long : ℕ} → Reads (S.Good m bad long)
+
+pub taken : {t : Bool} {x : Shape} (y : Shape) → t ≡ true → Reads x → Reads (pick t x y)
+unfolding pick
+taken y e r = rw e r
+
+pub skipped : {t : Bool} (x : Shape) {y : Shape} → t ≡ false → Reads y → Reads (pick t x y)
+unfolding pick
+skipped x e r = rw e r
+
+-- the walk took the whole: an item that stands at the start is the whole, and has eight levels at most
+pub whole : {s : List ℕ} {e : ℕ} {x : Item} → Bytes s → firstItem 0 s ≡ ItemRead.Ends (length s) → Stands s 0 e x
+    → (e ≡ length s) × (depth x ≤ mostLevels) × (encode x ≡ s)
+whole {s} {e} {x} b w a =
+    let i = item-exact 0 s (length s) b w in
+    let all : encode (i .item) ≡ s = sym (i .bytes) ∙ take-length s in
+    let same : x ≡ i .item = unique x (i .item) (drop e s) [] (a .good) (i .good) (sym (a .is) ∙ sym all ∙ sym (append-nil (encode (i .item)))) in
+    let full : encode x ≡ s = ap encode same ∙ all in
+    (omega (arith, a .end, ap length full), subst (λ (y : Item). depth y ≤ mostLevels) (sym same) (i .shallow), full)
+
+-- s begins with the head of an array of n items, the first of them a kind; the next stands at `at`
+pub record Kinded (s : List ℕ) (kind n at : ℕ) : Type 0 where
+  pub bytes : Bytes s
+  pub walked : firstItem 0 s ≡ ItemRead.Ends (length s)
+  pub from : ℕ
+  pub array-width : ℕ
+  pub width : ℕ
+  pub opened : ArrayHead s 0 from n
+  pub lead : Stands s from at (uint width kind)
+  pub close : (e : ℕ) (xs : Items) → n ≡ count xs → StandAll s from e xs → Stands s 0 e (Item.array array-width xs)
+
+-- what stands up to the kind
+pub kind-is : {s : List ℕ} {kind n at : ℕ} → Kinded s kind n at → KindIs s kind at
+kind-is {n = n} k = record { many = n; from = k .from; width = k .width; opened = k .opened; stands = k .lead }
+
+-- items that stand after the kind are the rest of the message
+pub built : {s : List ℕ} {kind n at : ℕ} {m : Message} {bad long : ℕ} → Kinded s kind n at → (e : ℕ) (xs : Items) (msg : Msg)
+    → n ≡ suc (count xs) → StandAll s at e xs → ((w v : ℕ) → MessageItem (Item.array w (Items.more (uint v kind) xs)) msg)
+    → (e ≡ length s → Describes s m msg) → bad ≡ 0 ↔ TextsGood msg → long ≡ 0 ↔ NamesGood msg → ShapeOk s (S.Good m bad long)
+unfolding count
+built {s} {kind} {n} {at} k e xs msg counted stand is describes texts names =
+    let all = k .close e (Items.more (uint (k .width) kind) xs) counted (join (k .lead) stand) in
+    let (end, shallow, full) = whole (k .bytes) (k .walked) all in
+    ShapeOk.good
+    (record {
+      item = Item.array (k .array-width) (Items.more (uint (k .width) kind) xs);
+      msg = msg;
+      bytes = full;
+      good = all .good;
+      shallow = shallow;
+      is = is (k .array-width) (k .width);
+      describes = describes end;
+      texts = texts;
+      names = names;
+    })

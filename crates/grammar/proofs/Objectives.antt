@@ -1,0 +1,241 @@
+-- An objective that is read stands in the message as an item that the CDDL calls this objective (`objective-sound`), and every such item of 8 levels at most
+-- is read, wherever it stands (`objective-complete`), and as this objective (`objective-read`).
+-- Assumes nothing.
+use mathlib.Core.Path.{_≡_, refl, sym, ap₂, _∙_, subst}
+use mathlib.Core.Logic.{_↔_, inr}
+use mathlib.Core.List.{List}
+use mathlib.Core.Bool.{true}
+use mathlib.Core.Option.{Option, none, some}
+use Prim.Native.Nat.{ℕ, suc, _+_, _-_, _≤_, zero-le}
+use native.Mathlib.Nat.{add-assoc}
+use native.Mathlib.Omega.{arith}
+use lib.ListN.{length, drop}
+use lib.Dec.{ltb, eqb}
+use borrow.Author.Tests.{le-ltb, ltb-false, eqb-true, eqb-false, eq-eqb, ne-eqb}
+use Rattle.base.specs.Pick.{pick}
+use Rattle.base.specs.BigEndian.{Bytes}
+use Rattle.base.proofs.Picks.{pick-case}
+use Rattle.base.proofs.Parts.{bytes-drop}
+use Rattle.cbor.specs.declared.token.Token.{Token}
+use Rattle.cbor.specs.Item.{mostLevels}
+use Rattle.cbor.specs.Tree.{Item, Items, count, depth}
+use Rattle.cbor.specs.Token.{tokenAt, sizeAt, itemsIn, upTo}
+use Rattle.cbor.proofs.Tokens.{token-is, token-end}
+use Rattle.options.specs.declared.objective.Objective.{Objective}
+use Rattle.options.specs.declared.objective.ObjectiveRead.{ObjectiveRead}
+use Rattle.options.specs.Text.{spanOf, contentIn, badText}
+use Rattle.options.specs.Objective.{longName, objectiveIn, objectiveAt}
+use Rattle.grammar.specs.Cddl.{uint, text, Obj, ObjectiveItem}
+use Rattle.grammar.specs.Limits.{Utf8, Short}
+use Rattle.grammar.specs.Stands.{Stands, StandAll, ArrayHead, ValueIs, itemsWith, ObjectiveIs}
+use Rattle.grammar.proofs.Bridge.{split, join, none as no-more, none-end, only, last, stands-once, lift, lift-first, sink-first, advances, token-heading, number-token, text-token, array-token}
+use Rattle.grammar.proofs.Pieces.{is-array, array-items, number-is, number-here, text-size, text-at, array-at, array-head, lift-head}
+use Rattle.grammar.proofs.Texts.{bad-text, long-name}
+use Rattle.grammar.proofs.Sizes.{sized-item, item-sized}
+use Rattle.grammar.proofs.One.{objective-one}
+
+-- the objective o, read from p to e of the message m with a name that is a bad text at `bad` or too long at `long`: the item that stands there, and the
+-- objective that it is
+pub record ObjectiveStands (m : List ℕ) (p e : ℕ) (o : Objective) (bad long : ℕ) : Type 0 where
+  pub item : Item
+  pub obj : Obj
+  pub stands : Stands m p e item
+  pub is : ObjectiveItem item obj
+  pub described : ObjectiveIs m p e o obj
+  pub texts : bad ≡ 0 ↔ Utf8 (obj .name)
+  pub names : long ≡ 0 ↔ Short (obj .name)
+
+-- what is answered by the tokens of name, flags and count, with a value of so many bytes
+abbrev answer : ℕ → List ℕ → Token → Token → Token → ℕ → ℕ → ObjectiveRead
+answer base s n f c len size =
+    ObjectiveRead.Got
+    (record {
+      name = spanOf (base + n .body) (n .next - n .body);
+      flags = upTo 15 f;
+      count = upTo 255 c;
+      «count_at» = base + c .at;
+      value = spanOf (base + c .next) len;
+    })
+    size
+    (badText s n (base + n .at))
+    (longName n (base + n .at))
+
+-- ---- sound
+abbrev Sound : List ℕ → ℕ → ObjectiveRead → Type 0
+Sound m base (ObjectiveRead.Bad place) = Unit {0}
+Sound m base (ObjectiveRead.Got o size bad long) = ObjectiveStands m base (base + size) o bad long
+
+sound : (m : List ℕ) (base : ℕ) → base ≤ length m → Bytes m → Sound m base (objectiveAt m base)
+unfolding objectiveIn count
+sound m base low by =
+    pick-case P (eqb (itemsIn a) 0) (λ _. tt)
+    (λ t₁. pick-case P (eqb (n .major) 3)
+    (λ t₂. pick-case P (ltb (a .arg) 3) (λ _. tt)
+    (λ t₃. pick-case P (ltb 4 (a .arg)) (λ _. tt)
+    (λ t₄. pick-case P (ltb 15 (upTo 15 f)) (λ _. tt)
+    (λ t₅. pick-case P (ltb 255 (upTo 255 c)) (λ _. tt)
+    (λ t₆.
+    let few : upTo 15 f ≤ 15 = ltb-false 15 (upTo 15 f) t₅ in
+    let byte : upTo 255 c ≤ 255 = ltb-false 255 (upTo 255 c) t₆ in
+    let made = got (is-array a (eqb-false (itemsIn a) 0 t₁)) (eqb-true (n .major) 3 t₂) few byte in
+    pick-case P (eqb (a .arg) 3)
+    (λ t₇. made 0 (c .next) none Items.done (omega arith) (eqb-true (a .arg) 3 t₇) refl (no-more (token-end s (f .next))) (ValueIs.absent refl) (λ w u v k. ObjectiveItem.bare few byte))
+    (λ t₇. pick-case P (eqb len 0) (λ _. tt)
+    (λ t₈.
+    let value = sized-item s (c .next) bytes (token-end s (f .next)) (eqb-false len 0 t₈) in
+    made len (c .next + len) (some (value .item)) (Items.more (value .item) Items.done) refl (omega (arith, ltb-false (a .arg) 3 t₃, ltb-false 4 (a .arg) t₄, eqb-false (a .arg) 3 t₇)) refl (last (value .stands))
+    (ValueIs.present (subst (λ (e : ℕ). Stands m (base + c .next) e (value .item)) (sym (add-assoc base (c .next) len)) (lift low (value .stands))))
+    (λ w u v k. ObjectiveItem.valued few byte))))))))
+    (λ _. tt))
+  where
+    s : List ℕ
+    s = drop base m
+
+    a : Token
+    a = tokenAt s 0
+
+    n : Token
+    n = tokenAt s (a .next)
+
+    f : Token
+    f = tokenAt s (n .next)
+
+    c : Token
+    c = tokenAt s (f .next)
+
+    len : ℕ
+    len = sizeAt s (c .next)
+
+    P : ObjectiveRead → Type 0
+    P = Sound m base
+
+    bytes : Bytes s
+    bytes = bytes-drop base m by
+
+    -- with a value, or with none: the item of so many items xs after the count
+    got : a .major ≡ 4 → n .major ≡ 3 → upTo 15 f ≤ 15 → upTo 255 c ≤ 255 → (len size : ℕ) (v : Option Item) (xs : Items) → size ≡ c .next + len
+        → a .arg ≡ suc (suc (suc (count xs))) → suc (suc (suc (count xs))) ≡ itemsWith v → StandAll s (c .next) size xs → ValueIs m (spanOf (base + c .next) len) v
+        → ((w u i j : ℕ)
+        → ObjectiveItem (Item.array w (Items.more (text u (contentIn s n)) (Items.more (uint i (upTo 15 f)) (Items.more (uint j (upTo 255 c)) xs))))
+        (record { name = contentIn s n; flags = upTo 15 f; count = upTo 255 c; value = v }))
+        → P (answer base s n f c len size)
+    got array is-text few byte len size v xs sum many counted rest value is =
+        let ha = token-heading s 0 a bytes zero-le refl (omega arith) in
+        let hn = token-heading s (a .next) n bytes (token-end s 0) refl (omega arith) in
+        let (name, long) = text-at hn true is-text bytes in
+        let name-size : n .next - n .body ≡ length (contentIn s n) = text-size hn true is-text ∙ sym long in
+        let flags = number-here 15 f bytes (token-end s (a .next)) refl few in
+        let number = number-here 255 c bytes (token-end s (n .next)) refl byte in
+        let opened : a .next ≡ 1 + ha .width = ha .leaf (inr (omega arith)) ∙ ha .body ∙ omega arith in
+        let at-n : n .at ≡ a .next = token-is s (a .next) n refl .here in
+        let at-c : f .next ≡ c .at = sym (token-is s (f .next) c refl .here) in
+        let far : base + n .at ≡ 0 → ⊥ = (λ z. omega arith) in
+        record {
+          item = _;
+          obj = _;
+          stands = lift-first low (array-at ha array many (join (name .stands) (join (flags .stands) (join (number .stands) rest))));
+          is = is (ha .width) (name .width) (flags .width) (number .width);
+          described =
+              record {
+                name-width = name .width;
+                flags-width = flags .width;
+                count-width = number .width;
+                name-at = base + a .next;
+                flags-at = base + n .next;
+                opened = subst (ArrayHead m base (base + a .next)) (many ∙ counted) (lift-head (array-head ha array));
+                name-item = lift low (name .stands);
+                name = ap₂ spanOf (omega (arith, token-is s (a .next) n refl .start)) name-size;
+                flags-item = subst (λ (k : ℕ). Stands m (base + n .next) (base + k) (uint (flags .width) (upTo 15 f))) at-c (lift low (flags .stands));
+                flags = refl;
+                count-item = subst (λ (k : ℕ). Stands m (base + k) (base + c .next) (uint (number .width) (upTo 255 c))) at-c (lift low (number .stands));
+                count = refl;
+                value = value;
+                ends = omega arith;
+              };
+          texts = bad-text s n (base + n .at) far;
+          names = long-name n (base + n .at) (contentIn s n) far long;
+        }
+
+-- what is read stands there
+pub objective-sound : (m : List ℕ) (base : ℕ) (o : Objective) (size bad long : ℕ) → base ≤ length m → Bytes m
+    → objectiveAt m base ≡ ObjectiveRead.Got o size bad long → ObjectiveStands m base (base + size) o bad long
+objective-sound m base o size bad long low by q = subst (Sound m base) q (sound m base low by)
+
+-- ---- complete
+-- the reader's tests but for the value, over plain tokens
+unfoldable ending : ℕ → List ℕ → ℕ → Token → Token → Token → ObjectiveRead
+ending base s items n f c =
+    pick (eqb items 3) (answer base s n f c 0 (c .next))
+    (pick (eqb (sizeAt s (c .next)) 0) (ObjectiveRead.Bad (base + c .next)) (answer base s n f c (sizeAt s (c .next)) (c .next + sizeAt s (c .next))))
+
+accept : (base : ℕ) (s : List ℕ) (a n f c : Token) → a ≡ tokenAt s 0 → n ≡ tokenAt s (a .next) → f ≡ tokenAt s (n .next) → c ≡ tokenAt s (f .next)
+    → (itemsIn a ≡ 0 → ⊥) → n .major ≡ 3 → 3 ≤ a .arg → a .arg ≤ 4 → upTo 15 f ≤ 15 → upTo 255 c ≤ 255 → objectiveIn base s ≡ ending base s (a .arg) n f c
+unfolding objectiveIn ending pick
+accept base s a n f c ea en ef ec t₁ t₂ t₃ t₄ t₅ t₆ =
+    rw (← ea, ← en, ← ef, ← ec, ne-eqb _ _ t₁, eq-eqb _ _ t₂, le-ltb _ _ t₃, le-ltb _ _ t₄, le-ltb _ _ t₅, le-ltb _ _ t₆)
+
+-- the first three items, and what is left
+record Begun (m : List ℕ) (base e : ℕ) (rest : Items) : Type 0 where
+  n : Token
+  f : Token
+  c : Token
+  read : objectiveAt m base ≡ ending base (drop base m) (suc (suc (suc (count rest)))) n f c
+  left : StandAll (drop base m) (c .next) (e - base) rest
+
+begun : {m : List ℕ} {base e w u i j flags number : ℕ} {name : List ℕ} {rest : Items}
+    → Stands m base e (Item.array w (Items.more (text u name) (Items.more (uint i flags) (Items.more (uint j number) rest))))
+    → flags ≤ 15 → number ≤ 255 → count rest ≤ 1 → Begun m base e rest
+unfolding count
+begun {m} {base} {e} {flags = flags} {number} {name} {rest} st few byte short =
+    let s : List ℕ = drop base m in
+    let top = array-token (sink-first st) in
+    let c₁ = split (top .items) in
+    let c₂ = split (c₁ .rest) in
+    let c₃ = split (c₂ .rest) in
+    let string = text-token (c₁ .first) in
+    let n : Token = record { at = top .body; major = 3; arg = length name; body = string .body; next = c₁ .mid } in
+    let f : Token = record { at = c₁ .mid; major = 0; arg = flags; body = c₂ .mid; next = c₂ .mid } in
+    let c : Token = record { at = c₂ .mid; major = 0; arg = number; body = c₃ .mid; next = c₃ .mid } in
+    record {
+      n = n;
+      f = f;
+      c = c;
+      read =
+          accept base s _ n f c (sym (top .token)) (sym (string .token)) (sym (number-token (c₂ .first))) (sym (number-token (c₃ .first))) (array-items _ _ refl refl) refl
+          (omega arith) (omega arith) (rw (number-is 15 f refl few) few) (rw (number-is 255 c refl byte) byte);
+      left = c₃ .rest;
+    }
+
+ends-bare : (base : ℕ) (s : List ℕ) (n f c : Token) {size : ℕ} → size ≡ c .next → ending base s 3 n f c ≡ answer base s n f c 0 size
+unfolding ending pick
+ends-bare base s n f c e = rw e
+
+ends-valued : (base : ℕ) (s : List ℕ) (n f c : Token) {size : ℕ} → (sizeAt s (c .next) ≡ 0 → ⊥) → size ≡ c .next + sizeAt s (c .next)
+    → ending base s 4 n f c ≡ answer base s n f c (sizeAt s (c .next)) size
+unfolding ending pick
+ends-valued base s n f c has-value e = rw (ne-eqb _ _ has-value, e)
+
+-- an item that is an objective is read
+pub objective-complete : {m : List ℕ} {base e : ℕ} {x : Item} {obj : Obj} → Stands m base e x → depth x ≤ mostLevels → ObjectiveItem x obj
+    → (o : Objective) × (bad : ℕ) × (long : ℕ) × (objectiveAt m base ≡ ObjectiveRead.Got o (e - base) bad long)
+unfolding count depth
+objective-complete {m} {base} {e} st d (ObjectiveItem.bare few byte) =
+    let b = begun st few byte (omega arith) in
+    (_, _, _, b .read ∙ ends-bare base (drop base m) (b .n) (b .f) (b .c) (none-end (b .left)))
+objective-complete {m} {base} {e} st d (ObjectiveItem.valued few byte) =
+    let b = begun st few byte (omega arith) in
+    let value = only (b .left) in
+    let (size, has-value) = item-sized value (omega arith) in
+    (_, _, _, b .read ∙ ends-valued base (drop base m) (b .n) (b .f) (b .c) has-value (omega (arith, advances value)))
+
+-- for readers
+-- and as the objective that it is
+pub objective-read : {m : List ℕ} {base e : ℕ} {x : Item} {obj : Obj} → Stands m base e x → depth x ≤ mostLevels → ObjectiveItem x obj → Bytes m
+    → (o : Objective) × (bad : ℕ) × (long : ℕ) × (objectiveAt m base ≡ ObjectiveRead.Got o (e - base) bad long) × ObjectiveIs m base e o obj × (bad ≡ 0 ↔ Utf8 (obj .name)) × (long ≡ 0 ↔ Short (obj .name))
+objective-read {m} {base} {e} {x} {obj} st d is by =
+    let (o, bad, long, read) = objective-complete st d is in
+    let ahead = advances st in
+    let i = objective-sound m base o (e - base) bad long (omega (arith, st .within)) by read in
+    let same : i .obj ≡ obj = objective-one (rw (stands-once (i .stands) st) at (i .is)) is in
+    let sum : base + (e - base) ≡ e = omega arith in
+    (o, bad, long, read, rw (same, sum) at (i .described), rw same at (i .texts), rw same at (i .names))

@@ -1,0 +1,244 @@
+-- A pair of a Flood that is read stands in the message as an item that the CDDL calls this pair (`pair-sound`), and every such item of 8 levels at most is
+-- read, wherever it stands (`pair-complete`), and as this pair (`pair-read`).
+-- Assumes nothing.
+use mathlib.Core.Path.{_≡_, refl, sym, ap, _∙_, subst}
+use mathlib.Core.Logic.{_↔_}
+use mathlib.Core.List.{List, [], _∷_}
+use mathlib.Core.Bool.{Bool, true, false}
+use mathlib.Core.Option.{Option, none, some}
+use Prim.Native.Nat.{ℕ, _+_, _-_, _≤_, zero-le}
+use native.Mathlib.Omega.{arith}
+use lib.ListN.{length, drop, length-drop}
+use lib.Seq.{drop-drop}
+use lib.Dec.{eqb}
+use borrow.Author.Tests.{eqb-true, eqb-false, eq-eqb, ne-eqb}
+use Rattle.base.specs.Pick.{pick}
+use Rattle.base.specs.BigEndian.{Bytes}
+use Rattle.base.specs.Lists.{Every}
+use Rattle.base.proofs.Picks.{pick-case}
+use Rattle.base.proofs.Parts.{bytes-drop}
+use Rattle.cbor.specs.declared.token.Token.{Token}
+use Rattle.cbor.specs.Item.{mostLevels}
+use Rattle.cbor.specs.Tree.{Item, count, depth}
+use Rattle.cbor.specs.Token.{tokenAt, itemsIn}
+use Rattle.options.specs.declared.locator.Locator.{Locator}
+use Rattle.options.specs.declared.locator.LocatorRead.{LocatorRead}
+use Rattle.options.specs.declared.objective.Objective.{Objective}
+use Rattle.options.specs.declared.objective.ObjectiveRead.{ObjectiveRead}
+use Rattle.options.specs.declared.pair.Tag.{Tag}
+use Rattle.options.specs.declared.pair.PairRead.{PairRead}
+use Rattle.options.specs.Text.{firstOf}
+use Rattle.options.specs.Locator.{locatorIn, locatorAt}
+use Rattle.options.specs.Objective.{objectiveIn, objectiveAt}
+use Rattle.options.specs.Pair.{isEmpty, pairTagged, pairTail, pairLed, pairIn, pairAt}
+use Rattle.grammar.specs.Cddl.{array, Loc, LocatorItem, Obj, ObjectiveItem, PairItem}
+use Rattle.grammar.specs.Limits.{Utf8, Short, tagTexts, pairTexts}
+use Rattle.grammar.specs.Stands.{Stands, ArrayHead, tagOf, ObjectiveIs}
+use Rattle.grammar.proofs.Bridge.{split, join, none as no-more, none-end, only, last, stands-once, lift, lift-first, sink-sized, sink-first, advances, Heading, token-heading, array-token}
+use Rattle.grammar.proofs.Pieces.{both-hold, is-array, array-items, array-at, array-head, lift-head}
+use Rattle.grammar.proofs.Texts.{first-zero}
+use Rattle.grammar.proofs.One.{pair-one}
+use Rattle.grammar.proofs.LocatorParts.{Shape, shape-of}
+use Rattle.grammar.proofs.Locators.{locator-sound, locator-complete}
+use Rattle.grammar.proofs.Objectives.{ObjectiveStands, objective-sound, objective-complete}
+
+-- the pair of o and t, read from p to e of the message m with a bad text at `bad` or a name too long at `long`: the item that stands there, and the pair
+-- that it is
+pub record PairStands (m : List ℕ) (p e : ℕ) (o : Objective) (t : Tag) (bad long : ℕ) : Type 0 where
+  pub item : Item
+  pub pair : Obj × Option Loc
+  pub stands : Stands m p e item
+  pub is : PairItem item pair
+  -- where the objective begins, after the array's head, and where it ends
+  pub at : ℕ
+  pub mid : ℕ
+  pub opened : ArrayHead m p at 2
+  pub objective : ObjectiveIs m at mid o (pair .0)
+  pub tag : tagOf m t ≡ pair .1
+  pub texts : bad ≡ 0 ↔ Every Utf8 (pairTexts pair)
+  pub names : long ≡ 0 ↔ Short (pair .0 .name)
+
+-- ---- sound
+empty-is : (w : Token) → isEmpty w ≡ true → (w .major ≡ 4) × (w .arg ≡ 0)
+unfolding isEmpty
+empty-is w q =
+    let (e, f) = both-hold (eqb (w .major) 4) q in
+    (eqb-true (w .major) 4 e, eqb-true (w .arg) 0 f)
+
+abbrev Sound : List ℕ → ℕ → PairRead → Type 0
+Sound m base (PairRead.Bad place) = Unit {0}
+Sound m base (PairRead.Got o t size bad long) = PairStands m base (base + size) o t bad long
+
+module _ (m : List ℕ) (base : ℕ) (low : base ≤ length m) (by : Bytes m) (a : Token) (ha : Heading (drop base m) 0 a) (major : a .major ≡ 4) where
+  abbrev s : List ℕ
+  s = drop base m
+
+  abbrev P : PairRead → Type 0
+  P = Sound m base
+
+  -- the objective is read: now its tag
+  module _ (two : a .arg ≡ 2) (n : ℕ) (o : Objective) (bad long : ℕ) (i : ObjectiveStands m (base + a .next) (base + a .next + n) o bad long) where
+    abbrev at : ℕ
+    at = a .next + n
+
+    made : (size : ℕ) (y : Item) (t : Tag) (l : Option Loc) (bad′ : ℕ) → Stands s at size y → ((w : ℕ) → PairItem (array w (i .item ∷ y ∷ [])) (i .obj, l)) → tagOf m t ≡ l
+        → bad′ ≡ 0 ↔ (bad ≡ 0) × Every Utf8 (tagTexts l) → P (PairRead.Got o t size bad′ long)
+    unfolding count pairTexts
+    made size y t l bad′ second is tag texts =
+        let (there, back) = i .texts in
+        record {
+          item = _;
+          pair = (i .obj, l);
+          stands = lift-first low (array-at ha major two (join (sink-sized m base (a .next) n (i .stands)) (last second)));
+          is = is (ha .width);
+          at = base + a .next;
+          mid = base + a .next + n;
+          opened = subst (ArrayHead m base (base + a .next)) two (lift-head (array-head ha major));
+          objective = i .described;
+          tag = tag;
+          texts = (λ z. let (x, xs) = texts .0 z in (there x, xs), λ h. texts .1 (back (h .0), h .1));
+          names = i .names;
+        }
+
+    tagged : (r : LocatorRead) → locatorAt m (base + at) ≡ r → P (pairTagged at o bad long r)
+    unfolding pairTagged tagOf tagTexts
+    tagged (LocatorRead.Bad place) q = tt
+    tagged (LocatorRead.Got l size bad′) q =
+        let j = locator-sound m (base + at) l size bad′ (omega (arith, i .stands .within)) by q in
+        let (there, back) = first-zero bad bad′ in
+        made (at + size) (j .item) (Tag.At l) (some (j .loc)) (firstOf bad bad′) (sink-sized m base at size (j .stands)) (λ w. PairItem.tagged (i .is) (j .is))
+        (ap some (j .described))
+        (λ z. let (x, y) = there z in (x, j .texts .0 y), λ h. back (h .0, j .texts .1 (h .1)))
+
+    tailed : P (pairTail base s at o bad long)
+    unfolding pairTail tagOf tagTexts count
+    tailed =
+        pick-case P (isEmpty w)
+        (λ e. let (four, zero) = empty-is w e in
+        let h = token-heading s at w (bytes-drop base m by) (sink-sized m base (a .next) n (i .stands) .within) refl (omega arith) in
+        made (w .next) _ Tag.Empty none bad (array-at h four zero (no-more (h .within))) (λ k. PairItem.untagged (i .is)) refl (λ z. (z, tt), λ z. z .0))
+        (λ _. tagged (locatorIn (base + at) (drop at s)) (ap (locatorIn (base + at)) (sym (drop-drop at base m))))
+      where
+        w : Token
+        w = tokenAt s at
+
+  led : (r : ObjectiveRead) → objectiveAt m (base + a .next) ≡ r → P (pairLed base s (a .arg) (a .next) r)
+  unfolding pairLed
+  led (ObjectiveRead.Bad place) q = tt
+  led (ObjectiveRead.Got o n bad long) q =
+      pick-case P (eqb (a .arg) 2)
+      (λ e. tailed (eqb-true (a .arg) 2 e) n o bad long (objective-sound m (base + a .next) o n bad long (omega (arith, ha .within, length-drop base m)) by q))
+      (λ _. tt)
+
+sound : (m : List ℕ) (base : ℕ) → base ≤ length m → Bytes m → Sound m base (pairAt m base)
+unfolding pairIn
+sound m base low by =
+    pick-case (Sound m base) (eqb (itemsIn a) 0) (λ _. tt)
+    (λ e. let major : a .major ≡ 4 = is-array a (eqb-false (itemsIn a) 0 e) in
+    led m base low by a (token-heading s₀ 0 a (bytes-drop base m by) zero-le refl (omega arith)) major (objectiveIn (base + a .next) (drop (a .next) s₀))
+    (ap (objectiveIn (base + a .next)) (sym (drop-drop (a .next) base m))))
+  where
+    s₀ : List ℕ
+    s₀ = drop base m
+
+    a : Token
+    a = tokenAt s₀ 0
+
+-- what is read stands there
+pub pair-sound : (m : List ℕ) (base : ℕ) (o : Objective) (t : Tag) (size bad long : ℕ) → base ≤ length m → Bytes m
+    → pairAt m base ≡ PairRead.Got o t size bad long → PairStands m base (base + size) o t bad long
+pair-sound m base o t size bad long low by q = subst (Sound m base) q (sound m base low by)
+
+-- ---- complete
+-- the reader's tests, over plain tokens
+accept : (base : ℕ) (s : List ℕ) (a : Token) (r : PairRead) (o : Objective) (size bad long : ℕ) → a ≡ tokenAt s 0 → (itemsIn a ≡ 0 → ⊥) → a .arg ≡ 2
+    → objectiveIn (base + a .next) (drop (a .next) s) ≡ ObjectiveRead.Got o size bad long → pairTail base s (a .next + size) o bad long ≡ r → pairIn base s ≡ r
+unfolding pairIn pairLed pick
+accept base s a r o size bad long ea t₁ t₂ got tail = rw (← ea, ne-eqb _ _ t₁, got, eq-eqb _ _ t₂) tail
+
+empty-tail : (base : ℕ) (s : List ℕ) (at : ℕ) (o : Objective) (bad long : ℕ) (w : Token) {size : ℕ} → w ≡ tokenAt s at → w .major ≡ 4 → w .arg ≡ 0 → size ≡ w .next
+    → pairTail base s at o bad long ≡ PairRead.Got o Tag.Empty size bad long
+unfolding pairTail isEmpty pick
+empty-tail base s at o bad long w ew t₁ t₂ e = rw (← ew, eq-eqb _ _ t₁, eq-eqb _ _ t₂, e)
+
+neither : (t : Bool) → pick t false false ≡ false
+unfolding pick
+neither true = refl
+neither false = refl
+
+tagged-tail : (base : ℕ) (s : List ℕ) (at : ℕ) (o : Objective) (bad long : ℕ) (l : Locator) (n bad′ : ℕ) {size : ℕ} → (tokenAt s at .arg ≡ 0 → ⊥)
+    → locatorIn (base + at) (drop at s) ≡ LocatorRead.Got l n bad′ → size ≡ at + n → pairTail base s at o bad long ≡ PairRead.Got o (Tag.At l) size (firstOf bad bad′) long
+unfolding pairTail pairTagged isEmpty pick
+tagged-tail base s at o bad long l n bad′ some-items got e = rw (ne-eqb _ _ some-items, neither (eqb (tokenAt s at .major) 4), got, e)
+
+-- a locator's array isn't empty
+locator-items : {s : List ℕ} {p e : ℕ} {y : Item} → Stands s p e y → Shape y → tokenAt s p .arg ≡ 0 → ⊥
+unfolding count
+locator-items a (Shape.shape address protocol port) z = omega (arith, z, ap (λ (v : Token). v .arg) (array-token a .token))
+
+-- the objective is read, and the second item stands after it
+record Begun (m : List ℕ) (base e : ℕ) (y : Item) : Type 0 where
+  mid : ℕ
+  objective : Objective
+  bad : ℕ
+  long : ℕ
+  read : (r : PairRead) → pairTail base (drop base m) mid objective bad long ≡ r → pairAt m base ≡ r
+  second : Stands (drop base m) mid (e - base) y
+
+begun : {m : List ℕ} {base e w : ℕ} {x y : Item} {obj : Obj} → Stands m base e (array w (x ∷ y ∷ [])) → depth x ≤ mostLevels → ObjectiveItem x obj → Begun m base e y
+unfolding count
+begun {m} {base} {e} st d is =
+    let s : List ℕ = drop base m in
+    let low : base ≤ length m = omega (arith, st .within, advances st) in
+    let top = array-token (sink-first st) in
+    let c = split (top .items) in
+    let (o, bad, long, got) = objective-complete (lift low (c .first)) d is in
+    let size : ℕ = base + c .mid - (base + top .body) in
+    let sum : top .body + size ≡ c .mid = omega (arith, advances (c .first)) in
+    record {
+      mid = c .mid;
+      objective = o;
+      bad = bad;
+      long = long;
+      read =
+          λ r tail. accept base s _ r o size bad long (sym (top .token)) (array-items _ 1 refl refl) refl (ap (objectiveIn (base + top .body)) (drop-drop (top .body) base m) ∙ got)
+          (ap (λ (k : ℕ). pairTail base s k o bad long) sum ∙ tail);
+      second = only (c .rest);
+    }
+
+abbrev Read : List ℕ → ℕ → ℕ → Type 0
+Read m base e = (o : Objective) × (t : Tag) × (bad : ℕ) × (long : ℕ) × (pairAt m base ≡ PairRead.Got o t (e - base) bad long)
+
+untagged-read : {m : List ℕ} {base e v : ℕ} → Begun m base e (array v []) → Read m base e
+unfolding count
+untagged-read {m} {base} b =
+    let empty = array-token (b .second) in
+    (b .objective, Tag.Empty, b .bad, b .long, b .read _ (empty-tail base (drop base m) (b .mid) _ _ _ _ (sym (empty .token)) refl refl (none-end (empty .items))))
+
+tagged-read : {m : List ℕ} {base e : ℕ} {y : Item} {loc : Loc} → base ≤ length m → Begun m base e y → LocatorItem y loc → Read m base e
+tagged-read {m} {base} {e} low b is =
+    let (l, bad′, got) = locator-complete (lift low (b .second)) is in
+    let n : ℕ = base + (e - base) - (base + b .mid) in
+    let sum : e - base ≡ b .mid + n = omega (arith, advances (b .second)) in
+    let tail = tagged-tail base (drop base m) (b .mid) (b .objective) (b .bad) (b .long) l n bad′ (locator-items (b .second) (shape-of is))
+    (ap (locatorIn (base + b .mid)) (drop-drop (b .mid) base m) ∙ got) sum in
+    (b .objective, Tag.At l, firstOf (b .bad) bad′, b .long, b .read _ tail)
+
+-- an item that is a pair is read
+pub pair-complete : {m : List ℕ} {base e : ℕ} {x : Item} {pair : Obj × Option Loc} → Stands m base e x → depth x ≤ mostLevels → PairItem x pair
+    → (o : Objective) × (t : Tag) × (bad : ℕ) × (long : ℕ) × (pairAt m base ≡ PairRead.Got o t (e - base) bad long)
+unfolding depth
+pair-complete st d (PairItem.untagged is) = untagged-read (begun st (omega arith) is)
+pair-complete st d (PairItem.tagged is loc) = tagged-read (omega (arith, st .within, advances st)) (begun st (omega arith) is) loc
+
+-- for readers
+-- and as the pair that it is
+pub pair-read : {m : List ℕ} {base e : ℕ} {x : Item} {pair : Obj × Option Loc} → Stands m base e x → depth x ≤ mostLevels → PairItem x pair → Bytes m
+    → (o : Objective) × (t : Tag) × (bad : ℕ) × (long : ℕ) × (pairAt m base ≡ PairRead.Got o t (e - base) bad long)
+    × (at : ℕ) × (mid : ℕ) × ArrayHead m base at 2 × ObjectiveIs m at mid o (pair .0) × (tagOf m t ≡ pair .1)
+    × (bad ≡ 0 ↔ Every Utf8 (pairTexts pair)) × (long ≡ 0 ↔ Short (pair .0 .name))
+pair-read {m} {base} {e} {x} {pair} st d is by =
+    let (o, t, bad, long, read) = pair-complete st d is in
+    let i = pair-sound m base o t (e - base) bad long (omega (arith, st .within, advances st)) by read in
+    let same : i .pair ≡ pair = pair-one (rw (stands-once (i .stands) st) at (i .is)) is in
+    (o, t, bad, long, read, i .at, i .mid, i .opened, rw same at (i .objective), rw same at (i .tag), rw same at (i .texts), rw same at (i .names))

@@ -1,0 +1,159 @@
+-- Items that stand where tokens were read, by what the readers test of a token.
+-- Assumes nothing.
+use mathlib.Core.Path.{_≡_, refl, sym, ap, _∙_, subst}
+use mathlib.Core.Logic.{_⊎_, inl, inr}
+use mathlib.Core.List.{List, _++_, append-assoc}
+use mathlib.Core.Bool.{Bool, true, false, cond}
+use Prim.Native.Nat.{ℕ, suc, _+_, _-_, _≤_, _<_}
+use native.Mathlib.Omega.{arith}
+use lib.ListN.{length, take, drop, length-append, length-drop, take-append-drop}
+use lib.Seq.{drop-drop, length-take-le}
+use lib.Dec.{leb, eqb, lit<, lit≤}
+use borrow.Author.Tests.{eqb-true, eq-eqb, le-leb}
+use Rattle.base.specs.Pick.{pick}
+use Rattle.base.specs.BigEndian.{Bytes}
+use Rattle.base.proofs.Picks.{pick-case}
+use Rattle.base.proofs.Parts.{bytes-drop, bytes-take}
+use Rattle.cbor.specs.declared.token.Token.{Token}
+use Rattle.cbor.specs.Tree.{Item, Items, headBytes, Right, count, encode, encodes, Good}
+use Rattle.cbor.specs.Token.{tokenAt, itemsIn, upTo}
+use Rattle.cbor.proofs.HeadExact.{length-head}
+use Rattle.options.specs.Text.{contentIn}
+use Rattle.grammar.specs.Stands.{Stands, StandAll, ArrayHead}
+use Rattle.grammar.proofs.Bridge.{Heading, token-heading, string-major}
+
+-- ---- choices
+-- a choice that isn't the second is the first
+pub kept : {A : Type 0} (t : Bool) {x y z : A} → pick t x y ≡ z → (y ≡ z → ⊥) → (t ≡ true) × (x ≡ z)
+unfolding pick
+kept true q no-second = (refl, q)
+kept false q no-second = absurd (no-second q)
+
+-- of two tests both hold
+pub both-hold : (t : Bool) {u : Bool} → pick t u false ≡ true → (t ≡ true) × (u ≡ true)
+both-hold t q = kept t q (λ e. let z : _≡_ {A = ℕ} 0 1 = cc in omega arith)
+
+-- ---- numbers of a token
+-- items are of an array
+pub is-array : (w : Token) → (itemsIn w ≡ 0 → ⊥) → w .major ≡ 4
+unfolding itemsIn
+is-array w = pick-case (λ n. (n ≡ 0 → ⊥) → w .major ≡ 4) (eqb (w .major) 4) (λ e _. eqb-true (w .major) 4 e) (λ e n. absurd (n refl))
+
+-- and an array that has items has them
+pub array-items : (w : Token) (n : ℕ) → w .major ≡ 4 → w .arg ≡ suc n → itemsIn w ≡ 0 → ⊥
+unfolding itemsIn pick
+array-items w n e f z = let y : w .arg ≡ 0 = rw (eq-eqb _ _ e) at z in omega arith
+
+-- a number within its limit, and back
+pub is-number : (limit : ℕ) (w : Token) → upTo limit w ≤ limit → (w .major ≡ 0) × (upTo limit w ≡ w .arg)
+unfolding upTo
+is-number limit w =
+    pick-case by (eqb (w .major) 0)
+    (λ e. pick-case by (leb (w .arg) limit) (λ _ _. (eqb-true (w .major) 0 e, refl)) (λ _ h. absurd (omega arith)))
+    (λ e h. absurd (omega arith))
+  where
+    by : ℕ → Type 0
+    by n = n ≤ limit → (w .major ≡ 0) × (n ≡ w .arg)
+
+pub number-is : (limit : ℕ) (w : Token) → w .major ≡ 0 → w .arg ≤ limit → upTo limit w ≡ w .arg
+unfolding upTo pick
+number-is limit w e h = rw (eq-eqb (w .major) 0 e, le-leb (w .arg) limit h)
+
+-- ---- items
+-- an item of some width
+pub record Some (s : List ℕ) (p e : ℕ) (f : ℕ → Item) : Type 0 where
+  pub width : ℕ
+  pub stands : Stands s p e (f width)
+
+-- an item with what it is
+pub record Is (s : List ℕ) (p e : ℕ) (P : Item → Type 0) : Type 0 where
+  pub item : Item
+  pub stands : Stands s p e item
+  pub is : P item
+
+module _ {s : List ℕ} {p : ℕ} {w : Token} (h : Heading s p w) where
+  -- a head alone is the whole item
+  alone : (m : ℕ) (x : Item) → w .major ≡ m → (m < 2) ⊎ (4 ≤ m) → (Right m (h .width) (w .arg) → Good x) → encode x ≡ headBytes m (h .width) (w .arg) → Stands s p (w .next) x
+  alone m x e either good is =
+      let next : w .next ≡ w .body = h .leaf (subst (λ (k : ℕ). (k < 2) ⊎ (4 ≤ k)) (sym e) either) in
+      record {
+        good = good (rw e at (h .right));
+        is = rw (is, next, ← e) (h .head);
+        end = next ∙ h .body ∙ ap (λ (k : ℕ). p + k) (sym (ap length is ∙ length-head m (h .width) (w .arg)));
+        within = h .within;
+      }
+
+  -- an unsigned number
+  pub number-at : w .major ≡ 0 → Some s p (w .next) (λ n. Item.number false n (w .arg))
+  unfolding encode
+  number-at e = record { width = h .width; stands = alone 0 (Item.number false (h .width) (w .arg)) e (inl (lit< tt)) (λ r. r) refl }
+
+  -- null
+  pub null-at : w .major ≡ 7 → w .arg ≡ 22 → h .width ≡ 0 → Stands s p (w .next) (Item.simple 0 22)
+  unfolding encode
+  null-at e a z = alone 7 (Item.simple 0 22) e (inr (lit≤ tt)) (λ r. rw (z, a) at r) (rw (z, a))
+
+  -- a string's content is as long as its head says
+  pub text-size : (t : Bool) → w .major ≡ cond t 3 2 → w .next - w .body ≡ w .arg
+  text-size t e =
+      let (low, high) = string-major t in
+      omega (arith, h .string (rw e low) (rw e high))
+
+  -- a string
+  pub text-at : (t : Bool) → w .major ≡ cond t 3 2 → Bytes s → Some s p (w .next) (λ n. Item.string t n (contentIn s w)) × (length (contentIn s w) ≡ w .arg)
+  unfolding encode
+  text-at t e b =
+      let (low, high) = string-major t in
+      let next : w .next ≡ w .body + w .arg = h .string (rw e low) (rw e high) in
+      let size = text-size t e in
+      let left : w .arg ≤ length (drop (w .body) s) = omega (arith, length-drop (w .body) s, h .within) in
+      let bs : List ℕ = contentIn s w in
+      let long : length bs ≡ w .arg = rw size (length-take-le (w .arg) (drop (w .body) s) left) in
+      let front : List ℕ = headBytes (cond t 3 2) (h .width) (length bs) in
+      let rest : drop (w .body) s ≡ bs ++ drop (w .next) s =
+      rw (size, next) (sym (take-append-drop (w .arg) (drop (w .body) s)) ∙ ap (λ (r : List ℕ). take (w .arg) (drop (w .body) s) ++ r) (drop-drop (w .arg) (w .body) s)) in
+      let head : drop p s ≡ front ++ drop (w .body) s = rw (long, ← e) (h .head) in (
+        record {
+          width = h .width;
+          stands =
+              record {
+                good = (rw (long, ← e) (h .right), rw size (bytes-take (w .arg) (drop (w .body) s) left (bytes-drop (w .body) s b)));
+                is = head ∙ ap (λ (r : List ℕ). front ++ r) rest ∙ sym (append-assoc front bs (drop (w .next) s));
+                end = omega (arith, next, h .body, long, length-append front bs, length-head (cond t 3 2) (h .width) (length bs));
+                within = h .within;
+              };
+        },
+        long,
+      )
+
+  -- an array, with the items that stand after its head
+  pub array-at : {e : ℕ} {xs : Items} → w .major ≡ 4 → w .arg ≡ count xs → StandAll s (w .next) e xs → Stands s p e (Item.array (h .width) xs)
+  unfolding encode
+  array-at {e} {xs} m c a =
+      let next : w .next ≡ w .body = h .leaf (inr (rw m (lit≤ tt))) in
+      let front : List ℕ = headBytes 4 (h .width) (count xs) in
+      let head : drop p s ≡ front ++ drop (w .next) s = rw (next, ← m, ← c) (h .head) in
+      record {
+        good = (rw (← m, ← c) (h .right), a .good);
+        is = head ∙ ap (λ (r : List ℕ). front ++ r) (a .is) ∙ sym (append-assoc front (encodes xs) (drop e s));
+        end = omega (arith, next, h .body, a .end, length-append front (encodes xs), length-head 4 (h .width) (count xs));
+        within = a .within;
+      }
+
+-- a number within its limit
+pub number-here : (limit : ℕ) {s : List ℕ} {p : ℕ} (w : Token) → Bytes s → p ≤ length s → w ≡ tokenAt s p → upTo limit w ≤ limit
+    → Some s p (w .next) (λ k. Item.number false k (upTo limit w))
+number-here limit {s} {p} w b low e h =
+    let (number, same) = is-number limit w h in
+    subst (λ (v : ℕ). Some s p (w .next) (λ k. Item.number false k v)) (sym same) (number-at (token-heading s p w b low e (omega arith)) number)
+
+-- the head of an array
+pub array-head : {s : List ℕ} {p : ℕ} {a : Token} → Heading s p a → a .major ≡ 4 → ArrayHead s p (a .next) (a .arg)
+array-head {a = a} h four =
+    let next : a .next ≡ a .body = h .leaf (inr (rw four (lit≤ tt))) in
+    record { width = h .width; right = rw four at (h .right); is = rw (next, ← four) (h .head); end = omega (arith, h .body, length-head 4 (h .width) (a .arg)) }
+
+-- of the part of a message that begins with it
+pub lift-head : {m : List ℕ} {base q n : ℕ} → ArrayHead (drop base m) 0 q n → ArrayHead m base (base + q) n
+lift-head {m} {base} {q} {n} a =
+    record { width = a .width; right = a .right; is = a .is ∙ ap (λ (r : List ℕ). headBytes 4 (a .width) n ++ r) (drop-drop q base m); end = omega (arith, a .end) }

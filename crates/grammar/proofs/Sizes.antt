@@ -1,0 +1,51 @@
+-- An item of any sort, passed over by its size.
+-- Assumes nothing.
+use mathlib.Core.Path.{_≡_, refl, sym, ap, ap₂, _∙_}
+use mathlib.Core.List.{List, _++_}
+use Prim.Native.Nat.{ℕ, _+_, _-_, _≤_}
+use native.Mathlib.Omega.{arith}
+use lib.ListN.{length, drop, length-drop, take-append-drop}
+use lib.Seq.{drop-drop, length-take-le}
+use Rattle.base.specs.BigEndian.{Bytes}
+use Rattle.base.proofs.Parts.{bytes-drop}
+use Rattle.cbor.specs.declared.item.ItemRead.{ItemRead}
+use Rattle.cbor.specs.Item.{firstItem, mostLevels}
+use Rattle.cbor.specs.Token.{sizeFrom, sizeAt}
+use Rattle.cbor.specs.Tree.{Item, depth, encode}
+use Rattle.cbor.proofs.Exact.{item-exact}
+use Rattle.cbor.proofs.Accepts.{item-accepts}
+use Rattle.grammar.specs.Stands.{Stands}
+use Rattle.grammar.proofs.Bridge.{advances}
+use Rattle.grammar.proofs.Pieces.{Is}
+
+size-ends : (x : ItemRead) → (sizeFrom x ≡ 0 → ⊥) → x ≡ ItemRead.Ends (sizeFrom x)
+unfolding sizeFrom
+size-ends (ItemRead.Refused number place) some = absurd (some refl)
+size-ends (ItemRead.Ends end) some = refl
+
+-- where a size is read, an item stands
+pub sized-item : (s : List ℕ) (p : ℕ) → Bytes s → p ≤ length s → (sizeAt s p ≡ 0 → ⊥) → Is s p (p + sizeAt s p) (λ x. depth x ≤ mostLevels)
+unfolding sizeAt
+sized-item s p b low some =
+    let n : ℕ = sizeFrom (firstItem 0 (drop p s)) in
+    let i = item-exact 0 (drop p s) n (bytes-drop p s b) (size-ends (firstItem 0 (drop p s)) some) in
+    let long : length (encode (i .item)) ≡ n = ap length (sym (i .bytes)) ∙ length-take-le n (drop p s) (i .within) in
+    record {
+      item = i .item;
+      stands =
+          record {
+            good = i .good;
+            is = sym (take-append-drop n (drop p s)) ∙ ap₂ (λ (h r : List ℕ). h ++ r) (i .bytes) (drop-drop n p s);
+            end = ap (λ (k : ℕ). p + k) (sym long);
+            within = omega (arith, i .within, length-drop p s);
+          };
+      is = i .shallow;
+    }
+
+-- where an item stands, its size is read
+pub item-sized : {s : List ℕ} {p e : ℕ} {x : Item} → Stands s p e x → depth x ≤ mostLevels → (sizeAt s p ≡ e - p) × (sizeAt s p ≡ 0 → ⊥)
+unfolding sizeAt sizeFrom
+item-sized {s} {p} {e} {x} a d =
+    let size : sizeFrom (firstItem 0 (drop p s)) ≡ length (encode x) =
+    ap (λ (r : List ℕ). sizeFrom (firstItem 0 r)) (a .is) ∙ ap sizeFrom (item-accepts 0 x (drop e s) (a .good) d) in
+    (omega (arith, a .end, size), λ z. omega (arith, size, a .end, advances a))

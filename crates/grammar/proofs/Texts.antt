@@ -1,0 +1,42 @@
+-- The places of bad texts and long names, where 0 is none.
+-- Assumes nothing.
+use mathlib.Core.Path.{_≡_, refl, sym, _∙_}
+use mathlib.Core.Logic.{_↔_}
+use mathlib.Core.List.{List}
+use mathlib.Core.Bool.{Bool, true, false}
+use Prim.Native.Nat.{ℕ}
+use native.Mathlib.Omega.{arith}
+use lib.ListN.{length}
+use lib.Dec.{ltb, eqb}
+use borrow.Author.Tests.{ltb-true, ltb-false, eqb-true, eqb-false}
+use Rattle.base.specs.Pick.{pick}
+use Rattle.base.proofs.Picks.{pick-case}
+use Rattle.cbor.specs.declared.token.Token.{Token}
+use Rattle.cbor.specs.Utf8.{isUtf8}
+use Rattle.options.specs.Text.{contentIn, badText, firstOf}
+use Rattle.options.specs.Objective.{mostName, longName}
+use Rattle.grammar.specs.Limits.{Utf8, Short}
+
+-- a text's place isn't given exactly where the text is UTF-8
+pub bad-text : (s : List ℕ) (w : Token) (place : ℕ) → (place ≡ 0 → ⊥) → badText s w place ≡ 0 ↔ Utf8 (contentIn s w)
+unfolding badText
+bad-text s w place some = by (isUtf8 (contentIn s w))
+  where
+    by : (t : Bool) → pick t 0 place ≡ 0 ↔ t ≡ true
+    by t = pick-case (λ n. n ≡ 0 ↔ t ≡ true) t (λ e. (λ _. e, λ _. refl)) (λ e. (λ z. absurd (some z), λ f. absurd (let z : _≡_ {A = Bool} false true = sym e ∙ f in let y : _≡_ {A = ℕ} 0 1 = cc in omega arith)))
+
+-- a name's place isn't given exactly where the name is short
+pub long-name : (w : Token) (place : ℕ) (name : List ℕ) → (place ≡ 0 → ⊥) → length name ≡ w .arg → longName w place ≡ 0 ↔ Short name
+unfolding longName
+long-name w place name some long =
+    pick-case (λ n. n ≡ 0 ↔ Short name) (ltb mostName (w .arg))
+    (λ e. (λ z. absurd (some z), λ short. absurd (omega (arith, ltb-true mostName (w .arg) e))))
+    (λ e. (λ _. omega (arith, ltb-false mostName (w .arg) e), λ _. refl))
+
+-- two have no place where neither has one
+pub first-zero : (a b : ℕ) → firstOf a b ≡ 0 ↔ (a ≡ 0) × (b ≡ 0)
+unfolding firstOf
+first-zero a b =
+    pick-case (λ n. n ≡ 0 ↔ (a ≡ 0) × (b ≡ 0)) (eqb a 0)
+    (λ e. (λ z. (eqb-true a 0 e, z), λ z. z .1))
+    (λ e. (λ z. absurd (eqb-false a 0 e z), λ z. z .0))

@@ -1,0 +1,81 @@
+-- What was read, as numbers in fixed places (`include/grasp.h` names them).
+use Prim.Native.Nat.{ℕ}
+use mathlib.Core.List.{List, [], _∷_, _++_}
+use lib.ListN.{replicate, getD}
+use lib.Seq.{sets}
+use Rattle.options.specs.declared.Span.{Span}
+use Rattle.options.specs.declared.locator.Locator.{Locator}
+use Rattle.options.specs.declared.locator.Locator.the-variants as L
+use Rattle.options.specs.declared.objective.Objective.{Objective}
+use Rattle.options.specs.declared.pair.Tag.{Tag}
+use Rattle.options.specs.Text.{spanOf}
+use Rattle.message.specs.declared.Series.{Series}
+use Rattle.message.specs.declared.Targets.{Targets}
+use Rattle.message.specs.declared.Extra.{Extra}
+use Rattle.message.specs.declared.Outcome.{Outcome}
+use Rattle.message.specs.declared.Message.{Message}
+use Rattle.message.specs.declared.Message.the-variants as M
+
+-- an objective's seven numbers
+abbrev pub objectiveNumbers : Objective → List ℕ
+objectiveNumbers o = o .name .at ∷ o .name .len ∷ o .flags ∷ o .count ∷ o .«count_at» ∷ o .value .at ∷ o .value .len ∷ []
+
+-- places 0 to 4: kind, session, initiator, ttl or waiting time
+unfoldable pub openedBlock : ℕ → ℕ → Span → ℕ → List ℕ
+openedBlock kind session initiator ttl = kind ∷ session ∷ initiator .at ∷ initiator .len ∷ ttl ∷ replicate 14 0
+
+-- places 5 to 12: an objective
+unfoldable pub withObjective : List ℕ → Objective → List ℕ
+withObjective b o = sets b 5 (1 ∷ objectiveNumbers o)
+
+unfoldable pub withExtra : List ℕ → Extra → List ℕ
+withExtra b Extra.Without = b
+withExtra b (Extra.With o) = withObjective b o
+
+-- places 13 to 15: locators (1), a divert (2), pairs (3)
+unfoldable pub withSeries : List ℕ → ℕ → Series → List ℕ
+withSeries b sort series = sets b 13 (sort ∷ series .at ∷ series .many ∷ [])
+
+unfoldable pub targetsBlock : List ℕ → Targets → List ℕ
+targetsBlock b (Targets.Locators series) = withSeries b 1 series
+targetsBlock b (Targets.Divert series) = withSeries b 2 series
+
+-- places 16 to 18: accept (1), decline (2), decline with a reason (3); the reason, or Invalid's item
+unfoldable pub withSpan : List ℕ → ℕ → Span → List ℕ
+withSpan b sort span = sets b 16 (sort ∷ span .at ∷ span .len ∷ [])
+
+unfoldable pub outcomeBlock : List ℕ → Outcome → List ℕ
+outcomeBlock b Outcome.Accept = withSpan b 1 (spanOf 0 0)
+outcomeBlock b Outcome.Decline = withSpan b 2 (spanOf 0 0)
+outcomeBlock b (Outcome.Reason reason) = withSpan b 3 reason
+
+unfoldable pub blockOf : Message → List ℕ
+blockOf M.Noop = openedBlock 0 0 (spanOf 0 0) 0
+blockOf (M.Discovery session initiator o) = withObjective (openedBlock 1 session initiator 0) o
+blockOf (M.Response session initiator ttl targets extra) = targetsBlock (withExtra (openedBlock 2 session initiator ttl) extra) targets
+blockOf (M.RequestNegotiation session o) = withObjective (openedBlock 3 session (spanOf 0 0) 0) o
+blockOf (M.RequestSynchronization session o) = withObjective (openedBlock 4 session (spanOf 0 0) 0) o
+blockOf (M.Negotiate session o) = withObjective (openedBlock 5 session (spanOf 0 0) 0) o
+blockOf (M.End session outcome) = outcomeBlock (openedBlock 6 session (spanOf 0 0) 0) outcome
+blockOf (M.Wait session time) = openedBlock 7 session (spanOf 0 0) time
+blockOf (M.Synch session o) = withObjective (openedBlock 8 session (spanOf 0 0) 0) o
+blockOf (M.Flood session initiator ttl first pairs) = withSeries (withObjective (openedBlock 9 session initiator ttl) first) 3 pairs
+blockOf (M.Invalid session item) = withSpan (openedBlock 99 session (spanOf 0 0) 0) 0 item
+
+-- a locator's five numbers
+unfoldable pub locatorBlock : Locator → List ℕ
+locatorBlock (L.V6 at protocol port) = 103 ∷ at ∷ 16 ∷ protocol ∷ port ∷ []
+locatorBlock (L.V4 at protocol port) = 104 ∷ at ∷ 4 ∷ protocol ∷ port ∷ []
+locatorBlock (L.Domain name protocol port) = 105 ∷ name .at ∷ name .len ∷ protocol ∷ port ∷ []
+locatorBlock (L.Uri uri protocol port) = 106 ∷ uri .at ∷ uri .len ∷ protocol ∷ port ∷ []
+
+unfoldable pub tagBlock : Tag → List ℕ
+tagBlock Tag.Empty = replicate 5 0
+tagBlock (Tag.At l) = locatorBlock l
+
+-- a pair's twelve numbers: its objective's, then its tag's
+abbrev pub five : List ℕ → List ℕ
+five t = getD t 0 0 ∷ getD t 1 0 ∷ getD t 2 0 ∷ getD t 3 0 ∷ getD t 4 0 ∷ []
+
+unfoldable pub pairBlock : Objective → Tag → List ℕ
+pairBlock o tag = objectiveNumbers o ++ five (tagBlock tag)

@@ -1,0 +1,56 @@
+-- What the exported readers answer and leave.
+use Prim.Native.Nat.{ℕ, _+_}
+use mathlib.Core.List.{List}
+use Rattle.options.specs.declared.locator.LocatorRead.{LocatorRead}
+use Rattle.options.specs.declared.pair.PairRead.{PairRead}
+use Rattle.options.specs.Locator.{locatorAt}
+use Rattle.options.specs.Pair.{pairAt}
+use Rattle.message.specs.declared.Reading.{Reading}
+use Rattle.message.specs.Read.{readOf}
+use Rattle.grasp.specs.Block.{blockOf, locatorBlock, pairBlock}
+
+-- 0 for a message, or the number of the refusal
+unfoldable pub numberFrom : Reading → ℕ
+numberFrom (Reading.Refused number) = number
+numberFrom (Reading.Read m) = 0
+
+-- the message's block, or what was there
+unfoldable pub blockFrom : Reading → List ℕ → List ℕ
+blockFrom (Reading.Refused number) fields = fields
+blockFrom (Reading.Read m) fields = blockOf m
+
+unfoldable pub readNumber : List ℕ → ℕ
+readNumber s = numberFrom (readOf s)
+
+unfoldable pub readBlock : List ℕ → List ℕ → List ℕ
+readBlock s fields = blockFrom (readOf s) fields
+
+-- the place after a locator, 0 where none is there
+unfoldable pub locatorEndFrom : ℕ → LocatorRead → ℕ
+locatorEndFrom at (LocatorRead.Bad place) = 0
+locatorEndFrom at (LocatorRead.Got l size bad) = at + size
+
+unfoldable pub locatorFrom : LocatorRead → List ℕ → List ℕ
+locatorFrom (LocatorRead.Bad place) fields = fields
+locatorFrom (LocatorRead.Got l size bad) fields = locatorBlock l
+
+unfoldable pub locatorEnd : List ℕ → ℕ → ℕ
+locatorEnd s at = locatorEndFrom at (locatorAt s at)
+
+unfoldable pub locatorAfter : List ℕ → ℕ → List ℕ → List ℕ
+locatorAfter s at fields = locatorFrom (locatorAt s at) fields
+
+-- the place after a pair, 0 where none is there
+unfoldable pub pairEndFrom : ℕ → PairRead → ℕ
+pairEndFrom at (PairRead.Bad place) = 0
+pairEndFrom at (PairRead.Got o tag size bad long) = at + size
+
+unfoldable pub pairFrom : PairRead → List ℕ → List ℕ
+pairFrom (PairRead.Bad place) fields = fields
+pairFrom (PairRead.Got o tag size bad long) fields = pairBlock o tag
+
+unfoldable pub pairEnd : List ℕ → ℕ → ℕ
+pairEnd s at = pairEndFrom at (pairAt s at)
+
+unfoldable pub pairAfter : List ℕ → ℕ → List ℕ → List ℕ
+pairAfter s at fields = pairFrom (pairAt s at) fields

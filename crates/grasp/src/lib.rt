@@ -1,0 +1,4 @@
+// The C surface of Copperladle, built as `libgrasp.a`; `include/grasp.h` documents it. Functions take numbers and byte slices, keep nothing, and
+// answer every argument.
+pub mod block;
+pub mod reading;

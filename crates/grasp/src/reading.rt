@@ -1,0 +1,65 @@
+// Reading, for C.
+ghost use mathlib.Core.Path.{_≡_};
+ghost use Rattle.grasp.specs.Reading.{readNumber, readBlock, locatorEnd, locatorAfter, pairEnd, pairAfter};
+use crate::block;
+use message::Reading;
+use options::locator::LocatorRead;
+use options::pair::PairRead;
+
+// 0 and the message's block, or the number of the refusal and the block as it was.
+#[no_mangle]
+pub extern "C" fn grasp_read(bytes: &[u8], fields: &mut [u64; 19]) -> u8
+    ensures { λ r. ⌜ r ≡ readNumber (now (bytes .entry)) ⌝ }
+    ensures { λ r. ⌜ now (fields .exit) ≡ readBlock (now (bytes .entry)) (now (fields .entry)) ⌝ }
+{
+    let reading = message::read(bytes);
+    match reading {
+        Reading::Refused(number) => number,
+        Reading::Read(m) => {
+            *fields = block::block_of(m);
+            0
+        }
+    }
+}
+
+// The place after the locator at `at` and its block, or 0 and the block as it was where no locator is there.
+#[no_mangle]
+pub extern "C" fn grasp_locator(bytes: &[u8], at: usize, fields: &mut [u64; 5]) -> usize
+    ensures { λ r. ⌜ r ≡ locatorEnd (now (bytes .entry)) at ⌝ }
+    ensures { λ r. ⌜ now (fields .exit) ≡ locatorAfter (now (bytes .entry)) at (now (fields .entry)) ⌝ }
+{
+    let read = options::locator::read_at(bytes, at);
+    match read {
+        LocatorRead::Bad(_) => 0,
+        LocatorRead::Got {
+            locator,
+            size,
+            bad: _,
+        } => {
+            *fields = block::locator_block(locator);
+            at + size
+        }
+    }
+}
+
+// The place after the pair at `at` and its block, or 0 and the block as it was where no pair is there.
+#[no_mangle]
+pub extern "C" fn grasp_pair(bytes: &[u8], at: usize, fields: &mut [u64; 12]) -> usize
+    ensures { λ r. ⌜ r ≡ pairEnd (now (bytes .entry)) at ⌝ }
+    ensures { λ r. ⌜ now (fields .exit) ≡ pairAfter (now (bytes .entry)) at (now (fields .entry)) ⌝ }
+{
+    let read = options::pair::read_at(bytes, at);
+    match read {
+        PairRead::Bad(_) => 0,
+        PairRead::Got {
+            objective,
+            tag,
+            size,
+            bad: _,
+            long: _,
+        } => {
+            *fields = block::pair_block(objective, tag);
+            at + size
+        }
+    }
+}

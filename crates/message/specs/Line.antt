@@ -1,0 +1,36 @@
+-- What the program `read_message` prints: `kind 0` or `refused 7`, and a line feed.
+use Prim.Native.Nat.{ℕ, _+_, _/_, _%_}
+use mathlib.Core.List.{List, [], _∷_, _++_}
+use lib.ListN.{length, take, replicate}
+use lib.Dec.{ltb}
+use Rattle.base.specs.Pick.{pick}
+use Rattle.message.specs.declared.line.Line.{Line}
+use Rattle.message.specs.declared.Reading.{Reading}
+use Rattle.message.specs.Fields.{kindOf}
+use Rattle.message.specs.Read.{readOf}
+
+-- a number below 1,000 in decimal, without leading zeros
+unfoldable pub decimal : ℕ → List ℕ
+decimal n =
+    pick (ltb n 10) ((48 + n % 10) ∷ [])
+    (pick (ltb n 100) ((48 + n / 10 % 10) ∷ (48 + n % 10) ∷ [])
+    ((48 + n / 100) ∷ (48 + n / 10 % 10) ∷ (48 + n % 10) ∷ []))
+
+-- a text of at most 12 bytes
+unfoldable pub padded : List ℕ → Line
+padded text = record { bytes = take 12 (text ++ replicate 12 0); len = length text }
+
+-- `kind `, the number, and a line feed
+unfoldable pub kindLine : ℕ → Line
+kindLine n = padded ((107 ∷ 105 ∷ 110 ∷ 100 ∷ 32 ∷ []) ++ decimal n ++ (10 ∷ []))
+
+-- `refused `, the number, and a line feed
+unfoldable pub refusedLine : ℕ → Line
+refusedLine n = padded ((114 ∷ 101 ∷ 102 ∷ 117 ∷ 115 ∷ 101 ∷ 100 ∷ 32 ∷ []) ++ decimal n ++ (10 ∷ []))
+
+unfoldable pub lineFrom : Reading → Line
+lineFrom (Reading.Refused number) = refusedLine number
+lineFrom (Reading.Read m) = kindLine (kindOf m)
+
+unfoldable pub lineOf : List ℕ → Line
+lineOf s = lineFrom (readOf s)

@@ -1,0 +1,57 @@
+-- `message_vectors::main` meets its contract.
+-- Assumes nothing.
+use Prim.Native.Nat.{_-_, _≤_}
+use borrow.Author.Needs.{needs}
+use Rattle.message_vectors.proofs.main.Statement.{statement}
+use Rattle.message_vectors.proofs.main.Tie as tie
+use Rattle.message_vectors.proofs.main.Reads as reads
+use Rattle.message_vectors.proofs.main.Lts as lts
+use Rattle.message_vectors.proofs.run_next.Reads as run-next-reads
+
+abbrev Inv-loop : tie.InvT-loop
+Inv-loop counter₀ counter = counter ≤ 1000000
+
+abbrev μ-loop : tie.MeasureT-loop
+μ-loop counter₀ counter = 1000000 - counter
+
+-- src/main.rt:19:5
+loop-holds : tie.Need-loop-holds Inv-loop μ-loop
+loop-holds c = search needs
+
+-- src/main.rt:20:13
+run-next-requires : tie.Need-run-next-requires Inv-loop μ-loop
+run-next-requires c κs = search needs
+
+-- src/main.rt:21:13
+returns : tie.Need-returns Inv-loop μ-loop
+returns c = search needs
+
+-- src/main.rt:19:9
+add-counter : tie.Need-add-counter Inv-loop μ-loop
+add-counter c = search needs
+
+-- src/main.rt:19:5
+loop-less : tie.Need-loop-less Inv-loop μ-loop
+loop-less c = search needs
+
+-- src/main.rt:19:5
+loop-again : tie.Need-loop-again Inv-loop μ-loop
+loop-again c = search needs
+
+-- src/main.rt:18:1
+returns-2 : tie.Need-returns-2 Inv-loop μ-loop
+returns-2 c = search needs
+
+pub main-spec : {M : Type 1} → statement M
+main-spec =
+    tie.close
+    (tie.spec
+    Inv-loop
+    μ-loop
+    loop-holds
+    run-next-requires
+    returns
+    add-counter
+    loop-less
+    loop-again
+    returns-2)

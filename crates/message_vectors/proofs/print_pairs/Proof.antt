@@ -1,0 +1,52 @@
+-- `message_vectors::print_pairs` meets its contract.
+-- Assumes nothing.
+use Prim.Native.Nat.{_-_, _≤_}
+use borrow.Author.Needs.{needs}
+use Rattle.message_vectors.proofs.print_pairs.Statement.{statement}
+use Rattle.message_vectors.proofs.print_pairs.Tie as tie
+use Rattle.message_vectors.proofs.print_pairs.Reads as reads
+use Rattle.message_vectors.proofs.print_pairs.Lts as lts
+use Rattle.message_vectors.proofs.print_pair_at.Reads as print-pair-at-reads
+
+abbrev Inv-loop : tie.InvT-loop
+Inv-loop s at₀ many counter₀ at counter = counter ≤ many
+
+abbrev μ-loop : tie.MeasureT-loop
+μ-loop s at₀ many counter₀ at counter = many - counter
+
+-- src/main.rt:270:5
+loop-holds : tie.Need-loop-holds Inv-loop μ-loop
+loop-holds c = search needs
+
+-- src/main.rt:271:9
+print-pair-at-requires : tie.Need-print-pair-at-requires Inv-loop μ-loop
+print-pair-at-requires c κs = search needs
+
+-- src/main.rt:270:9
+add-counter : tie.Need-add-counter Inv-loop μ-loop
+add-counter c = search needs
+
+-- src/main.rt:270:5
+loop-less : tie.Need-loop-less Inv-loop μ-loop
+loop-less c = search needs
+
+-- src/main.rt:270:5
+loop-again : tie.Need-loop-again Inv-loop μ-loop
+loop-again c = search needs
+
+-- src/main.rt:267:1
+returns : tie.Need-returns Inv-loop μ-loop
+returns c = search needs
+
+pub print-pairs-spec : {M : Type 1} → statement M
+print-pairs-spec =
+    tie.close
+    (tie.spec
+    Inv-loop
+    μ-loop
+    loop-holds
+    print-pair-at-requires
+    add-counter
+    loop-less
+    loop-again
+    returns)

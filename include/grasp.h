@@ -1,0 +1,128 @@
+/*
+ * Copperladle: a proved GRASP (RFC 8990) node, for C.
+ *
+ * Link with libgrasp.a (`rt staticlib grasp` writes target/staticlib/libgrasp.a).
+ *
+ * Every function answers every argument: no byte, place or number is expected
+ * to have been checked. Nothing is kept between calls and nothing is allocated;
+ * there are no globals, so calls may run side by side.
+ *
+ * What a caller must see to: a pointer is not NULL (also where the length is 0)
+ * and points at as many bytes or numbers as are said here, and a buffer that is
+ * written overlaps no other argument.
+ */
+#ifndef GRASP_H
+#define GRASP_H
+
+#include <stddef.h>
+#include <stdint.h>
+
+#ifdef __cplusplus
+extern "C" {
+#endif
+
+/* The numbers of the refusals that reading gives. */
+enum grasp_refusal {
+    GRASP_ACCEPTED = 0,
+    GRASP_BAD_SIZE = 1,     /* no bytes, or over 2,048 */
+    GRASP_CUT = 2,          /* the bytes end inside an item */
+    GRASP_RESERVED = 3,     /* additional information 28 to 30, or a two-byte simple value below 32 */
+    GRASP_INDEFINITE = 4,   /* additional information 31, a lone break included */
+    GRASP_LONG_HEAD = 5,    /* a head longer than needed */
+    GRASP_TOO_DEEP = 6,     /* level 9 reached */
+    GRASP_BYTES_AFTER = 7,  /* bytes after the item */
+    GRASP_UNKNOWN_KIND = 8, /* an array that begins with an unknown kind */
+    GRASP_BAD_SHAPE = 9,    /* any other departure from the message shapes */
+    GRASP_LONG_NAME = 10,   /* an objective's name over 64 bytes */
+    GRASP_BAD_TEXT = 11     /* a named text that isn't UTF-8 */
+};
+
+/* The kinds of messages. */
+enum grasp_kind {
+    GRASP_NOOP = 0,
+    GRASP_DISCOVERY = 1,
+    GRASP_RESPONSE = 2,
+    GRASP_REQUEST_NEGOTIATION = 3,
+    GRASP_REQUEST_SYNCHRONIZATION = 4,
+    GRASP_NEGOTIATE = 5,
+    GRASP_END = 6,
+    GRASP_WAIT = 7,
+    GRASP_SYNCH = 8,
+    GRASP_FLOOD = 9,
+    GRASP_INVALID = 99
+};
+
+/*
+ * Where each field of a message stands in the block that grasp_read fills. A
+ * place is an offset into the message's bytes. What a kind lacks is 0; a value or
+ * an item that is left out has length 0, at the place where it would stand.
+ */
+enum grasp_field {
+    GRASP_KIND = 0,
+    GRASP_SESSION = 1,
+    GRASP_INITIATOR_AT = 2,
+    GRASP_INITIATOR_LEN = 3, /* 4 or 16 */
+    GRASP_TTL = 4,           /* Response, Flood: ttl; Wait: waiting time; in ms */
+    GRASP_HAS_OBJECTIVE = 5, /* 1 if there is one; a Flood's is its first pair's */
+    GRASP_NAME_AT = 6,
+    GRASP_NAME_LEN = 7,
+    GRASP_FLAGS = 8,
+    GRASP_COUNT = 9,     /* loop count */
+    GRASP_COUNT_AT = 10, /* the head of the loop count ends at GRASP_VALUE_AT */
+    GRASP_VALUE_AT = 11,
+    GRASP_VALUE_LEN = 12, /* 0: no value */
+    GRASP_LIST = 13,      /* 1: locators, 2: a divert's locators, 3: a Flood's pairs */
+    GRASP_LIST_AT = 14,   /* the first element: for grasp_locator or grasp_pair */
+    GRASP_LIST_MANY = 15,
+    GRASP_OUTCOME = 16,  /* End: 1 accept, 2 decline, 3 decline with a reason */
+    GRASP_ITEM_AT = 17,  /* End: the reason; Invalid: its item */
+    GRASP_ITEM_LEN = 18, /* Invalid: 0 if there is none */
+    GRASP_FIELDS = 19
+};
+
+/* The block of a locator. */
+enum grasp_locator_field {
+    GRASP_LOCATOR_KIND = 0, /* 103 IPv6, 104 IPv4, 105 domain name, 106 URI */
+    GRASP_LOCATOR_AT = 1,   /* the address, domain name or URI */
+    GRASP_LOCATOR_LEN = 2,
+    GRASP_LOCATOR_PROTOCOL = 3, /* 6 or 17; 0: null */
+    GRASP_LOCATOR_PORT = 4,     /* 65,536: null */
+    GRASP_LOCATOR_FIELDS = 5
+};
+
+/* The block of a pair: its objective, then its locator (five zeros: none). */
+enum grasp_pair_field {
+    GRASP_PAIR_NAME_AT = 0,
+    GRASP_PAIR_NAME_LEN = 1,
+    GRASP_PAIR_FLAGS = 2,
+    GRASP_PAIR_COUNT = 3,
+    GRASP_PAIR_COUNT_AT = 4,
+    GRASP_PAIR_VALUE_AT = 5,
+    GRASP_PAIR_VALUE_LEN = 6,
+    GRASP_PAIR_LOCATOR = 7, /* five numbers, as the block of a locator */
+    GRASP_PAIR_FIELDS = 12
+};
+
+/*
+ * Reads the message that the len bytes are. Answers 0 and fills the block, or
+ * answers the number of the refusal and leaves the block as it was.
+ */
+uint8_t grasp_read(const uint8_t *bytes, size_t len, uint64_t fields[GRASP_FIELDS]);
+
+/*
+ * Reads the locator at a place of the message. Answers the place after it and
+ * fills the block, or answers 0 and leaves the block as it was where no locator
+ * is there. To go through a message's locators, begin at GRASP_LIST_AT and take
+ * GRASP_LIST_MANY steps. At other places it judges the shape of what stands there
+ * alone: not its texts, and not the message around it.
+ */
+size_t grasp_locator(const uint8_t *bytes, size_t len, size_t at, uint64_t fields[GRASP_LOCATOR_FIELDS]);
+
+/* The same for a Flood's pairs. */
+size_t grasp_pair(const uint8_t *bytes, size_t len, size_t at, uint64_t fields[GRASP_PAIR_FIELDS]);
+
+#ifdef __cplusplus
+}
+#endif
+
+#endif
