@@ -21,20 +21,22 @@
 extern "C" {
 #endif
 
-/* The numbers of the refusals that reading gives. */
+/* The numbers of the refusals that reading and writing give. */
 enum grasp_refusal {
     GRASP_ACCEPTED = 0,
-    GRASP_BAD_SIZE = 1,     /* no bytes, or over 2,048 */
-    GRASP_CUT = 2,          /* the bytes end inside an item */
-    GRASP_RESERVED = 3,     /* additional information 28 to 30, or a two-byte simple value below 32 */
-    GRASP_INDEFINITE = 4,   /* additional information 31, a lone break included */
-    GRASP_LONG_HEAD = 5,    /* a head longer than needed */
-    GRASP_TOO_DEEP = 6,     /* level 9 reached */
-    GRASP_BYTES_AFTER = 7,  /* bytes after the item */
-    GRASP_UNKNOWN_KIND = 8, /* an array that begins with an unknown kind */
-    GRASP_BAD_SHAPE = 9,    /* any other departure from the message shapes */
-    GRASP_LONG_NAME = 10,   /* an objective's name over 64 bytes */
-    GRASP_BAD_TEXT = 11     /* a named text that isn't UTF-8 */
+    GRASP_BAD_SIZE = 1,         /* no bytes, or over 2,048 */
+    GRASP_CUT = 2,              /* the bytes end inside an item */
+    GRASP_RESERVED = 3,         /* additional information 28 to 30, or a two-byte simple value below 32 */
+    GRASP_INDEFINITE = 4,       /* additional information 31, a lone break included */
+    GRASP_LONG_HEAD = 5,        /* a head longer than needed */
+    GRASP_TOO_DEEP = 6,         /* level 9 reached */
+    GRASP_BYTES_AFTER = 7,      /* bytes after the item */
+    GRASP_UNKNOWN_KIND = 8,     /* an array that begins with an unknown kind */
+    GRASP_BAD_SHAPE = 9,        /* any other departure from the message shapes */
+    GRASP_LONG_NAME = 10,       /* an objective's name over 64 bytes */
+    GRASP_BAD_TEXT = 11,        /* a named text that isn't UTF-8 */
+    GRASP_NO_SUCH_MESSAGE = 18, /* writing: no accepted message has this description */
+    GRASP_SHORT_OUTPUT = 19     /* writing: the output is shorter than the encoding */
 };
 
 /* The kinds of messages. */
@@ -120,6 +122,24 @@ size_t grasp_locator(const uint8_t *bytes, size_t len, size_t at, uint64_t field
 
 /* The same for a Flood's pairs. */
 size_t grasp_pair(const uint8_t *bytes, size_t len, size_t at, uint64_t fields[GRASP_PAIR_FIELDS]);
+
+/*
+ * Writes the message that a block describes, every head in its shortest form.
+ * The block is laid out as grasp_read fills it; its places are offsets into the
+ * source. Answers 0, stores the length and puts the encoding at the front of the
+ * output, whose other bytes stay; or answers 18 or 19 and leaves all as it was.
+ *
+ * An objective's value and Invalid's item are encoded items and are copied; all
+ * else is encoded from numbers and contents. The locators of a Response or of its
+ * divert are rows of five numbers, as the block of a locator. The pairs of a
+ * Flood are rows of twelve, as the block of a pair, with 0 for
+ * GRASP_PAIR_COUNT_AT. `numbers` says how many numbers the list has in all, and
+ * GRASP_LIST_MANY how many rows. In the block GRASP_COUNT_AT and GRASP_LIST_AT
+ * are 0, of a Flood GRASP_HAS_OBJECTIVE to GRASP_VALUE_LEN too (its objectives
+ * stand in the rows), and so is every field that the kind lacks; else 18.
+ */
+uint8_t grasp_write(const uint8_t *source, size_t len, const uint64_t *list, size_t numbers,
+                    const uint64_t fields[GRASP_FIELDS], uint8_t *out, size_t size, uint64_t *length);
 
 #ifdef __cplusplus
 }

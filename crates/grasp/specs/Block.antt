@@ -1,24 +1,18 @@
 -- What was read, as numbers in fixed places (`include/grasp.h` names them).
 use Prim.Native.Nat.{ℕ}
-use mathlib.Core.List.{List, [], _∷_, _++_}
-use lib.ListN.{replicate, getD}
+use mathlib.Core.List.{List, [], _∷_}
+use lib.ListN.{replicate}
 use lib.Seq.{sets}
 use Rattle.options.specs.declared.Span.{Span}
-use Rattle.options.specs.declared.locator.Locator.{Locator}
-use Rattle.options.specs.declared.locator.Locator.the-variants as L
 use Rattle.options.specs.declared.objective.Objective.{Objective}
-use Rattle.options.specs.declared.pair.Tag.{Tag}
 use Rattle.options.specs.Text.{spanOf}
+use Rattle.options.specs.Pair.{objectiveNumbers}
 use Rattle.message.specs.declared.Series.{Series}
 use Rattle.message.specs.declared.Targets.{Targets}
 use Rattle.message.specs.declared.Extra.{Extra}
 use Rattle.message.specs.declared.Outcome.{Outcome}
 use Rattle.message.specs.declared.Message.{Message}
 use Rattle.message.specs.declared.Message.the-variants as M
-
--- an objective's seven numbers
-abbrev pub objectiveNumbers : Objective → List ℕ
-objectiveNumbers o = o .name .at ∷ o .name .len ∷ o .flags ∷ o .count ∷ o .«count_at» ∷ o .value .at ∷ o .value .len ∷ []
 
 -- places 0 to 4: kind, session, initiator, ttl or waiting time
 unfoldable pub openedBlock : ℕ → ℕ → Span → ℕ → List ℕ
@@ -61,21 +55,3 @@ blockOf (M.Wait session time) = openedBlock 7 session (spanOf 0 0) time
 blockOf (M.Synch session o) = withObjective (openedBlock 8 session (spanOf 0 0) 0) o
 blockOf (M.Flood session initiator ttl first pairs) = withSeries (withObjective (openedBlock 9 session initiator ttl) first) 3 pairs
 blockOf (M.Invalid session item) = withSpan (openedBlock 99 session (spanOf 0 0) 0) 0 item
-
--- a locator's five numbers
-unfoldable pub locatorBlock : Locator → List ℕ
-locatorBlock (L.V6 at protocol port) = 103 ∷ at ∷ 16 ∷ protocol ∷ port ∷ []
-locatorBlock (L.V4 at protocol port) = 104 ∷ at ∷ 4 ∷ protocol ∷ port ∷ []
-locatorBlock (L.Domain name protocol port) = 105 ∷ name .at ∷ name .len ∷ protocol ∷ port ∷ []
-locatorBlock (L.Uri uri protocol port) = 106 ∷ uri .at ∷ uri .len ∷ protocol ∷ port ∷ []
-
-unfoldable pub tagBlock : Tag → List ℕ
-tagBlock Tag.Empty = replicate 5 0
-tagBlock (Tag.At l) = locatorBlock l
-
--- a pair's twelve numbers: its objective's, then its tag's
-abbrev pub five : List ℕ → List ℕ
-five t = getD t 0 0 ∷ getD t 1 0 ∷ getD t 2 0 ∷ getD t 3 0 ∷ getD t 4 0 ∷ []
-
-unfoldable pub pairBlock : Objective → Tag → List ℕ
-pairBlock o tag = objectiveNumbers o ++ five (tagBlock tag)

@@ -1,3 +1,4 @@
--- `Block`: what was read, as numbers in fixed places. `Reading`: what the exported readers answer and leave.
+-- `Block`: what was read, as numbers in fixed places. `Reading`, `Writing`: what the exported functions answer and leave.
 pub mod Block
 pub mod Reading
+pub mod Writing

@@ -3,11 +3,11 @@ use Prim.Native.Nat.{ℕ, _+_}
 use mathlib.Core.List.{List}
 use Rattle.options.specs.declared.locator.LocatorRead.{LocatorRead}
 use Rattle.options.specs.declared.pair.PairRead.{PairRead}
-use Rattle.options.specs.Locator.{locatorAt}
-use Rattle.options.specs.Pair.{pairAt}
+use Rattle.options.specs.Locator.{locatorAt, locatorNumbers}
+use Rattle.options.specs.Pair.{pairAt, pairNumbers}
 use Rattle.message.specs.declared.Reading.{Reading}
 use Rattle.message.specs.Read.{readOf}
-use Rattle.grasp.specs.Block.{blockOf, locatorBlock, pairBlock}
+use Rattle.grasp.specs.Block.{blockOf}
 
 -- 0 for a message, or the number of the refusal
 unfoldable pub numberFrom : Reading → ℕ
@@ -32,7 +32,7 @@ locatorEndFrom at (LocatorRead.Got l size bad) = at + size
 
 unfoldable pub locatorFrom : LocatorRead → List ℕ → List ℕ
 locatorFrom (LocatorRead.Bad place) fields = fields
-locatorFrom (LocatorRead.Got l size bad) fields = locatorBlock l
+locatorFrom (LocatorRead.Got l size bad) fields = locatorNumbers l
 
 unfoldable pub locatorEnd : List ℕ → ℕ → ℕ
 locatorEnd s at = locatorEndFrom at (locatorAt s at)
@@ -47,7 +47,7 @@ pairEndFrom at (PairRead.Got o tag size bad long) = at + size
 
 unfoldable pub pairFrom : PairRead → List ℕ → List ℕ
 pairFrom (PairRead.Bad place) fields = fields
-pairFrom (PairRead.Got o tag size bad long) fields = pairBlock o tag
+pairFrom (PairRead.Got o tag size bad long) fields = pairNumbers o tag
 
 unfoldable pub pairEnd : List ℕ → ℕ → ℕ
 pairEnd s at = pairEndFrom at (pairAt s at)

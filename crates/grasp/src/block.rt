@@ -1,15 +1,13 @@
 // What was read, as a block of numbers in fixed places.
 ghost use mathlib.Core.Path.{_≡_};
-ghost use Rattle.grasp.specs.Block.{openedBlock, withObjective, withExtra, withSpan, withSeries, targetsBlock, outcomeBlock, blockOf, locatorBlock, tagBlock, pairBlock};
+ghost use Rattle.grasp.specs.Block.{openedBlock, withObjective, withExtra, withSpan, withSeries, targetsBlock, outcomeBlock, blockOf};
 use message::Extra;
 use message::Message;
 use message::Outcome;
 use message::Series;
 use message::Targets;
 use options::Span;
-use options::locator::Locator;
 use options::objective::Objective;
-use options::pair::Tag;
 
 // The block of a message: kind, session, initiator (place, length), ttl or waiting time; 1 for an objective, its name
 // (place, length), flags, count, the place of the count's head, its value (place, length); 1 for locators, 2 for a divert,
@@ -138,67 +136,4 @@ fn with_outcome(block: [u64; 19], outcome: Outcome) -> [u64; 19]
         Outcome::Decline => with_span(block, 2, Span { at: 0, len: 0 }),
         Outcome::Reason(reason) => with_span(block, 3, reason),
     }
-}
-
-// A locator: 103 to 106, the place and length of its address, domain name or URI, protocol (0 for null), port (65,536 for null).
-pub fn locator_block(l: Locator) -> [u64; 5]
-    ensures { λ r. ⌜ r ≡ locatorBlock l ⌝ }
-{
-    match l {
-        Locator::V6 { at, protocol, port } => [103, at as u64, 16, protocol as u64, port as u64],
-        Locator::V4 { at, protocol, port } => [104, at as u64, 4, protocol as u64, port as u64],
-        Locator::Domain {
-            name,
-            protocol,
-            port,
-        } => [
-            105,
-            name.at as u64,
-            name.len as u64,
-            protocol as u64,
-            port as u64,
-        ],
-        Locator::Uri {
-            uri,
-            protocol,
-            port,
-        } => [
-            106,
-            uri.at as u64,
-            uri.len as u64,
-            protocol as u64,
-            port as u64,
-        ],
-    }
-}
-
-// A tag: its locator, or five zeros.
-fn tag_block(tag: Tag) -> [u64; 5]
-    ensures { λ r. ⌜ r ≡ tagBlock tag ⌝ }
-{
-    match tag {
-        Tag::Empty => [0, 0, 0, 0, 0],
-        Tag::At(locator) => locator_block(locator),
-    }
-}
-
-// A pair: its objective as in a message's block, and its tag.
-pub fn pair_block(o: Objective, tag: Tag) -> [u64; 12]
-    ensures { λ r. ⌜ r ≡ pairBlock o tag ⌝ }
-{
-    let t = tag_block(tag);
-    [
-        o.name.at as u64,
-        o.name.len as u64,
-        o.flags as u64,
-        o.count as u64,
-        o.count_at as u64,
-        o.value.at as u64,
-        o.value.len as u64,
-        t[0],
-        t[1],
-        t[2],
-        t[3],
-        t[4],
-    ]
 }

@@ -2,3 +2,4 @@
 // answer every argument.
 pub mod block;
 pub mod reading;
+pub mod writing;

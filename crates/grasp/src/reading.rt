@@ -36,7 +36,7 @@ pub extern "C" fn grasp_locator(bytes: &[u8], at: usize, fields: &mut [u64; 5]) 
             size,
             bad: _,
         } => {
-            *fields = block::locator_block(locator);
+            *fields = options::locator::numbers_of(locator);
             at + size
         }
     }
@@ -58,7 +58,7 @@ pub extern "C" fn grasp_pair(bytes: &[u8], at: usize, fields: &mut [u64; 12]) ->
             bad: _,
             long: _,
         } => {
-            *fields = block::pair_block(objective, tag);
+            *fields = options::pair::numbers_of(objective, tag);
             at + size
         }
     }

@@ -1,7 +1,7 @@
 -- Locator options (RFC 8990, section 2.9.5): what is read of the bytes s that begin at the own head and stand at `base` of the message. An array
 -- is judged by its first item, then by its number of items, then by its other items from left to right; `Bad` has the place of the first departure.
 use Prim.Native.Nat.{ℕ, _+_, _-_}
-use mathlib.Core.List.{List}
+use mathlib.Core.List.{List, [], _∷_}
 use mathlib.Core.Bool.{Bool, false}
 use lib.ListN.{drop}
 use lib.Dec.{ltb, leb, eqb}
@@ -67,3 +67,10 @@ locatorIn base s =
 -- the locator at a place of the message s
 abbrev pub locatorAt : List ℕ → ℕ → LocatorRead
 locatorAt s at = locatorIn at (drop at s)
+
+-- a locator's five numbers
+unfoldable pub locatorNumbers : Locator → List ℕ
+locatorNumbers (L.V6 at protocol port) = 103 ∷ at ∷ 16 ∷ protocol ∷ port ∷ []
+locatorNumbers (L.V4 at protocol port) = 104 ∷ at ∷ 4 ∷ protocol ∷ port ∷ []
+locatorNumbers (L.Domain name protocol port) = 105 ∷ name .at ∷ name .len ∷ protocol ∷ port ∷ []
+locatorNumbers (L.Uri uri protocol port) = 106 ∷ uri .at ∷ uri .len ∷ protocol ∷ port ∷ []

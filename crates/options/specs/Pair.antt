@@ -1,8 +1,8 @@
 -- The pairs of a Flood (RFC 8990, section 2.8.11): what is read of the bytes s that begin at the own head and stand at `base` of the message.
 use Prim.Native.Nat.{ℕ, _+_}
-use mathlib.Core.List.{List}
+use mathlib.Core.List.{List, [], _∷_, _++_}
 use mathlib.Core.Bool.{Bool, false}
-use lib.ListN.{drop}
+use lib.ListN.{drop, getD, replicate}
 use lib.Dec.{eqb}
 use Rattle.base.specs.Pick.{pick}
 use Rattle.cbor.specs.declared.token.Token.{Token}
@@ -16,7 +16,7 @@ use Rattle.options.specs.declared.pair.Tag.{Tag}
 use Rattle.options.specs.declared.pair.PairRead.{PairRead}
 use Rattle.options.specs.declared.pair.PairRead.the-variants as PR
 use Rattle.options.specs.Text.{unless, firstOf}
-use Rattle.options.specs.Locator.{locatorIn}
+use Rattle.options.specs.Locator.{locatorIn, locatorNumbers}
 use Rattle.options.specs.Objective.{objectiveIn}
 
 -- an empty array
@@ -45,3 +45,19 @@ pairIn base s =
 -- the pair at a place of the message s
 abbrev pub pairAt : List ℕ → ℕ → PairRead
 pairAt s at = pairIn at (drop at s)
+
+-- an objective's seven numbers
+abbrev pub objectiveNumbers : Objective → List ℕ
+objectiveNumbers o = o .name .at ∷ o .name .len ∷ o .flags ∷ o .count ∷ o .«count_at» ∷ o .value .at ∷ o .value .len ∷ []
+
+-- a tag's five numbers
+unfoldable pub tagNumbers : Tag → List ℕ
+tagNumbers Tag.Empty = replicate 5 0
+tagNumbers (Tag.At l) = locatorNumbers l
+
+-- a pair's twelve numbers: its objective's, then its tag's
+abbrev pub five : List ℕ → List ℕ
+five t = getD t 0 0 ∷ getD t 1 0 ∷ getD t 2 0 ∷ getD t 3 0 ∷ getD t 4 0 ∷ []
+
+unfoldable pub pairNumbers : Objective → Tag → List ℕ
+pairNumbers o tag = objectiveNumbers o ++ five (tagNumbers tag)

@@ -2,7 +2,7 @@
 ghost use mathlib.Core.Path.{_≡_};
 ghost use Prim.Native.Nat.{_+_, _<_, _^_};
 ghost use lib.ListN.{length};
-ghost use Rattle.options.specs.Locator.{isNull, addressFits, protocolOf, portOf, locatorOf, textOf, locatorIn, locatorAt};
+ghost use Rattle.options.specs.Locator.{isNull, addressFits, protocolOf, portOf, locatorOf, textOf, locatorIn, locatorAt, locatorNumbers};
 use crate::Span;
 use cbor::token;
 use cbor::token::Token;
@@ -184,4 +184,36 @@ fn text_of(s: &[u8], kind: u64, t: Token, place: usize) -> usize
         return 0;
     }
     crate::bad_text(s, t, place)
+}
+
+// A locator as five numbers: 103 to 106, the place and length of its address, domain name or URI, protocol, port.
+pub fn numbers_of(l: Locator) -> [u64; 5]
+    ensures { λ r. ⌜ r ≡ locatorNumbers l ⌝ }
+{
+    match l {
+        Locator::V6 { at, protocol, port } => [103, at as u64, 16, protocol as u64, port as u64],
+        Locator::V4 { at, protocol, port } => [104, at as u64, 4, protocol as u64, port as u64],
+        Locator::Domain {
+            name,
+            protocol,
+            port,
+        } => [
+            105,
+            name.at as u64,
+            name.len as u64,
+            protocol as u64,
+            port as u64,
+        ],
+        Locator::Uri {
+            uri,
+            protocol,
+            port,
+        } => [
+            106,
+            uri.at as u64,
+            uri.len as u64,
+            protocol as u64,
+            port as u64,
+        ],
+    }
 }

@@ -2,7 +2,7 @@
 ghost use mathlib.Core.Path.{_≡_};
 ghost use Prim.Native.Nat.{_+_, _≤_, _<_, _^_};
 ghost use lib.ListN.{length};
-ghost use Rattle.options.specs.Pair.{isEmpty, pairTail, pairIn, pairAt};
+ghost use Rattle.options.specs.Pair.{isEmpty, pairTail, pairIn, pairAt, tagNumbers, pairNumbers};
 use crate::locator;
 use crate::locator::Locator;
 use crate::locator::LocatorRead;
@@ -115,4 +115,36 @@ fn is_empty(t: Token) -> bool
         return t.arg == 0;
     }
     false
+}
+
+// A pair as twelve numbers: the place and length of the name, flags, count, the place of the count's head, the place and length
+// of the value; then the locator's five, or five zeros.
+pub fn numbers_of(o: Objective, tag: Tag) -> [u64; 12]
+    ensures { λ r. ⌜ r ≡ pairNumbers o tag ⌝ }
+{
+    let t = tag_numbers(tag);
+    [
+        o.name.at as u64,
+        o.name.len as u64,
+        o.flags as u64,
+        o.count as u64,
+        o.count_at as u64,
+        o.value.at as u64,
+        o.value.len as u64,
+        t[0],
+        t[1],
+        t[2],
+        t[3],
+        t[4],
+    ]
+}
+
+// A tag: its locator, or five zeros.
+fn tag_numbers(tag: Tag) -> [u64; 5]
+    ensures { λ r. ⌜ r ≡ tagNumbers tag ⌝ }
+{
+    match tag {
+        Tag::Empty => [0, 0, 0, 0, 0],
+        Tag::At(locator) => locator::numbers_of(locator),
+    }
 }

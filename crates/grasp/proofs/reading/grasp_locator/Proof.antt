@@ -8,7 +8,6 @@ use Rattle.grasp.proofs.reading.grasp_locator.Statement.{statement}
 use Rattle.grasp.proofs.reading.grasp_locator.Tie as tie
 use Rattle.grasp.proofs.reading.grasp_locator.Reads as reads
 use Rattle.grasp.proofs.reading.grasp_locator.Lts as lts
-use Rattle.grasp.proofs.block.locator_block.Reads as locator-block-reads
 use Rattle.options.proofs.locator.read_at.Reads as read-at-reads
 
 -- src/reading.rt:31:9
@@ -24,8 +23,8 @@ enum-known-read : tie.Need-enum-known-read
 enum-known-read c = search needs
 
 -- src/reading.rt:39:23
-locator-block-requires : tie.Need-locator-block-requires
-locator-block-requires c κs = search needs
+numbers-of-requires : tie.Need-numbers-of-requires
+numbers-of-requires c κs = search needs
 
 -- src/reading.rt:40:13
 add-result : tie.Need-add-result
@@ -39,7 +38,7 @@ returns c = (rw (← c .before .before .read-at .ensures, c .enum-told .given .1
 -- src/reading.rt:26:1
 returns-2 : tie.Need-returns-2
 unfolding locatorEnd locatorEndFrom locatorAfter locatorFrom
-returns-2 c = (rw (← c .before .before .before .before .read-at .ensures, c .before .before .read .given .1), rw (← c .before .before .before .before .read-at .ensures, c .before .before .read .given .1) (c .locator-block .ensures))
+returns-2 c = (rw (← c .before .before .before .before .read-at .ensures, c .before .before .read .given .1), rw (← c .before .before .before .before .read-at .ensures, c .before .before .read .given .1) (c .numbers-of .ensures))
 
 pub grasp-locator-spec : {M : Type 1} → statement M
 grasp-locator-spec =
@@ -48,7 +47,7 @@ grasp-locator-spec =
     read-at-requires
     enum-told
     enum-known-read
-    locator-block-requires
+    numbers-of-requires
     add-result
     returns
     returns-2)

@@ -8,7 +8,6 @@ use Rattle.grasp.proofs.reading.grasp_pair.Statement.{statement}
 use Rattle.grasp.proofs.reading.grasp_pair.Tie as tie
 use Rattle.grasp.proofs.reading.grasp_pair.Reads as reads
 use Rattle.grasp.proofs.reading.grasp_pair.Lts as lts
-use Rattle.grasp.proofs.block.pair_block.Reads as pair-block-reads
 use Rattle.options.proofs.pair.read_at.Reads as read-at-reads
 
 -- src/reading.rt:51:9
@@ -24,8 +23,8 @@ enum-known-read : tie.Need-enum-known-read
 enum-known-read c = search needs
 
 -- src/reading.rt:61:23
-pair-block-requires : tie.Need-pair-block-requires
-pair-block-requires c κs = search needs
+numbers-of-requires : tie.Need-numbers-of-requires
+numbers-of-requires c κs = search needs
 
 -- src/reading.rt:62:13
 add-result : tie.Need-add-result
@@ -39,7 +38,7 @@ returns c = (rw (← c .before .before .read-at .ensures, c .enum-told .given .1
 -- src/reading.rt:46:1
 returns-2 : tie.Need-returns-2
 unfolding pairEnd pairEndFrom pairAfter pairFrom
-returns-2 c = (rw (← c .before .before .before .before .read-at .ensures, c .before .before .read .given .1), rw (← c .before .before .before .before .read-at .ensures, c .before .before .read .given .1) (c .pair-block .ensures))
+returns-2 c = (rw (← c .before .before .before .before .read-at .ensures, c .before .before .read .given .1), rw (← c .before .before .before .before .read-at .ensures, c .before .before .read .given .1) (c .numbers-of .ensures))
 
 pub grasp-pair-spec : {M : Type 1} → statement M
 grasp-pair-spec =
@@ -48,7 +47,7 @@ grasp-pair-spec =
     read-at-requires
     enum-told
     enum-known-read
-    pair-block-requires
+    numbers-of-requires
     add-result
     returns
     returns-2)

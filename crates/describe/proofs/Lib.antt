@@ -1,0 +1,2 @@
+-- `Turns`: the turns of the loops that fill rows.
+mod Turns

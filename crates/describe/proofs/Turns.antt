@@ -1,0 +1,53 @@
+-- The turns of the loops that fill rows.
+-- Assumes nothing.
+use mathlib.Core.Path.{_≡_, refl, _∙_}
+use mathlib.Core.List.{List}
+use Prim.Native.Nat.{ℕ, suc, _+_, _-_, _≤_, _<_}
+use native.Mathlib.Omega.{arith}
+use lib.ListN.{length, length-set}
+use Rattle.options.specs.declared.locator.LocatorRead.{LocatorRead}
+use Rattle.options.specs.declared.pair.PairRead.{PairRead}
+use Rattle.options.specs.Locator.{locatorAt}
+use Rattle.options.specs.Pair.{pairAt}
+use Rattle.describe.specs.Rows.{rowsFrom, locatorNumbered, locatorRowFrom, locatorRow, pairNumbered, pairRowFrom, pairRow}
+
+-- what is left of the rows is the whole
+pub record Filling (next : ℕ → ℕ) (row : ℕ → ℕ → List ℕ → List ℕ) (n at₀ : ℕ) (list₀ : List ℕ) (i at : ℕ) (list : List ℕ) : Type 0 where
+  pub within : i ≤ n
+  pub same-length : length list ≡ length list₀
+  pub same : rowsFrom next row (n - i) i at list ≡ rowsFrom next row n 0 at₀ list₀
+
+pub begun : (next : ℕ → ℕ) (row : ℕ → ℕ → List ℕ → List ℕ) (n at : ℕ) (list : List ℕ) → Filling next row n at list 0 at list
+begun next row n at list =
+    let e : n - 0 ≡ n = omega arith in
+    record { within = omega arith; same-length = refl; same = rw e }
+
+module _ (next : ℕ → ℕ) (row : ℕ → ℕ → List ℕ → List ℕ) (n at₀ : ℕ) (list₀ : List ℕ) (i at : ℕ) (list : List ℕ) (f : Filling next row n at₀ list₀ i at list) where
+  pub filled : n ≤ i → list ≡ rowsFrom next row n 0 at₀ list₀
+  unfolding rowsFrom
+  filled h = let e : n - i ≡ 0 = omega (arith, f .within) in rw e at (f .same)
+
+  pub fill-turn : (at′ : ℕ) (list′ : List ℕ) → i < n → at′ ≡ next at → list′ ≡ row at i list → length (row at i list) ≡ length list
+      → Filling next row n at₀ list₀ (i + 1) at′ list′
+  unfolding rowsFrom
+  fill-turn at′ list′ h e g k =
+      let s : n - i ≡ suc (n - (i + 1)) = omega arith in
+      record { within = omega arith; same-length = rw g (k ∙ f .same-length); same = rw (e, g) (rw s at (f .same)) }
+
+locator-from-length : (i : ℕ) (list : List ℕ) (x : LocatorRead) → length (locatorRowFrom i list x) ≡ length list
+unfolding locatorRowFrom locatorNumbered
+locator-from-length i list (LocatorRead.Bad place) = refl
+locator-from-length i list (LocatorRead.Got l size bad) = simp length-set
+
+pub locator-length : (s : List ℕ) (at i : ℕ) (list : List ℕ) → length (locatorRow s at i list) ≡ length list
+unfolding locatorRow
+locator-length s at i list = locator-from-length i list (locatorAt s at)
+
+pair-from-length : (i : ℕ) (list : List ℕ) (x : PairRead) → length (pairRowFrom i list x) ≡ length list
+unfolding pairRowFrom pairNumbered
+pair-from-length i list (PairRead.Bad place) = refl
+pair-from-length i list (PairRead.Got o tag size bad long) = simp length-set
+
+pub pair-length : (s : List ℕ) (at i : ℕ) (list : List ℕ) → length (pairRow s at i list) ≡ length list
+unfolding pairRow
+pair-length s at i list = pair-from-length i list (pairAt s at)

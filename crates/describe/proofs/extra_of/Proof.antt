@@ -1,0 +1,36 @@
+-- `describe::extra_of` meets its contract.
+-- Assumes nothing.
+use Rattle.describe.specs.Describe.{extraOf}
+use borrow.Author.Needs.{needs}
+use Rattle.describe.proofs.extra_of.Statement.{statement}
+use Rattle.describe.proofs.extra_of.Tie as tie
+use Rattle.describe.proofs.extra_of.Reads as reads
+use Rattle.describe.proofs.extra_of.Lts as lts
+use Rattle.describe.proofs.goal_of.Reads as goal-of-reads
+
+-- src/lib.rt:98:36
+enum-told : tie.Need-enum-told
+enum-told c = search needs
+
+-- src/lib.rt:99:30
+enum-known-extra : tie.Need-enum-known-extra
+enum-known-extra c = search needs
+
+-- src/lib.rt:99:56
+goal-of-requires : tie.Need-goal-of-requires
+goal-of-requires c κs = search needs
+
+-- src/lib.rt:94:1
+returns : tie.Need-returns
+unfolding extraOf
+returns c =
+    rw (c .enum-told .given .1)
+
+-- src/lib.rt:94:1
+returns-2 : tie.Need-returns-2
+unfolding extraOf
+returns-2 c =
+    rw (c .before .before .extra .given .1, ← c .goal-of .ensures)
+
+pub extra-of-spec : {M : Type 1} → statement M
+extra-of-spec = tie.close (tie.spec enum-told enum-known-extra goal-of-requires returns returns-2)

@@ -1,0 +1,16 @@
+-- `describe::goal_of` meets its contract.
+-- Assumes nothing.
+use mathlib.Core.Path.{refl}
+use Rattle.describe.specs.Describe.{goalOf}
+use Rattle.describe.proofs.goal_of.Statement.{statement}
+use Rattle.describe.proofs.goal_of.Tie as tie
+use Rattle.describe.proofs.goal_of.Reads as reads
+use Rattle.describe.proofs.goal_of.Lts as lts
+
+-- src/lib.rt:81:1
+returns : tie.Need-returns
+unfolding goalOf
+returns c = refl
+
+pub goal-of-spec : {M : Type 1} → statement M
+goal-of-spec = tie.close (tie.spec returns)

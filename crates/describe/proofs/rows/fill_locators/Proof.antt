@@ -1,0 +1,79 @@
+-- `describe::rows::fill_locators` meets its contract.
+-- Assumes nothing.
+use Prim.Native.Nat.{_-_}
+use native.Mathlib.Omega.{arith}
+use borrow.Author.Needs.{needs}
+use borrow.Author.Tests.{lt-ltb, le-ltb}
+use Rattle.base.specs.Pick.{pick}
+use Rattle.describe.specs.Rows.{locatorNext, locatorRow, locatorsEnd, locatorsFilled}
+use Rattle.describe.proofs.Turns.{Filling, begun, filled, fill-turn, locator-length}
+use Rattle.describe.proofs.rows.fill_locators.Statement.{statement}
+use Rattle.describe.proofs.rows.fill_locators.Tie as tie
+use Rattle.describe.proofs.rows.fill_locators.Reads as reads
+use Rattle.describe.proofs.rows.fill_locators.Lts as lts
+use Rattle.describe.proofs.rows.fill_locator.Reads as fill-locator-reads
+
+abbrev Inv-loop : tie.InvT-loop
+Inv-loop s list₀ many room n at₀ i₀ list at i = Filling (locatorNext s) (locatorRow s) n at₀ list₀ i at list
+
+abbrev μ-loop : tie.MeasureT-loop
+μ-loop s list₀ many room n at₀ i₀ list at i = n - i
+
+-- src/rows.rt:63:16
+add-result : tie.Need-add-result Inv-loop μ-loop
+add-result c = search needs
+
+-- src/rows.rt:63:9
+returns : tie.Need-returns Inv-loop μ-loop
+unfolding locatorsEnd locatorsFilled pick
+returns c = (rw (lt-ltb _ _ (c .if1 .taken)), rw (lt-ltb _ _ (c .if1 .taken)))
+
+-- src/rows.rt:67:5
+loop-holds : tie.Need-loop-holds Inv-loop μ-loop
+loop-holds c = begun _ _ _ _ _
+
+-- src/rows.rt:68:9
+fill-locator-requires : tie.Need-fill-locator-requires Inv-loop μ-loop
+fill-locator-requires c κs = omega (arith, c .before .before .loop .inv .within, c .before .before .loop .inv .same-length, c .before .loop-test .taken, c .before .before .before .if1 .left)
+
+-- src/rows.rt:67:9
+add-i : tie.Need-add-i Inv-loop μ-loop
+add-i c = search needs
+
+-- src/rows.rt:67:5
+loop-less : tie.Need-loop-less Inv-loop μ-loop
+loop-less c = search needs
+
+-- src/rows.rt:67:5
+loop-again : tie.Need-loop-again Inv-loop μ-loop
+loop-again c = fill-turn _ _ _ _ _ (c .before .before .before .before .before .loop .i) (c .before .before .before .before .before .loop .at) (c .before .before .before .before .before .loop .list) (c .before .before .before .before .before .loop .inv) _ _ (c .before .before .before .before .loop-test .taken) (c .before .before .fill-locator .ensures .0) (c .before .before .fill-locator .ensures .1) (locator-length _ _ _ _)
+
+-- src/rows.rt:70:5
+mul-result : tie.Need-mul-result Inv-loop μ-loop
+mul-result c = omega (arith, c .before .loop .inv .same-length, c .before .before .if1 .left, c .before .before .before .before .before .good)
+
+-- src/rows.rt:56:1
+same-length : tie.Need-same-length Inv-loop μ-loop
+same-length c = c .before .loop .inv .same-length
+
+-- src/rows.rt:56:1
+returns-2 : tie.Need-returns-2 Inv-loop μ-loop
+unfolding locatorsEnd locatorsFilled pick
+returns-2 c = (rw (le-ltb _ _ (c .before .before .if1 .left)), rw (le-ltb _ _ (c .before .before .if1 .left)) (filled _ _ _ _ _ (c .before .loop .i) (c .before .loop .at) (c .before .loop .list) (c .before .loop .inv) (omega (arith, c .loop-test .left))))
+
+pub fill-locators-spec : {M : Type 1} → statement M
+fill-locators-spec =
+    tie.close
+    (tie.spec
+    Inv-loop
+    μ-loop
+    add-result
+    returns
+    loop-holds
+    fill-locator-requires
+    add-i
+    loop-less
+    loop-again
+    mul-result
+    same-length
+    returns-2)

@@ -1,0 +1,108 @@
+-- The list of a message that was read: its locators or pairs as rows of numbers, as the writer takes them.
+use Prim.Native.Nat.{ℕ, zero, suc, _+_, _*_, _/_}
+use mathlib.Core.List.{List}
+use lib.ListN.{length, getD, set}
+use lib.Dec.{ltb}
+use Rattle.base.specs.Pick.{pick}
+use Rattle.options.specs.declared.locator.LocatorRead.{LocatorRead}
+use Rattle.options.specs.declared.pair.PairRead.{PairRead}
+use Rattle.options.specs.Locator.{locatorAt, locatorNumbers}
+use Rattle.options.specs.Pair.{pairAt, pairNumbers}
+use Rattle.message.specs.declared.Series.{Series}
+use Rattle.message.specs.declared.Targets.{Targets}
+use Rattle.message.specs.declared.Message.{Message}
+use Rattle.message.specs.declared.Message.the-variants as M
+use Rattle.describe.specs.declared.rows.Rows.{Rows}
+
+-- n elements from `at` on, each with the place after it and its row, in the rows from i on
+unfoldable pub rowsFrom : (ℕ → ℕ) → (ℕ → ℕ → List ℕ → List ℕ) → ℕ → ℕ → ℕ → List ℕ → List ℕ
+rowsFrom next row zero i at list = list
+rowsFrom next row (suc n) i at list = rowsFrom next row n (i + 1) (next at) (row at i list)
+
+-- ---- locators: 5 numbers a row
+unfoldable pub locatorNumbered : ℕ → List ℕ → List ℕ → List ℕ
+locatorNumbered i ns list =
+    set (set (set (set (set list (5 * i) (getD ns 0 0)) (5 * i + 1) (getD ns 1 0)) (5 * i + 2) (getD ns 2 0)) (5 * i + 3) (getD ns 3 0)) (5 * i + 4) (getD ns 4 0)
+
+unfoldable pub locatorNextFrom : ℕ → LocatorRead → ℕ
+locatorNextFrom at (LocatorRead.Bad place) = at
+locatorNextFrom at (LocatorRead.Got l size bad) = at + size
+
+unfoldable pub locatorRowFrom : ℕ → List ℕ → LocatorRead → List ℕ
+locatorRowFrom i list (LocatorRead.Bad place) = list
+locatorRowFrom i list (LocatorRead.Got l size bad) = locatorNumbered i (locatorNumbers l) list
+
+-- the place after the one at `at`, and the list with its numbers in row i
+unfoldable pub locatorNext : List ℕ → ℕ → ℕ
+locatorNext s at = locatorNextFrom at (locatorAt s at)
+
+unfoldable pub locatorRow : List ℕ → ℕ → ℕ → List ℕ → List ℕ
+locatorRow s at i list = locatorRowFrom i list (locatorAt s at)
+
+-- a list that is too short stays as it is
+unfoldable pub locatorsEnd : Series → List ℕ → ℕ
+locatorsEnd series list = pick (ltb (length list / 5) (series .many)) (length list + 1) (5 * series .many)
+
+unfoldable pub locatorsFilled : List ℕ → Series → List ℕ → List ℕ
+locatorsFilled s series list = pick (ltb (length list / 5) (series .many)) list (rowsFrom (locatorNext s) (locatorRow s) (series .many) 0 (series .at) list)
+
+-- ---- pairs: 12 numbers a row
+unfoldable pub pairNumbered : ℕ → List ℕ → List ℕ → List ℕ
+pairNumbered i ns list =
+    set (set (set (set (set (set (set (set (set (set (set (set list (12 * i) (getD ns 0 0)) (12 * i + 1) (getD ns 1 0)) (12 * i + 2) (getD ns 2 0)) (12 * i + 3) (getD ns 3 0)) (12 * i + 4) (0)) (12 * i + 5) (getD ns 5 0)) (12 * i + 6) (getD ns 6 0)) (12 * i + 7) (getD ns 7 0)) (12 * i + 8) (getD ns 8 0)) (12 * i + 9) (getD ns 9 0)) (12 * i + 10) (getD ns 10 0)) (12 * i + 11) (getD ns 11 0)
+
+unfoldable pub pairNextFrom : ℕ → PairRead → ℕ
+pairNextFrom at (PairRead.Bad place) = at
+pairNextFrom at (PairRead.Got o tag size bad long) = at + size
+
+unfoldable pub pairRowFrom : ℕ → List ℕ → PairRead → List ℕ
+pairRowFrom i list (PairRead.Bad place) = list
+pairRowFrom i list (PairRead.Got o tag size bad long) = pairNumbered i (pairNumbers o tag) list
+
+-- the place after the one at `at`, and the list with its numbers in row i
+unfoldable pub pairNext : List ℕ → ℕ → ℕ
+pairNext s at = pairNextFrom at (pairAt s at)
+
+unfoldable pub pairRow : List ℕ → ℕ → ℕ → List ℕ → List ℕ
+pairRow s at i list = pairRowFrom i list (pairAt s at)
+
+-- a list that is too short stays as it is
+unfoldable pub pairsEnd : Series → List ℕ → ℕ
+pairsEnd series list = pick (ltb (length list / 12) (series .many)) (length list + 1) (12 * series .many)
+
+unfoldable pub pairsFilled : List ℕ → Series → List ℕ → List ℕ
+pairsFilled s series list = pick (ltb (length list / 12) (series .many)) list (rowsFrom (pairNext s) (pairRow s) (series .many) 0 (series .at) list)
+
+-- ---- by the message
+unfoldable pub targetRows : Targets → Rows
+targetRows (Targets.Locators series) = Rows.Locators series
+targetRows (Targets.Divert series) = Rows.Locators series
+
+unfoldable pub rowsIn : Message → Rows
+rowsIn M.Noop = Rows.Nothing
+rowsIn (M.Discovery session initiator o) = Rows.Nothing
+rowsIn (M.Response session initiator ttl targets extra) = targetRows targets
+rowsIn (M.RequestNegotiation session o) = Rows.Nothing
+rowsIn (M.RequestSynchronization session o) = Rows.Nothing
+rowsIn (M.Negotiate session o) = Rows.Nothing
+rowsIn (M.End session outcome) = Rows.Nothing
+rowsIn (M.Wait session time) = Rows.Nothing
+rowsIn (M.Synch session o) = Rows.Nothing
+rowsIn (M.Flood session initiator ttl first pairs) = Rows.Pairs pairs
+rowsIn (M.Invalid session item) = Rows.Nothing
+
+unfoldable pub endBy : List ℕ → Rows → ℕ
+endBy list Rows.Nothing = 0
+endBy list (Rows.Locators series) = locatorsEnd series list
+endBy list (Rows.Pairs series) = pairsEnd series list
+
+unfoldable pub filledBy : List ℕ → List ℕ → Rows → List ℕ
+filledBy s list Rows.Nothing = list
+filledBy s list (Rows.Locators series) = locatorsFilled s series list
+filledBy s list (Rows.Pairs series) = pairsFilled s series list
+
+unfoldable pub rowsEnd : Message → List ℕ → ℕ
+rowsEnd m list = endBy list (rowsIn m)
+
+unfoldable pub rowsFilled : List ℕ → Message → List ℕ → List ℕ
+rowsFilled s m list = filledBy s list (rowsIn m)

@@ -1,0 +1,120 @@
+// A message that was read, as a description for the writer: its numbers and spans, and its locators or pairs as rows of a list.
+ghost use mathlib.Core.Path.{_≡_};
+ghost use Rattle.describe.specs.Describe.{goalOf, extraOf, endingOf, isDivert, descriptionOf};
+use message::Message;
+use message::Outcome;
+use message::Targets;
+use options::objective::Objective;
+use writer::Description;
+use writer::Ending;
+use writer::Extra;
+use writer::Goal;
+
+pub mod rows;
+
+// The description of a message; the spans are places of its bytes.
+pub fn description_of(m: Message) -> Description
+    ensures { λ r. ⌜ r ≡ descriptionOf m ⌝ }
+{
+    match m {
+        Message::Noop => Description::Noop,
+        Message::Discovery {
+            session,
+            initiator,
+            objective,
+        } => Description::Discovery {
+            session,
+            initiator,
+            objective: goal_of(objective),
+        },
+        Message::Response {
+            session,
+            initiator,
+            ttl,
+            targets,
+            extra,
+        } => Description::Response {
+            session,
+            initiator,
+            ttl,
+            divert: is_divert(targets),
+            extra: extra_of(extra),
+        },
+        Message::RequestNegotiation { session, objective } => Description::RequestNegotiation {
+            session,
+            objective: goal_of(objective),
+        },
+        Message::RequestSynchronization { session, objective } => {
+            Description::RequestSynchronization {
+                session,
+                objective: goal_of(objective),
+            }
+        }
+        Message::Negotiate { session, objective } => Description::Negotiate {
+            session,
+            objective: goal_of(objective),
+        },
+        Message::End { session, outcome } => Description::End {
+            session,
+            ending: ending_of(outcome),
+        },
+        Message::Wait { session, time } => Description::Wait { session, time },
+        Message::Synch { session, objective } => Description::Synch {
+            session,
+            objective: goal_of(objective),
+        },
+        Message::Flood {
+            session,
+            initiator,
+            ttl,
+            first: _,
+            pairs: _,
+        } => Description::Flood {
+            session,
+            initiator,
+            ttl,
+        },
+        Message::Invalid { session, item } => Description::Invalid { session, item },
+    }
+}
+
+fn goal_of(o: Objective) -> Goal
+    ensures { λ r. ⌜ r ≡ goalOf o ⌝ }
+{
+    let name = o.name;
+    let value = o.value;
+    Goal {
+        name,
+        flags: o.flags,
+        count: o.count,
+        value,
+    }
+}
+
+fn extra_of(extra: message::Extra) -> Extra
+    ensures { λ r. ⌜ r ≡ extraOf extra ⌝ }
+{
+    match extra {
+        message::Extra::Without => Extra::Without,
+        message::Extra::With(objective) => Extra::With(goal_of(objective)),
+    }
+}
+
+fn ending_of(outcome: Outcome) -> Ending
+    ensures { λ r. ⌜ r ≡ endingOf outcome ⌝ }
+{
+    match outcome {
+        Outcome::Accept => Ending::Accept,
+        Outcome::Decline => Ending::Decline,
+        Outcome::Reason(reason) => Ending::Reason(reason),
+    }
+}
+
+fn is_divert(targets: Targets) -> bool
+    ensures { λ r. ⌜ r ≡ isDivert targets ⌝ }
+{
+    match targets {
+        Targets::Locators(_) => false,
+        Targets::Divert(_) => true,
+    }
+}

@@ -1,0 +1,147 @@
+// The rows of a message's list.
+ghost use mathlib.Core.Path.{_≡_};
+ghost use Prim.Native.Nat.{_+_, _*_, _≤_};
+ghost use lib.ListN.{length};
+ghost use Rattle.describe.specs.Rows.{rowsIn, locatorNext, locatorRow, locatorsEnd, locatorsFilled, pairNext, pairRow, pairsEnd, pairsFilled, rowsEnd, rowsFilled};
+use message::Message;
+use message::Series;
+use message::Targets;
+use options::locator;
+use options::locator::LocatorRead;
+use options::pair;
+use options::pair::PairRead;
+
+// What a message's list has.
+pub enum Rows {
+    Nothing,
+    Locators(Series),
+    Pairs(Series),
+}
+
+// Fills the list with the rows of the message that was read of s; the answer is how many numbers they are. Where the list is
+// too short the answer is one more than it has, and it stays as it is.
+pub fn fill(s: &[u8], m: Message, list: &mut [u64]) -> usize
+    ensures { λ r. ⌜ r ≡ rowsEnd m (now (list .entry)) ⌝ }
+    ensures { λ r. ⌜ now (list .exit) ≡ rowsFilled (now (s .entry)) m (now (list .entry)) ⌝ }
+{
+    let rows = rows_in(m);
+    match rows {
+        Rows::Nothing => 0,
+        Rows::Locators(series) => fill_locators(s, series, list),
+        Rows::Pairs(series) => fill_pairs(s, series, list),
+    }
+}
+
+fn rows_in(m: Message) -> Rows
+    ensures { λ r. ⌜ r ≡ rowsIn m ⌝ }
+{
+    match m {
+        Message::Noop => Rows::Nothing,
+        Message::Discovery { .. } => Rows::Nothing,
+        Message::Response { targets, .. } => match targets {
+            Targets::Locators(series) => Rows::Locators(series),
+            Targets::Divert(series) => Rows::Locators(series),
+        },
+        Message::RequestNegotiation { .. } => Rows::Nothing,
+        Message::RequestSynchronization { .. } => Rows::Nothing,
+        Message::Negotiate { .. } => Rows::Nothing,
+        Message::End { .. } => Rows::Nothing,
+        Message::Wait { .. } => Rows::Nothing,
+        Message::Synch { .. } => Rows::Nothing,
+        Message::Flood { pairs, .. } => Rows::Pairs(pairs),
+        Message::Invalid { .. } => Rows::Nothing,
+    }
+}
+
+fn fill_locators(s: &[u8], series: Series, list: &mut [u64]) -> usize
+    ensures { λ r. ⌜ r ≡ locatorsEnd series (now (list .entry)) ⌝ }
+    ensures { λ r. ⌜ now (list .exit) ≡ locatorsFilled (now (s .entry)) series (now (list .entry)) ⌝ }
+{
+    let many = series.many;
+    let room = list.len() / 5;
+    if (room as u64) < many {
+        return list.len() + 1;
+    }
+    let n = many as usize;
+    let mut at = series.at;
+    for i in 0..n {
+        at = fill_locator(s, at, i, list);
+    }
+    5 * n
+}
+
+// The locator at `at` in row i; the answer is the place after it.
+fn fill_locator(s: &[u8], at: usize, i: usize, list: &mut [u64]) -> usize
+    requires { ⌜ 5 * i + 5 ≤ length (now list) ⌝ }
+    ensures { λ r. ⌜ r ≡ locatorNext (now (s .entry)) at ⌝ }
+    ensures { λ r. ⌜ now (list .exit) ≡ locatorRow (now (s .entry)) at i (now (list .entry)) ⌝ }
+{
+    let read = locator::read_at(s, at);
+    match read {
+        LocatorRead::Bad(_) => at,
+        LocatorRead::Got {
+            locator,
+            size,
+            bad: _,
+        } => {
+            let n = locator::numbers_of(locator);
+            list[5 * i] = n[0];
+            list[5 * i + 1] = n[1];
+            list[5 * i + 2] = n[2];
+            list[5 * i + 3] = n[3];
+            list[5 * i + 4] = n[4];
+            at + size
+        }
+    }
+}
+
+fn fill_pairs(s: &[u8], series: Series, list: &mut [u64]) -> usize
+    ensures { λ r. ⌜ r ≡ pairsEnd series (now (list .entry)) ⌝ }
+    ensures { λ r. ⌜ now (list .exit) ≡ pairsFilled (now (s .entry)) series (now (list .entry)) ⌝ }
+{
+    let many = series.many;
+    let room = list.len() / 12;
+    if (room as u64) < many {
+        return list.len() + 1;
+    }
+    let n = many as usize;
+    let mut at = series.at;
+    for i in 0..n {
+        at = fill_pair(s, at, i, list);
+    }
+    12 * n
+}
+
+// The pair at `at` in row i, with 0 for the place of the count's head; the answer is the place after it.
+fn fill_pair(s: &[u8], at: usize, i: usize, list: &mut [u64]) -> usize
+    requires { ⌜ 12 * i + 12 ≤ length (now list) ⌝ }
+    ensures { λ r. ⌜ r ≡ pairNext (now (s .entry)) at ⌝ }
+    ensures { λ r. ⌜ now (list .exit) ≡ pairRow (now (s .entry)) at i (now (list .entry)) ⌝ }
+{
+    let read = pair::read_at(s, at);
+    match read {
+        PairRead::Bad(_) => at,
+        PairRead::Got {
+            objective,
+            tag,
+            size,
+            bad: _,
+            long: _,
+        } => {
+            let n = pair::numbers_of(objective, tag);
+            list[12 * i] = n[0];
+            list[12 * i + 1] = n[1];
+            list[12 * i + 2] = n[2];
+            list[12 * i + 3] = n[3];
+            list[12 * i + 4] = 0;
+            list[12 * i + 5] = n[5];
+            list[12 * i + 6] = n[6];
+            list[12 * i + 7] = n[7];
+            list[12 * i + 8] = n[8];
+            list[12 * i + 9] = n[9];
+            list[12 * i + 10] = n[10];
+            list[12 * i + 11] = n[11];
+            at + size
+        }
+    }
+}

@@ -1,0 +1,73 @@
+-- `grasp::writing::grasp_write` meets its contract.
+-- Assumes nothing.
+use Rattle.grasp.specs.Writing.{numberOf, lengthOf, numberBy, bytesBy, lengthBy, writeNumber, writeBytes, writeLength}
+use borrow.Author.Needs.{needs}
+use Rattle.grasp.proofs.writing.grasp_write.Statement.{statement}
+use Rattle.grasp.proofs.writing.grasp_write.Tie as tie
+use Rattle.grasp.proofs.writing.grasp_write.Reads as reads
+use Rattle.grasp.proofs.writing.grasp_write.Lts as lts
+use Rattle.grasp.proofs.writing.told_by.Reads as told-by-reads
+use Rattle.writer.proofs.write.Reads as write-reads
+
+-- src/writing.rt:31:9
+told-by-requires : tie.Need-told-by-requires
+told-by-requires c κs = search needs
+
+-- src/writing.rt:33:26
+enum-told : tie.Need-enum-told
+enum-told c = search needs
+
+-- src/writing.rt:34:20
+enum-known-told : tie.Need-enum-known-told
+enum-known-told c = search needs
+
+-- src/writing.rt:35:17
+write-requires : tie.Need-write-requires
+write-requires c κs = search needs
+
+-- src/writing.rt:37:34
+enum-known-written : tie.Need-enum-known-written
+enum-known-written c = search needs
+
+-- src/writing.rt:38:33
+enum-known-written-2 : tie.Need-enum-known-written-2
+enum-known-written-2 c = search needs
+
+-- src/writing.rt:19:1
+returns : tie.Need-returns
+unfolding writeNumber numberBy numberOf writeBytes bytesBy writeLength lengthBy lengthOf
+returns c = (rw (← c .before .before .told-by .ensures, c .enum-told .given .1), (rw (← c .before .before .told-by .ensures, c .enum-told .given .1), rw (← c .before .before .told-by .ensures, c .enum-told .given .1)))
+
+-- src/writing.rt:19:1
+same-length : tie.Need-same-length
+same-length c = search needs
+
+-- src/writing.rt:19:1
+returns-2 : tie.Need-returns-2
+unfolding writeNumber numberBy numberOf writeBytes bytesBy writeLength lengthBy lengthOf
+returns-2 c = (rw (← c .before .before .before .before .before .before .before .before .before .before .told-by .ensures, c .before .before .before .before .before .before .before .before .told .given .1, ← c .before .before .before .before .before .write .ensures .0, c .before .written .given .1), (rw (← c .before .before .before .before .before .before .before .before .before .before .told-by .ensures, c .before .before .before .before .before .before .before .before .told .given .1) (c .before .before .before .before .before .write .ensures .1), rw (← c .before .before .before .before .before .before .before .before .before .before .told-by .ensures, c .before .before .before .before .before .before .before .before .told .given .1, ← c .before .before .before .before .before .write .ensures .0, c .before .written .given .1)))
+
+-- src/writing.rt:19:1
+same-length-2 : tie.Need-same-length-2
+same-length-2 c = search needs
+
+-- src/writing.rt:19:1
+returns-3 : tie.Need-returns-3
+unfolding writeNumber numberBy numberOf writeBytes bytesBy writeLength lengthBy lengthOf
+returns-3 c = (rw (← c .before .before .before .before .before .before .before .before .before .before .told-by .ensures, c .before .before .before .before .before .before .before .before .told .given .1, ← c .before .before .before .before .before .write .ensures .0, c .before .written2 .given .1), (rw (← c .before .before .before .before .before .before .before .before .before .before .told-by .ensures, c .before .before .before .before .before .before .before .before .told .given .1) (c .before .before .before .before .before .write .ensures .1), rw (← c .before .before .before .before .before .before .before .before .before .before .told-by .ensures, c .before .before .before .before .before .before .before .before .told .given .1, ← c .before .before .before .before .before .write .ensures .0, c .before .written2 .given .1)))
+
+pub grasp-write-spec : {M : Type 1} → statement M
+grasp-write-spec =
+    tie.close
+    (tie.spec
+    told-by-requires
+    enum-told
+    enum-known-told
+    write-requires
+    enum-known-written
+    enum-known-written-2
+    returns
+    same-length
+    returns-2
+    same-length-2
+    returns-3)

@@ -1,0 +1,184 @@
+-- What is written for a description of a source of bytes is made of bytes, and is of a known kind.
+-- Assumes nothing.
+use mathlib.Core.Bool.{true, false}
+use mathlib.Core.List.{List, [], _∷_, _++_}
+use Prim.Native.Nat.{ℕ, _+_, _*_, _/_, _<_}
+use native.Mathlib.Omega.{arith}
+use lib.Dec.{eqb, lit<}
+use lib.ListN.{length}
+use Rattle.base.specs.BigEndian.{Bytes, bytesOf}
+use Rattle.base.specs.Lists.{Every}
+use Rattle.base.proofs.Picks.{both}
+use Rattle.cbor.specs.Put.{head}
+use Rattle.cbor.specs.Tree.{infoOf, shortest, headBytes}
+use Rattle.options.specs.declared.Span.{Span}
+use Rattle.writer.specs.declared.objective.Entry.{Entry}
+use Rattle.writer.specs.declared.locator.Place.{Place}
+use Rattle.writer.specs.declared.Extra.{Extra}
+use Rattle.writer.specs.declared.Extra.the-variants as X
+use Rattle.writer.specs.declared.Ending.{Ending}
+use Rattle.writer.specs.declared.Ending.the-variants as E
+use Rattle.writer.specs.declared.Description.{Description}
+use Rattle.writer.specs.declared.Description.the-variants as D
+use Rattle.writer.specs.Grasp.{Maybe, Loc, Pair, string, numberOrNull, reached, fixed, encodeLoc, encodeLocs, encodeObj, maybeObj, locOrEmpty, encodePair, encodePairs, encodeTargets, reason, opening, encodeMsg}
+use Rattle.writer.specs.Describe.{placeRow, pairRow, entryRow, cut, entryOf, objOf, orNull, locOf, placeAt, entryAt, rowLoc, locsOf, targetsOf, extraOf, locOrNone, rowPair, pairsOf, endOf, msgOf}
+use Rattle.roundtrip.proofs.Bytes.{bytes-append, bytes-more, bytes-none, bytes-of}
+use Rattle.roundtrip.proofs.Script.{info-least}
+use Rattle.roundtrip.proofs.Once.{Told}
+use Rattle.roundtrip.proofs.Judged.{bytes-cut, up-to-exactly}
+
+-- ---- the kind
+-- an End's
+end-told : (source : List ℕ) (s : ℕ) (e : Ending) → Told 6 (endOf source s e)
+unfolding endOf
+end-told source s E.Accept = Told.accept
+end-told source s E.Decline = Told.decline
+end-told source s (E.Reason t) = Told.decline
+
+-- Every description speaks of a known kind.
+pub described-told : (source list : List ℕ) (d : Description) → (k : ℕ) × Told k (msgOf source list d)
+unfolding msgOf
+described-told source list D.Noop = (0, Told.noop)
+described-told source list (D.Discovery s i o) = (1, Told.discovery)
+described-told source list (D.Response s i t d o) = (2, Told.response)
+described-told source list (D.RequestNegotiation s o) = (3, Told.request-negotiation)
+described-told source list (D.RequestSynchronization s o) = (4, Told.request-synchronization)
+described-told source list (D.Negotiate s o) = (5, Told.negotiate)
+described-told source list (D.End s e) = (6, end-told source s e)
+described-told source list (D.Wait s t) = (7, Told.wait)
+described-told source list (D.Synch s o) = (8, Told.synch)
+described-told source list (D.Flood s i t) = (9, Told.flood)
+described-told source list (D.Invalid s v) = (99, Told.invalid)
+
+-- ---- the bytes
+record AllBytes (s : List ℕ) : Type 0 where
+  are : Bytes s
+
+-- one list after the other
+then : {a b : List ℕ} → AllBytes a → AllBytes b → AllBytes (a ++ b)
+then {a} {b} p q = record { are = bytes-append a b (p .are) (q .are) }
+
+-- none
+no-bytes : AllBytes []
+no-bytes = record { are = bytes-none }
+
+-- the shortest head
+head-bytes : (major n : ℕ) → major < 7 → AllBytes (head major n)
+unfolding head headBytes
+head-bytes major n h =
+    record { are = bytes-more (major * 32 + infoOf (shortest n) n) (bytesOf (shortest n) n) (omega (arith, info-least n)) (bytes-of (shortest n) n) }
+
+-- an array's
+array-bytes : (n : ℕ) → AllBytes (head 4 n)
+array-bytes n = head-bytes 4 n (lit< tt)
+
+-- a number's
+number-bytes : (n : ℕ) → AllBytes (head 0 n)
+number-bytes n = head-bytes 0 n (lit< tt)
+
+-- a number or null
+or-null-bytes : (n : Maybe ℕ) → AllBytes (numberOrNull n)
+unfolding numberOrNull
+or-null-bytes Maybe.none = record { are = bytes-more 0xf6 [] (lit< tt) bytes-none }
+or-null-bytes (Maybe.some n) = number-bytes n
+
+-- locators
+locators-bytes : (ls : List Loc) → Every (λ l. AllBytes (encodeLoc l)) ls → AllBytes (encodeLocs ls)
+unfolding encodeLocs
+locators-bytes [] h = no-bytes
+locators-bytes (l ∷ ls) h = then (h .0) (locators-bytes ls (h .1))
+
+-- pairs
+pairs-bytes : (ps : List Pair) → Every (λ p. AllBytes (encodePair p)) ps → AllBytes (encodePairs ps)
+unfolding encodePairs
+pairs-bytes [] h = no-bytes
+pairs-bytes (p ∷ ps) h = then (h .0) (pairs-bytes ps (h .1))
+
+-- a message's first items
+opening-bytes : (n kind session : ℕ) → AllBytes (opening n kind session)
+unfolding opening
+opening-bytes n kind session = then (then (array-bytes n) (number-bytes kind)) (number-bytes session)
+
+module _ (source : List ℕ) (b : Bytes source) where
+  -- strings of the source
+  string-bytes : (major : ℕ) (s : Span) → major < 7 → AllBytes (string major (cut source s))
+  unfolding string
+  string-bytes major s h = then (head-bytes major (length (cut source s)) h) (record { are = bytes-cut source s b })
+
+  -- a text
+  text-bytes : (s : Span) → AllBytes (string 3 (cut source s))
+  text-bytes s = string-bytes 3 s (lit< tt)
+
+  -- an address
+  address-bytes : (s : Span) → AllBytes (string 2 (cut source s))
+  address-bytes s = string-bytes 2 s (lit< tt)
+
+  -- a locator with a protocol and a port
+  fixed-bytes : (kind major : ℕ) (s : Span) (p q : ℕ) → major < 7 → AllBytes (fixed kind major (cut source s) p q)
+  unfolding fixed reached
+  fixed-bytes kind major s p q h = then (then (then (then (array-bytes 4) (number-bytes kind)) (string-bytes major s h)) (number-bytes p)) (number-bytes q)
+
+  -- a described locator
+  locator-bytes : (p : Place) → AllBytes (encodeLoc (locOf source p))
+  unfolding locOf encodeLoc reached
+  locator-bytes p =
+      both (λ l. AllBytes (encodeLoc l)) (eqb (p .kind) 103) (fixed-bytes 103 2 (p .content) (p .protocol) (p .port) (lit< tt))
+      (both (λ l. AllBytes (encodeLoc l)) (eqb (p .kind) 104) (fixed-bytes 104 2 (p .content) (p .protocol) (p .port) (lit< tt))
+      (both (λ l. AllBytes (encodeLoc l)) (eqb (p .kind) 105) (fixed-bytes 105 3 (p .content) (p .protocol) (p .port) (lit< tt))
+      (then (then (then (then (array-bytes 4) (number-bytes 106)) (text-bytes (p .content))) (or-null-bytes (orNull 0 (p .protocol)))) (or-null-bytes (orNull 65536 (p .port))))))
+
+  -- a described objective
+  objective-bytes : (o : Entry) → AllBytes (encodeObj (objOf source o))
+  unfolding objOf encodeObj
+  objective-bytes o =
+      then (then (then (then (array-bytes _) (text-bytes (o .name))) (number-bytes (o .flags))) (number-bytes (o .count))) (record { are = bytes-cut source (o .value) b })
+
+  -- the locators of a list
+  rows-bytes : (list : List ℕ) → AllBytes (encodeLocs (locsOf source list))
+  unfolding locsOf rowLoc
+  rows-bytes list =
+      locators-bytes (locsOf source list)
+      (up-to-exactly (λ l. AllBytes (encodeLoc l)) (rowLoc source list) (length list / placeRow) .1 (λ i l. locator-bytes (placeAt list (placeRow * i))))
+
+  -- a pair's locator or none
+  tag-bytes : (p : Place) → AllBytes (locOrEmpty (locOrNone source p))
+  unfolding locOrNone locOrEmpty
+  tag-bytes p = both (λ l. AllBytes (locOrEmpty l)) (eqb (p .kind) 0) (array-bytes 0) (locator-bytes p)
+
+  -- a described pair
+  pair-bytes : (list : List ℕ) (i : ℕ) → AllBytes (encodePair (rowPair source list i))
+  unfolding rowPair encodePair
+  pair-bytes list i = then (then (array-bytes 2) (objective-bytes (entryAt list (pairRow * i)))) (tag-bytes (placeAt list (pairRow * i + entryRow)))
+
+  -- an objective that may be left out
+  extra-bytes : (o : Extra) → AllBytes (maybeObj (extraOf source o))
+  unfolding extraOf maybeObj
+  extra-bytes X.Without = no-bytes
+  extra-bytes (X.With o) = objective-bytes (entryOf o)
+
+  -- a described message
+  message-bytes : (list : List ℕ) (d : Description) → AllBytes (encodeMsg (msgOf source list d))
+  unfolding msgOf encodeMsg pairsOf targetsOf encodeTargets endOf reason
+  message-bytes list D.Noop = then (array-bytes 1) (number-bytes 0)
+  message-bytes list (D.Discovery s i o) = then (then (opening-bytes 4 1 s) (address-bytes i)) (objective-bytes (entryOf o))
+  message-bytes list (D.Response s i t false o) =
+      then (then (then (then (opening-bytes _ 2 s) (address-bytes i)) (number-bytes t)) (rows-bytes list)) (extra-bytes o)
+  message-bytes list (D.Response s i t true o) =
+      then (then (then (then (opening-bytes _ 2 s) (address-bytes i)) (number-bytes t)) (then (then (array-bytes _) (number-bytes 100)) (rows-bytes list))) (extra-bytes o)
+  message-bytes list (D.RequestNegotiation s o) = then (opening-bytes 3 3 s) (objective-bytes (entryOf o))
+  message-bytes list (D.RequestSynchronization s o) = then (opening-bytes 3 4 s) (objective-bytes (entryOf o))
+  message-bytes list (D.Negotiate s o) = then (opening-bytes 3 5 s) (objective-bytes (entryOf o))
+  message-bytes list (D.End s E.Accept) = then (then (opening-bytes 3 6 s) (array-bytes 1)) (number-bytes 101)
+  message-bytes list (D.End s E.Decline) = then (then (then (opening-bytes 3 6 s) (array-bytes _)) (number-bytes 102)) no-bytes
+  message-bytes list (D.End s (E.Reason t)) = then (then (then (opening-bytes 3 6 s) (array-bytes _)) (number-bytes 102)) (text-bytes t)
+  message-bytes list (D.Wait s t) = then (opening-bytes 3 7 s) (number-bytes t)
+  message-bytes list (D.Synch s o) = then (opening-bytes 3 8 s) (objective-bytes (entryOf o))
+  message-bytes list (D.Flood s i t) =
+      then (then (then (opening-bytes _ 9 s) (address-bytes i)) (number-bytes t))
+      (pairs-bytes (pairsOf source list)
+      (up-to-exactly (λ p. AllBytes (encodePair p)) (rowPair source list) (length list / pairRow) .1 (λ i l. pair-bytes list i)))
+  message-bytes list (D.Invalid s v) = then (opening-bytes _ 99 s) (record { are = bytes-cut source v b })
+
+  -- What is written for a source of bytes is made of bytes.
+  pub draft-bytes : (list : List ℕ) (d : Description) → Bytes (encodeMsg (msgOf source list d))
+  draft-bytes list d = message-bytes list d .are

@@ -1,0 +1,299 @@
+-- The judge of descriptions, held against what they say: it passes those that say something, with values that are items.
+-- Assumes nothing.
+use mathlib.Core.Path.{_≡_, refl, sym, ap, _∙_, subst}
+use mathlib.Core.Logic.{_↔_, _⊎_, inl, inr}
+use mathlib.Core.Bool.{Bool, true, false}
+use mathlib.Core.List.{List, [], _∷_, append-nil}
+use Prim.Native.Nat.{ℕ, zero, suc, _+_, _*_, _/_, _%_, _≤_, _<_}
+use native.Mathlib.Decide.{decLt}
+use native.Mathlib.Omega.{arith}
+use native.Mathlib.Nat.{add-zero, zero-add}
+use lib.Dec.{ltb, eqb, lit<}
+use lib.ListN.{length, take, drop, getD, length-take, length-drop}
+use lib.Seq.{take-length}
+use borrow.Author.Tests.{ltb-false, eqb-true, eqb-false, le-ltb, eq-eqb}
+use Rattle.base.specs.Pick.{pick}
+use Rattle.base.specs.BigEndian.{Bytes}
+use Rattle.base.specs.Lists.{Every}
+use Rattle.base.proofs.Lists.{every-append}
+use Rattle.base.proofs.Parts.{bytes-drop}
+use Rattle.base.proofs.Picks.{pick-case, both}
+use Rattle.cbor.specs.declared.item.ItemRead.{ItemRead}
+use Rattle.cbor.specs.Item.{firstItem}
+use Rattle.cbor.specs.Tree.{encode}
+use Rattle.cbor.proofs.Accepts.{item-accepts}
+use Rattle.cbor.proofs.Exact.{item-exact}
+use Rattle.options.specs.declared.Span.{Span}
+use Rattle.writer.specs.declared.objective.Entry.{Entry}
+use Rattle.writer.specs.declared.locator.Place.{Place}
+use Rattle.writer.specs.declared.Extra.{Extra}
+use Rattle.writer.specs.declared.Extra.the-variants as X
+use Rattle.writer.specs.declared.Ending.{Ending}
+use Rattle.writer.specs.declared.Ending.the-variants as E
+use Rattle.writer.specs.declared.Description.{Description}
+use Rattle.writer.specs.declared.Description.the-variants as D
+use Rattle.writer.specs.Describe.{placeRow, pairRow, entryRow, upTo, cut, entryOf, objOf, placeAt, entryAt, rowPair, pairsOf, extraOf, endOf, msgOf}
+use Rattle.writer.specs.Judge.{okDiscovery, okResponse, okFlood, okParts, hasList, okList, okDescribed, alone, whole, inside, okValue, okItem, okEntry, okPlace, blank, okNoneOr, allFrom, okRow, okRows, okPair, okPairs, okExtra, okEnding}
+use Rattle.roundtrip.specs.Says.{Inside, EntrySays, PlaceSays, Blank, PairSays, Rows, ExtraSays, EndingSays, PartsSay}
+use Rattle.roundtrip.proofs.Script.{Valued}
+use Rattle.roundtrip.proofs.Once.{Each, ValuedObj, ValuedPair, ValuedMsg}
+
+-- ---- tests
+-- no test is both
+pub never : false ≡ true → ⊥
+never e = let z : _≡_ {A = ℕ} 0 1 = cc in omega arith
+
+-- both tests
+and-exactly : {t u : Bool} {A B : Type 0} → t ≡ true ↔ A → u ≡ true ↔ B → pick t u false ≡ true ↔ (A × B)
+unfolding pick
+and-exactly {t = true} f g = (λ h. (f .0 refl, g .0 h), λ h. g .1 (h .1))
+and-exactly {t = false} f g = (λ h. absurd (never h), λ h. absurd (never (f .1 (h .0))))
+
+-- the second test, where the first fails
+unless-exactly : {t u : Bool} {A B : Type 0} → t ≡ false ↔ A → u ≡ true ↔ B → pick t false u ≡ true ↔ (A × B)
+unfolding pick
+unless-exactly {t = true} f g = (λ h. absurd (never h), λ h. absurd (never (sym (f .1 (h .0)))))
+unless-exactly {t = false} f g = (λ h. (f .0 refl, g .0 h), λ h. g .1 (h .1))
+
+-- equal numbers
+equal-exactly : (a b : ℕ) → eqb a b ≡ true ↔ (a ≡ b)
+equal-exactly a b = (eqb-true a b, eq-eqb a b)
+
+-- a least number
+least-exactly : (a b : ℕ) → ltb a b ≡ false ↔ (b ≤ a)
+least-exactly a b = (ltb-false a b, le-ltb a b)
+
+-- no test
+always : true ≡ true ↔ Unit {0}
+always = (λ h. tt, λ h. refl)
+
+-- in other words
+retold : {P A B : Type 0} → P ↔ A → (A → B) → (B → A) → P ↔ B
+retold f g h = (λ p. g (f .0 p), λ b. f .1 (h b))
+
+-- ---- spans and values
+-- a span in the source
+inside-exactly : (source : List ℕ) (s : Span) → inside source s ≡ true ↔ Inside source s
+unfolding inside cut
+inside-exactly source s = retold (equal-exactly (length (cut source s)) (s .len)) there back
+  where
+    there : length (take (s .len) (drop (s .at) source)) ≡ s .len → Inside source s
+    there e =
+        elim (decLt 0 (s .len)) [
+          | yes z ↦ inr (omega (arith, length-take (s .len) (drop (s .at) source), length-drop (s .at) source))
+          | no z ↦ inl (omega arith)
+        ]
+
+    back : Inside source s → length (take (s .len) (drop (s .at) source)) ≡ s .len
+    back (inl z) = omega (arith, length-take (s .len) (drop (s .at) source))
+    back (inr h) = omega (arith, length-take (s .len) (drop (s .at) source), length-drop (s .at) source)
+
+-- bytes that are one item, and nothing else
+whole-is : (bs : List ℕ) → Bytes bs → whole bs ≡ true → Valued bs
+unfolding whole alone
+whole-is bs b = go (firstItem 0 bs) refl
+  where
+    found : (e : ℕ) → firstItem 0 bs ≡ ItemRead.Ends e → e ≡ length bs → Valued bs
+    found e q same =
+        let i = item-exact 0 bs e b q in
+        let all : bs ≡ encode (i .item) = sym (take-length bs) ∙ ap (λ (k : ℕ). take k bs) (sym same) ∙ i .bytes in
+        subst Valued (sym all) (Valued.one (i .item) (i .good) (i .shallow))
+
+    go : (r : ItemRead) → firstItem 0 bs ≡ r → alone (length bs) r ≡ true → Valued bs
+    go (ItemRead.Refused number place) q h = absurd (never h)
+    go (ItemRead.Ends e) q h = found e q (eqb-true e (length bs) h)
+
+-- and an item is
+value-ok : (bs : List ℕ) → Valued bs → okValue bs ≡ true
+unfolding okValue pick whole alone
+value-ok _ Valued.none = refl
+value-ok _ (Valued.one x g d) =
+    let ends : firstItem 0 (encode x) ≡ ItemRead.Ends (length (encode x)) = ap (firstItem 0) (sym (append-nil (encode x))) ∙ item-accepts 0 x [] g d in
+    both (λ r. r ≡ true) (eqb (length (encode x)) 0) refl (rw ends (eq-eqb (length (encode x)) (length (encode x)) refl))
+
+-- no bytes are the empty list
+no-bytes : (bs : List ℕ) → length bs ≡ 0 → bs ≡ []
+no-bytes [] e = refl
+no-bytes (x ∷ bs) e = absurd (omega arith)
+
+-- a value: none, or an item
+value-exactly : (bs : List ℕ) → Bytes bs → okValue bs ≡ true ↔ Valued bs
+unfolding okValue
+value-exactly bs b = (
+  pick-case (λ r. r ≡ true → Valued bs) (eqb (length bs) 0) (λ e h. subst Valued (sym (no-bytes bs (eqb-true (length bs) 0 e))) Valued.none) (λ e h. whole-is bs b h),
+  value-ok bs,
+)
+
+-- parts of bytes are bytes
+bytes-front : (n : ℕ) (s : List ℕ) → Bytes s → Bytes (take n s)
+bytes-front zero s b i = lit< tt
+bytes-front (suc n) [] b i = lit< tt
+bytes-front (suc n) (x ∷ s) b zero = b 0
+bytes-front (suc n) (x ∷ s) b (suc i) = bytes-front n s (λ j. b (suc j)) i
+
+-- a span's
+pub bytes-cut : (source : List ℕ) (s : Span) → Bytes source → Bytes (cut source s)
+unfolding cut
+bytes-cut source s b = bytes-front (s .len) (drop (s .at) source) (bytes-drop (s .at) source b)
+
+-- ---- rows
+-- each of the first n
+all-exactly : (p : ℕ → Bool) (P : ℕ → Type 0) → ((i : ℕ) → p i ≡ true ↔ P i) → (n i : ℕ) → allFrom p n i ≡ true ↔ ((j : ℕ) → j < n → P (i + j))
+unfolding allFrom
+all-exactly p P f zero i = (λ h j l. absurd (omega arith), λ h. refl)
+all-exactly p P f (suc n) i =
+    retold (and-exactly (f i) (all-exactly p P f n (suc i)))
+    (λ h j l. split h j l)
+    (λ h. (rw add-zero at (h 0 (omega arith)), λ j l. rw step at (h (suc j) (omega arith))))
+  where
+    step : (j : ℕ) → i + suc j ≡ suc i + j
+    step j = omega arith
+
+    split : P i × ((j : ℕ) → j < n → P (suc i + j)) → (j : ℕ) → j < suc n → P (i + j)
+    split h zero l = rw add-zero (h .0)
+    split h (suc j) l = rw step (h .1 j (omega arith))
+
+-- what holds of each of a list of rows
+pub up-to-exactly : {A : Type 0} (P : A → Type 0) (f : ℕ → A) (n : ℕ) → Every P (upTo f n) ↔ ((i : ℕ) → i < n → P (f i))
+unfolding upTo
+up-to-exactly P f zero = (λ h i l. absurd (omega arith), λ h. tt)
+up-to-exactly P f (suc n) =
+    retold (every-append P (upTo f n) (f n ∷ []))
+    (λ h i l. elim (decLt i n) [ yes m ↦ up-to-exactly P f n .0 (h .0) i m | no m ↦ last h i (omega arith) ])
+    (λ h. (up-to-exactly P f n .1 (λ i l. h i (omega arith)), (h n (omega arith), tt)))
+  where
+    last : Every P (upTo f n) × (P (f n) × Unit {0}) → (i : ℕ) → i ≡ n → P (f i)
+    last h i e = rw e (h .1 .0)
+
+-- five zeros
+blank-exactly : (p : Place) → blank p ≡ true ↔ ((p .content .at ≡ 0) × ((p .content .len ≡ 0) × ((p .protocol ≡ 0) × (p .port ≡ 0))))
+unfolding blank
+blank-exactly p =
+    and-exactly (equal-exactly (p .content .at) 0)
+    (and-exactly (equal-exactly (p .content .len) 0) (and-exactly (equal-exactly (p .protocol) 0) (equal-exactly (p .port) 0)))
+
+-- a list where there is none to be
+list-exactly : (list : List ℕ) → eqb (length list) 0 ≡ true ↔ (list ≡ [])
+list-exactly list = retold (equal-exactly (length list) 0) (no-bytes list) (ap length)
+
+module _ (source : List ℕ) (b : Bytes source) where
+  -- ---- the parts
+  -- an item
+  item-exactly : (v : Span) → okItem source v ≡ true ↔ (Inside source v × Valued (cut source v))
+  unfolding okItem
+  item-exactly v = and-exactly (inside-exactly source v) (value-exactly (cut source v) (bytes-cut source v b))
+
+  -- an objective
+  entry-exactly : (o : Entry) → okEntry source o ≡ true ↔ (EntrySays source o × Valued (cut source (o .value)))
+  unfolding okEntry
+  entry-exactly o =
+      retold (and-exactly (inside-exactly source (o .name)) (item-exactly (o .value)))
+      (λ h. (record { name = h .0; value = h .1 .0 }, h .1 .1))
+      (λ h. (h .0 .name, (h .0 .value, h .1)))
+
+  -- a locator
+  place-exactly : (p : Place) → okPlace source p ≡ true ↔ PlaceSays source p
+  unfolding okPlace
+  place-exactly p =
+      retold (unless-exactly (least-exactly (p .kind) 103) (unless-exactly (least-exactly 106 (p .kind)) (inside-exactly source (p .content))))
+      (λ h. record { least = h .0; most = h .1 .0; content = h .1 .1 })
+      (λ h. (h .least, (h .most, h .content)))
+
+  -- a pair's locator or none
+  tag-exactly : (p : Place) → okNoneOr source p ≡ true ↔ (Blank p ⊎ PlaceSays source p)
+  unfolding okNoneOr
+  tag-exactly p = (
+    pick-case (λ r. r ≡ true → Blank p ⊎ PlaceSays source p) (eqb (p .kind) 0)
+        (λ e h. let f = blank-exactly p .0 h in inl (record { kind = eqb-true (p .kind) 0 e; at = f .0; len = f .1 .0; protocol = f .1 .1 .0; port = f .1 .1 .1 }))
+        (λ e h. inr (place-exactly p .0 h)),
+    back,
+  )
+    where
+      back : Blank p ⊎ PlaceSays source p → pick (eqb (p .kind) 0) (blank p) (okPlace source p) ≡ true
+      back (inl h) =
+          pick-case (λ r. r ≡ true) (eqb (p .kind) 0) (λ e. blank-exactly p .1 (h .at, (h .len, (h .protocol, h .port)))) (λ e. absurd (eqb-false (p .kind) 0 e (h .kind)))
+      back (inr h) =
+          pick-case (λ r. r ≡ true) (eqb (p .kind) 0) (λ e. absurd (omega (arith, eqb-true (p .kind) 0 e, h .least))) (λ e. place-exactly p .1 h)
+
+  -- the locators of a list
+  rows-exactly : (list : List ℕ) → okRows source list ≡ true ↔ Rows list placeRow (λ k. PlaceSays source (placeAt list (placeRow * k)))
+  unfolding okRows okRow
+  rows-exactly list =
+      retold
+      (and-exactly (equal-exactly (length list % placeRow) 0)
+      (all-exactly (okRow source list) (λ k. PlaceSays source (placeAt list (placeRow * k))) (λ k. place-exactly (placeAt list (placeRow * k))) (length list / placeRow) 0))
+      (λ h. record { whole = h .0; each = λ i l. rw zero-add at (h .1 i l) })
+      (λ h. (h .whole, λ i l. rw zero-add (h .each i l)))
+
+  -- a pair's row, with its value
+  pair-exactly : (list : List ℕ) (i : ℕ) → okPair source list i ≡ true ↔ (PairSays source list i × ValuedPair (rowPair source list i))
+  unfolding okPair rowPair objOf
+  pair-exactly list i =
+      retold
+      (and-exactly (equal-exactly (getD list (pairRow * i + 4) 0) 0)
+      (and-exactly (entry-exactly (entryAt list (pairRow * i))) (tag-exactly (placeAt list (pairRow * i + entryRow)))))
+      (λ h. (record { kept = h .0; objective = h .1 .0 .0; locator = h .1 .1 }, h .1 .0 .1))
+      (λ h. (h .0 .kept, ((h .0 .objective, h .1), h .0 .locator)))
+
+  -- the pairs of a list
+  pairs-exactly : (list : List ℕ) → okPairs source list ≡ true ↔ (Rows list pairRow (PairSays source list) × Every ValuedPair (pairsOf source list))
+  unfolding okPairs pairsOf
+  pairs-exactly list =
+      retold
+      (and-exactly (equal-exactly (length list % pairRow) 0)
+      (all-exactly (okPair source list) (λ i. PairSays source list i × ValuedPair (rowPair source list i)) (pair-exactly list) (length list / pairRow) 0))
+      (λ h. (
+        record { whole = h .0; each = λ i l. rw zero-add at (h .1 i l .0) },
+        up-to-exactly ValuedPair (rowPair source list) (length list / pairRow) .1 (λ i l. rw zero-add at (h .1 i l .1)),
+      ))
+      (λ h. (h .0 .whole, λ i l. rw zero-add (h .0 .each i l, up-to-exactly ValuedPair (rowPair source list) (length list / pairRow) .0 (h .1) i l)))
+
+  -- an objective that may be left out
+  extra-exactly : (o : Extra) → okExtra source o ≡ true ↔ (ExtraSays source o × Each ValuedObj (extraOf source o))
+  unfolding okExtra extraOf objOf
+  extra-exactly X.Without = (λ h. (tt, tt), λ h. refl)
+  extra-exactly (X.With o) = entry-exactly (entryOf o)
+
+  -- how a negotiation ends
+  ending-exactly : (e : Ending) → okEnding source e ≡ true ↔ EndingSays source e
+  unfolding okEnding
+  ending-exactly E.Accept = (λ h. tt, λ h. refl)
+  ending-exactly E.Decline = (λ h. tt, λ h. refl)
+  ending-exactly (E.Reason t) = inside-exactly source t
+
+  -- which has no value
+  end-valued : (s : ℕ) (e : Ending) → ValuedMsg (endOf source s e)
+  unfolding endOf
+  end-valued s E.Accept = tt
+  end-valued s E.Decline = tt
+  end-valued s (E.Reason t) = tt
+
+  -- ---- descriptions
+  -- an objective, and no list
+  exchange-exactly : (list : List ℕ) (o : Entry) → pick (eqb (length list) 0) (okEntry source o) false ≡ true ↔ (((list ≡ []) × EntrySays source o) × Valued (cut source (o .value)))
+  exchange-exactly list o =
+      retold (and-exactly (list-exactly list) (entry-exactly o)) (λ h. ((h .0, h .1 .0), h .1 .1)) (λ h. (h .0 .0, (h .0 .1, h .1)))
+
+  -- Those that the judge passes say something, and their values are items.
+  pub described-exactly : (list : List ℕ) (d : Description) → okDescribed source list d ≡ true ↔ (PartsSay source list d × ValuedMsg (msgOf source list d))
+  unfolding okDescribed okList hasList okParts okDiscovery okResponse okFlood msgOf objOf pick
+  described-exactly list D.Noop = retold (and-exactly (list-exactly list) always) (λ h. (h .0, tt)) (λ h. (h .0, tt))
+  described-exactly list (D.Discovery s i o) =
+      retold (and-exactly (list-exactly list) (and-exactly (inside-exactly source i) (entry-exactly (entryOf o))))
+      (λ h. ((h .0, h .1 .0, h .1 .1 .0), h .1 .1 .1))
+      (λ h. (h .0 .0, (h .0 .1, (h .0 .2, h .1))))
+  described-exactly list (D.Response s i t d o) =
+      retold (and-exactly (inside-exactly source i) (and-exactly (rows-exactly list) (extra-exactly o)))
+      (λ h. ((h .0, h .1 .0, h .1 .1 .0), h .1 .1 .1))
+      (λ h. (h .0 .0, (h .0 .1, (h .0 .2, h .1))))
+  described-exactly list (D.RequestNegotiation s o) = exchange-exactly list (entryOf o)
+  described-exactly list (D.RequestSynchronization s o) = exchange-exactly list (entryOf o)
+  described-exactly list (D.Negotiate s o) = exchange-exactly list (entryOf o)
+  described-exactly list (D.End s e) =
+      retold (and-exactly (list-exactly list) (ending-exactly e)) (λ h. (h, end-valued s e)) (λ h. h .0)
+  described-exactly list (D.Wait s t) = retold (and-exactly (list-exactly list) always) (λ h. (h .0, tt)) (λ h. (h .0, tt))
+  described-exactly list (D.Synch s o) = exchange-exactly list (entryOf o)
+  described-exactly list (D.Flood s i t) =
+      retold (and-exactly (inside-exactly source i) (pairs-exactly list)) (λ h. ((h .0, h .1 .0), h .1 .1)) (λ h. (h .0 .0, (h .0 .1, h .1)))
+  described-exactly list (D.Invalid s v) =
+      retold (and-exactly (list-exactly list) (item-exactly v)) (λ h. ((h .0, h .1 .0), h .1 .1)) (λ h. (h .0 .0, (h .0 .1, h .1)))

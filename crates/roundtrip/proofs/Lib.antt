@@ -1,0 +1,18 @@
+-- For readers: `Read`, accepted bytes are the writer's encoding of their message; `Relay`, a message with its count one lower; `Write`, what is
+-- written is read back, and exactly where 18 and 19 are answered.
+pub mod Read
+pub mod Relay
+pub mod Write
+-- For callers' proofs: items that are messages, encoded; encodings are bytes.
+pub mod Encodes
+pub mod Bytes
+-- For the proofs of this crate: where the count stands; messages that are encoded alike are the same; what the judge passes; bytes
+-- handed over.
+mod Places
+mod Counts
+mod Script
+mod Once
+mod Within
+mod Judged
+mod Drafts
+mod Hand

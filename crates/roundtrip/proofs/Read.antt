@@ -1,0 +1,29 @@
+-- Bytes that are accepted: they are bytes, and they are the writer's encoding of their message.
+-- Assumes nothing.
+use mathlib.Core.Path.{_≡_, sym, ap, _∙_, subst}
+use mathlib.Core.List.{List}
+use Prim.Native.Nat.{ℕ}
+use Rattle.base.specs.BigEndian.{Bytes}
+use Rattle.exact.specs.Accepted.{Accepted}
+use Rattle.writer.specs.declared.Description.{Description}
+use Rattle.writer.specs.Grasp.{encodeMsg}
+use Rattle.writer.specs.Describe.{msgOf}
+use Rattle.writer.specs.Write.{draftOf}
+use Rattle.roundtrip.specs.Plain.{plain}
+use Rattle.roundtrip.proofs.Encodes.{plain-encodes}
+use Rattle.roundtrip.proofs.Bytes.{bytes-encode}
+
+-- for readers
+
+-- Accepted bytes are bytes.
+pub accepted-bytes : (s : List ℕ) → Accepted s → Bytes s
+accepted-bytes s a = subst Bytes (a .message .bytes) (bytes-encode (a .message .item) (a .message .good))
+
+-- What was read, encoded again, is what it was.
+pub read-encoded : (s : List ℕ) (a : Accepted s) → encodeMsg (plain (a .message .msg)) ≡ s
+read-encoded s a = sym (plain-encodes (a .message .good) (a .message .is)) ∙ a .message .bytes
+
+-- So any description that speaks of that message is drafted as the bytes that were read.
+pub read-drafted : (s source list : List ℕ) (d : Description) (a : Accepted s) → msgOf source list d ≡ plain (a .message .msg) → draftOf source list d ≡ s
+unfolding draftOf
+read-drafted s source list d a e = ap encodeMsg e ∙ read-encoded s a

@@ -1,0 +1,243 @@
+-- Relaying: a Discovery or a Flood that was read, with the head of its count replaced by the shortest of one less, is read as the same message with
+-- that count one lower; it isn't longer, and it is what the writer writes for that message. For readers: each statement at the end stands alone.
+-- Assumes nothing.
+use mathlib.Core.Path.{_≡_, refl, sym, ap, _∙_, subst}
+use mathlib.Core.Logic.{_⊎_, inl, inr}
+use mathlib.Core.List.{List, [], _∷_, _++_, append-assoc}
+use Prim.Native.Nat.{ℕ, _+_, _-_, _^_, _≤_, _<_}
+use native.Mathlib.Omega.{arith}
+use lib.Dec.{lit<}
+use lib.ListN.{length, take, drop, length-append}
+use borrow.Author.Tests.{ne-eqb, le-ltb}
+use lib.Seq.{take-at, drop-append-add, drop-at}
+use Rattle.base.specs.Pick.{pick}
+use Rattle.base.specs.BigEndian.{Bytes}
+use Rattle.cbor.specs.Put.{head}
+use Rattle.cbor.specs.Tree.{Item, Sized, shortest, headBytes, encode, Good}
+use Rattle.cbor.proofs.HeadExact.{length-head, shortest-right}
+use Rattle.cbor.proofs.PutExact.{shortest-head}
+use Rattle.options.specs.declared.Span.{Span}
+use Rattle.options.specs.declared.objective.Objective.{Objective}
+use Rattle.grammar.specs.Cddl.{Msg}
+use Rattle.grammar.specs.Limits.{TextsGood, NamesGood, textsOf, namesOf, pairsTexts, pairTexts, pairsNames}
+use Rattle.grammar.specs.Stands.{held}
+use Rattle.grammar.proofs.Bridge.{text-token}
+use Rattle.message.specs.declared.Extra.{Extra}
+use Rattle.message.specs.declared.Message.{Message}
+use Rattle.message.specs.declared.Message.the-variants as M
+use Rattle.message.specs.declared.Reading.{Reading}
+use Rattle.message.specs.Fields.{kindOf, sessionOf, initiatorOf, objectiveOf}
+use Rattle.message.specs.Read.{mostBytes, readOf}
+use Rattle.exact.specs.Accepted.{Accepted}
+use Rattle.exact.specs.Describes.{InitiatorIs, Describes}
+use Rattle.exact.proofs.Exact.{accepted-exactly, accepted-described}
+use Rattle.writer.specs.Grasp.{encodeMsg}
+use Rattle.writer.specs.declared.Written.{Written}
+use Rattle.writer.specs.Write.{lowered, passes, passAnswer, passOut, okLower, lowerAnswer, lowerOut}
+use Rattle.roundtrip.specs.Plain.{plain}
+use Rattle.roundtrip.specs.Lower.{withCount, lowerObj, lowerMsg, Lowers, loweredBy, Relays}
+use Rattle.roundtrip.proofs.Hand.{handed}
+use Rattle.roundtrip.proofs.Read.{accepted-bytes, read-encoded}
+use Rattle.roundtrip.proofs.Counts.{Hole, hole}
+
+-- ---- texts and names
+-- a lowered message has the same texts
+texts-stay : (msg : Msg) → textsOf (lowerMsg msg) ≡ textsOf msg
+unfolding textsOf lowerMsg lowerObj withCount pairsTexts pairTexts
+texts-stay Msg.noop = refl
+texts-stay (Msg.discovery s i o) = refl
+texts-stay (Msg.response s i t aim o) = refl
+texts-stay (Msg.request-negotiation s o) = refl
+texts-stay (Msg.request-synchronization s o) = refl
+texts-stay (Msg.negotiate s o) = refl
+texts-stay (Msg.end s e) = refl
+texts-stay (Msg.wait s t) = refl
+texts-stay (Msg.synch s o) = refl
+texts-stay (Msg.flood s i t []) = refl
+texts-stay (Msg.flood s i t (p ∷ ps)) = refl
+texts-stay (Msg.invalid s item) = refl
+
+-- and the same names
+names-stay : (msg : Msg) → namesOf (lowerMsg msg) ≡ namesOf msg
+unfolding namesOf lowerMsg lowerObj withCount pairsNames
+names-stay Msg.noop = refl
+names-stay (Msg.discovery s i o) = refl
+names-stay (Msg.response s i t aim o) = refl
+names-stay (Msg.request-negotiation s o) = refl
+names-stay (Msg.request-synchronization s o) = refl
+names-stay (Msg.negotiate s o) = refl
+names-stay (Msg.end s e) = refl
+names-stay (Msg.wait s t) = refl
+names-stay (Msg.synch s o) = refl
+names-stay (Msg.flood s i t []) = refl
+names-stay (Msg.flood s i t (p ∷ ps)) = refl
+names-stay (Msg.invalid s item) = refl
+
+-- ---- the head replaced
+-- a head of the same width has one less
+sized-less : {w n : ℕ} → Sized w n → Sized w (n - 1)
+sized-less {n = n} (Sized.in-first h) = let l : n - 1 < 24 = omega arith in Sized.in-first l
+sized-less {n = n} (Sized.one h) = let l : n - 1 < 2 ^ 8 = omega arith in Sized.one l
+sized-less {n = n} (Sized.two h) = let l : n - 1 < 2 ^ 16 = omega arith in Sized.two l
+sized-less {n = n} (Sized.four h) = let l : n - 1 < 2 ^ 32 = omega arith in Sized.four l
+sized-less {n = n} (Sized.eight h) = let l : n - 1 < 2 ^ 64 = omega arith in Sized.eight l
+
+module _ {s : List ℕ} {at end n : ℕ} {msg : Msg} (h : Hole s at end n msg) where
+  -- the item with the count one lower
+  less : Item
+  less = h .item (shortest (n - 1)) (n - 1)
+
+  -- it is without fault
+  less-good : Good less
+  unfolding less
+  less-good = h .good (shortest (n - 1)) (n - 1) (shortest-right 0 (n - 1) (lit< tt) (omega (arith, h .limit)))
+
+  -- the bytes around the count
+  spelt : s ≡ h .before ++ (headBytes 0 (h .width) n ++ h .after)
+  spelt = sym (h .whole) ∙ h .spelt (h .width) n
+
+  -- the replaced bytes are its encoding
+  replaced : lowered s at end n ≡ encode less
+  unfolding lowered head less
+  replaced =
+      let front : take at s ≡ h .before = ap (take at) spelt ∙ take-at (h .before) (headBytes 0 (h .width) n ++ h .after) at (sym (h .place)) in
+      let back : drop end s ≡ h .after =
+      ap (λ (k : ℕ). drop k s) (h .ends ∙ ap (λ (k : ℕ). k + length (headBytes 0 (h .width) n)) (h .place))
+      ∙ ap (drop (length (h .before) + length (headBytes 0 (h .width) n))) spelt
+      ∙ drop-append-add (h .before) (headBytes 0 (h .width) n ++ h .after) (length (headBytes 0 (h .width) n))
+      ∙ drop-at (headBytes 0 (h .width) n) (h .after) (length (headBytes 0 (h .width) n)) refl in
+      rw (front, back, append-assoc) (sym (h .spelt (shortest (n - 1)) (n - 1)))
+
+  -- they are no more
+  shorter : length (lowered s at end n) ≤ length s
+  unfolding less head
+  shorter =
+      let few : length (head 0 (n - 1)) ≤ length (headBytes 0 (h .width) (n - 1)) = shortest-head 0 (h .width) (n - 1) (sized-less (h .sized)) in
+      let l : length (lowered s at end n) ≡ length (h .before) + (length (headBytes 0 (shortest (n - 1)) (n - 1)) + length (h .after)) =
+      ap length (replaced ∙ h .spelt (shortest (n - 1)) (n - 1)) ∙ simp length-append in
+      let k : length s ≡ length (h .before) + (length (headBytes 0 (h .width) n) + length (h .after)) = ap length spelt ∙ simp length-append in
+      omega (arith, length-head 0 (h .width) n, length-head 0 (h .width) (n - 1))
+
+  -- the count's head lies in them
+  within : (at ≤ end) × (end ≤ length s)
+  within =
+      let k : length s ≡ length (h .before) + (length (headBytes 0 (h .width) n) + length (h .after)) = ap length spelt ∙ simp length-append in
+      (omega (arith, h .ends), omega (arith, h .ends, h .place))
+
+  -- and they are accepted
+  lowered-accepted : length s ≤ mostBytes → TextsGood msg → NamesGood msg → (a : Accepted (lowered s at end n)) × (a .message .msg ≡ lowerMsg msg)
+  unfolding less
+  lowered-accepted most texts names = (
+    record {
+      message =
+          record {
+            item = less;
+            msg = lowerMsg msg;
+            bytes = sym replaced;
+            most = omega (arith, shorter);
+            good = less-good;
+            shallow = h .shallow (shortest (n - 1)) (n - 1);
+            is = h .is (shortest (n - 1));
+          };
+      texts = rw (texts-stay msg) texts;
+      names = rw (names-stay msg) names;
+    },
+    refl,
+  )
+
+-- ---- what the two readings share
+-- an initiator's span holds its bytes
+initiator-held : {s : List ℕ} {p e : ℕ} {i : Span} {from : List ℕ} → InitiatorIs s p e i from → held s i ≡ from
+initiator-held {s} {e = e} {from = from} i =
+    let c = text-token (i .stands) in
+    let at : e - length from ≡ c .body = omega (arith, c .end) in
+    ap (held s) (i .held) ∙ ap (λ (k : ℕ). take (length from) (drop k s)) at ∙ c .content
+
+-- the two readings
+relays : {s l : List ℕ} {m m′ : Message} {o : Objective} {msg : Msg} → Lowers m o → Describes s m msg → Describes l m′ (lowerMsg msg) → Relays s m o l m′
+unfolding lowerMsg lowerObj withCount kindOf sessionOf initiatorOf
+relays Lowers.discovery (Describes.discovery k n i o) (Describes.discovery {o = o′} k′ n′ i′ j) =
+    record {
+      kind = refl;
+      session = refl;
+      initiator = initiator-held i′ ∙ sym (initiator-held i);
+      objective = o′;
+      lowers = Lowers.discovery;
+      lower = j .count ∙ ap (λ (c : ℕ). c - 1) (sym (o .count));
+    }
+relays Lowers.flood (Describes.flood k n i t s a o) (Describes.flood {o = o′} k′ n′ i′ t′ s′ a′ j) =
+    record {
+      kind = refl;
+      session = refl;
+      initiator = initiator-held i′ ∙ sym (initiator-held i);
+      objective = o′;
+      lowers = Lowers.flood;
+      lower = j .count ∙ ap (λ (c : ℕ). c - 1) (sym (o .count));
+    }
+
+-- the count of a message that was read
+count-hole : (s : List ℕ) (m : Message) (o : Objective) → Bytes s → readOf s ≡ Reading.Read m → Lowers m o → (a : Accepted s)
+    → Hole s (o .«count_at») (o .value .at) (o .count) (a .message .msg)
+count-hole s m o b q low a =
+    hole low (accepted-described s m b q a) (a .message .is) (a .message .good) (a .message .shallow) (a .message .bytes)
+
+-- a number that is neither
+neither : {n : ℕ} → (n ≡ 1) ⊎ (n ≡ 9) → (n ≡ 1 → ⊥) → (n ≡ 9 → ⊥) → ⊥
+neither (inl e) f g = f e
+neither (inr e) f g = g e
+
+-- for readers
+
+-- The objective whose count a relay lowers, by the fields of what was read.
+pub lowers-by : (m : Message) (o : Objective) → (kindOf m ≡ 1) ⊎ (kindOf m ≡ 9) → objectiveOf m ≡ Extra.With o → Lowers m o
+unfolding kindOf objectiveOf
+lowers-by (M.Discovery session i o′) o k e = let same : o′ ≡ o = cc in subst (Lowers (M.Discovery session i o′)) same Lowers.discovery
+lowers-by (M.Flood session i ttl o′ series) o k e = let same : o′ ≡ o = cc in subst (Lowers (M.Flood session i ttl o′ series)) same Lowers.flood
+lowers-by M.Noop o k e = absurd (neither k (λ e. omega arith) (λ e. omega arith))
+lowers-by (M.Response session i ttl targets extra) o k e = absurd (neither k (λ e. omega arith) (λ e. omega arith))
+lowers-by (M.RequestNegotiation session objective) o k e = absurd (neither k (λ e. omega arith) (λ e. omega arith))
+lowers-by (M.RequestSynchronization session objective) o k e = absurd (neither k (λ e. omega arith) (λ e. omega arith))
+lowers-by (M.Negotiate session objective) o k e = absurd (neither k (λ e. omega arith) (λ e. omega arith))
+lowers-by (M.End session outcome) o k e = absurd (neither k (λ e. omega arith) (λ e. omega arith))
+lowers-by (M.Wait session time) o k e = absurd (neither k (λ e. omega arith) (λ e. omega arith))
+lowers-by (M.Synch session objective) o k e = absurd (neither k (λ e. omega arith) (λ e. omega arith))
+lowers-by (M.Invalid session item) o k e = absurd (neither k (λ e. omega arith) (λ e. omega arith))
+
+-- A Discovery or a Flood with its count's head replaced is accepted, as the same message with that count one lower.
+pub lowered-accepts : (s : List ℕ) (m : Message) (o : Objective) → Bytes s → readOf s ≡ Reading.Read m → Lowers m o → (a : Accepted s)
+    → (a′ : Accepted (loweredBy s o)) × (a′ .message .msg ≡ lowerMsg (a .message .msg))
+lowered-accepts s m o b q low a = lowered-accepted (count-hole s m o b q low a) (a .message .most) (a .texts) (a .names)
+
+-- It is read, with the kind, the session and the initiator that it had, and a count one lower.
+pub lowered-reads : (s : List ℕ) (m : Message) (o : Objective) → Bytes s → readOf s ≡ Reading.Read m → Lowers m o
+    → (m′ : Message) × (readOf (loweredBy s o) ≡ Reading.Read m′) × Relays s m o (loweredBy s o) m′
+lowered-reads s m o b q low =
+    let a = accepted-exactly s b .0 (m, q) in
+    let (a′, same) = lowered-accepts s m o b q low a in
+    let l = accepted-bytes (loweredBy s o) a′ in
+    let (m′, q′) = accepted-exactly (loweredBy s o) l .1 a′ in
+    (m′, q′, relays low (accepted-described s m b q a) (subst (Describes (loweredBy s o) m′) same (accepted-described (loweredBy s o) m′ l q′ a′)))
+
+-- It isn't longer.
+pub lowered-shorter : (s : List ℕ) (m : Message) (o : Objective) → Bytes s → readOf s ≡ Reading.Read m → Lowers m o → length (loweredBy s o) ≤ length s
+lowered-shorter s m o b q low = shorter (count-hole s m o b q low (accepted-exactly s b .0 (m, q)))
+
+-- It is what the writer writes for that message.
+pub lowered-written : (s : List ℕ) (m : Message) (o : Objective) → Bytes s → readOf s ≡ Reading.Read m → Lowers m o → (a : Accepted s)
+    → loweredBy s o ≡ encodeMsg (plain (lowerMsg (a .message .msg)))
+lowered-written s m o b q low a =
+    let (a′, same) = lowered-accepts s m o b q low a in
+    sym (read-encoded (loweredBy s o) a′) ∙ ap (λ (msg : Msg). encodeMsg (plain msg)) same
+
+-- So `lower` gives it, where the count is above 0 and the output has room for the message.
+pub lowered-given : (s : List ℕ) (m : Message) (o : Objective) (out : List ℕ) → Bytes s → readOf s ≡ Reading.Read m → Lowers m o → 1 ≤ o .count → length s ≤ length out
+    → (lowerAnswer s (o .«count_at») (o .value .at) (o .count) out ≡ Written.Length (length (loweredBy s o)))
+    × (lowerOut s (o .«count_at») (o .value .at) (o .count) out ≡ loweredBy s o ++ drop (length (loweredBy s o)) out)
+unfolding lowerAnswer lowerOut okLower passAnswer passOut passes pick
+lowered-given s m o out b q low some room =
+    let a = accepted-exactly s b .0 (m, q) in
+    let (lo, hi) = within (count-hole s m o b q low a) in
+    let less : length (loweredBy s o) ≤ length s = lowered-shorter s m o b q low in
+    let few : length (loweredBy s o) ≤ mostBytes = omega (arith, a .message .most) in
+    rw (ne-eqb (o .count) 0 (λ e. omega arith), le-ltb (o .value .at) (o .«count_at») lo, le-ltb (length s) (o .value .at) hi, le-ltb mostBytes (length (loweredBy s o)) few)
+    (handed (loweredBy s o) out (omega arith))

@@ -1,0 +1,190 @@
+-- What the writer writes, as a list of its pieces, and how two such lists that spell the same bytes agree from left to right.
+-- Assumes nothing.
+use mathlib.Core.Path.{_≡_, refl, sym, ap, _∙_}
+use mathlib.Core.List.{List, [], _∷_, _++_, append-assoc}
+use Prim.Native.Nat.{ℕ, _+_, _*_, _^_, _≤_, _<_}
+use native.Mathlib.Decide.{decLt}
+use native.Mathlib.Omega.{arith}
+use lib.Dec.{lit<}
+use lib.ListN.{length, take, getD, length-append}
+use lib.Seq.{take-at}
+use Rattle.base.specs.Pick.{pick}
+use Rattle.base.proofs.Parts.{cancel}
+use Rattle.cbor.specs.declared.head.HeadRead.{HeadRead}
+use Rattle.cbor.specs.Head.{headAt}
+use Rattle.cbor.specs.Item.{mostLevels}
+use Rattle.cbor.specs.Put.{head}
+use Rattle.cbor.specs.Tree.{Item, infoOf, shortest, headBytes, encode, depth, Good}
+use Rattle.cbor.proofs.HeadExact.{shortest-case}
+use Rattle.cbor.proofs.PutExact.{head-reads-back}
+use Rattle.cbor.proofs.Unique.{unique}
+use Rattle.message.specs.Read.{mostBytes}
+use Rattle.writer.specs.Grasp as W
+use Rattle.roundtrip.proofs.Encodes.{has-bytes}
+
+-- ---- heads
+-- numbers that a message may hold
+abbrev pub Small : ℕ → Type 0
+Small n = n < 2 ^ 32
+
+-- the additional information of a shortest head; that of a small argument
+pub info-least : (n : ℕ) → infoOf (shortest n) n ≤ 27
+unfolding infoOf pick
+info-least n = shortest-case (λ w. infoOf w n ≤ 27) n (λ a. omega arith) (λ a b. omega arith) (λ a b. omega arith) (λ a b. omega arith) (λ a. omega arith)
+
+-- of a small argument
+info-small : (n : ℕ) → Small n → infoOf (shortest n) n ≤ 26
+unfolding infoOf pick
+info-small n h = shortest-case (λ w. infoOf w n ≤ 26) n (λ a. omega arith) (λ a b. omega arith) (λ a b. omega arith) (λ a b. omega arith) (λ a. omega arith)
+
+-- of a great one
+info-great : (n : ℕ) → 2 ^ 32 ≤ n → infoOf (shortest n) n ≡ 27
+unfolding infoOf pick
+info-great n h = shortest-case (λ w. infoOf w n ≡ 27) n (λ a. omega arith) (λ a b. omega arith) (λ a b. omega arith) (λ a b. omega arith) (λ a. refl)
+
+-- the first bytes of two heads
+first-byte : (m m′ n n′ : ℕ) (r r′ : List ℕ) → head m n ++ r ≡ head m′ n′ ++ r′ → m * 32 + infoOf (shortest n) n ≡ m′ * 32 + infoOf (shortest n′) n′
+unfolding head headBytes
+first-byte m m′ n n′ r r′ e = ap (λ (l : List ℕ). getD l 0 0) e
+
+-- two shortest heads that begin the same bytes, where the first argument is small
+module _ (m m′ n n′ : ℕ) (r r′ : List ℕ) (hm : m < 7) (hm′ : m′ < 7) (h : Small n) (e : head m n ++ r ≡ head m′ n′ ++ r′) where
+  -- where both are small
+  head-read-once : n′ < 2 ^ 32 → (m ≡ m′) × (n ≡ n′)
+  head-read-once h′ =
+      let first : headAt (head m n ++ r) ≡ HeadRead.Head m n (length (head m n)) = head-reads-back m n r hm (omega arith) in
+      let second : headAt (head m′ n′ ++ r′) ≡ HeadRead.Head m′ n′ (length (head m′ n′)) = head-reads-back m′ n′ r′ hm′ (omega arith) in
+      let same : HeadRead.Head m n (length (head m n)) ≡ HeadRead.Head m′ n′ (length (head m′ n′)) = sym first ∙ ap headAt e ∙ second in
+      (cc, cc)
+
+  -- they are the same head
+  head-same : (m ≡ m′) × (n ≡ n′)
+  head-same =
+      elim (decLt n′ (2 ^ 32)) [
+        | yes l ↦ head-read-once l
+        | no l ↦ absurd (omega (arith, first-byte m m′ n n′ r r′ e, info-small n h, info-great n′ (omega arith)))
+      ]
+
+  -- and what follows is the same
+  head-rest : r ≡ r′
+  head-rest =
+      let (a, b) = head-same in
+      cancel (head m n) r r′ (e ∙ ap (λ (k : ℕ). head k n′ ++ r′) (sym a) ∙ ap (λ (k : ℕ). head m k ++ r′) (sym b))
+
+-- ---- pieces
+-- the head of an array, a number, null, a string of a major type, and a value's bytes
+pub data Piece : Type 0 where
+  array : ℕ → Piece
+  number : ℕ → Piece
+  null : Piece
+  string : ℕ → List ℕ → Piece
+  value : List ℕ → Piece
+
+-- a piece's bytes
+unfoldable pub spell : Piece → List ℕ
+spell (Piece.array n) = head 4 n
+spell (Piece.number n) = head 0 n
+spell Piece.null = 0xf6 ∷ []
+spell (Piece.string major bs) = W.string major bs
+spell (Piece.value bs) = bs
+
+-- those of several
+unfoldable pub spells : List Piece → List ℕ
+spells [] = []
+spells (t ∷ ts) = spell t ++ spells ts
+
+-- two lists of pieces that spell the same bytes, no more than a message has
+pub record Like (ts ts′ : List Piece) : Type 0 where
+  pub same : spells ts ≡ spells ts′
+  pub few : length (spells ts) ≤ mostBytes
+
+-- the rests, too
+rest-like : {t t′ : Piece} {ts ts′ : List Piece} → Like (t ∷ ts) (t′ ∷ ts′) → spells ts ≡ spells ts′ → Like ts ts′
+unfolding spells
+rest-like {t} {ts = ts} l e = record { same = e; few = omega (arith, l .few, length-append (spell t) (spells ts)) }
+
+-- a value of no bytes, or of one item's, of no more levels than allowed
+pub data Valued : List ℕ → Type 0 where
+  none : Valued []
+  one : (x : Item) → Good x → depth x ≤ mostLevels → Valued (encode x)
+
+-- ---- step by step
+-- the head of an array passed
+pub array-next : {n n′ : ℕ} {ts ts′ : List Piece} → Small n → Like (Piece.array n ∷ ts) (Piece.array n′ ∷ ts′) → (n ≡ n′) × Like ts ts′
+unfolding spells spell
+array-next {n} {n′} {ts} {ts′} h l = (
+  head-same 4 4 n n′ (spells ts) (spells ts′) (lit< tt) (lit< tt) h (l .same) .1,
+  rest-like l (head-rest 4 4 n n′ (spells ts) (spells ts′) (lit< tt) (lit< tt) h (l .same)),
+)
+
+-- a number passed
+pub number-next : {n n′ : ℕ} {ts ts′ : List Piece} → Small n → Like (Piece.number n ∷ ts) (Piece.number n′ ∷ ts′) → (n ≡ n′) × Like ts ts′
+unfolding spells spell
+number-next {n} {n′} {ts} {ts′} h l = (
+  head-same 0 0 n n′ (spells ts) (spells ts′) (lit< tt) (lit< tt) h (l .same) .1,
+  rest-like l (head-rest 0 0 n n′ (spells ts) (spells ts′) (lit< tt) (lit< tt) h (l .same)),
+)
+
+-- the length of a string that is the first piece
+string-small : {major : ℕ} {bs : List ℕ} {ts us : List Piece} → Like (Piece.string major bs ∷ ts) us → Small (length bs)
+unfolding spells spell W.string
+string-small {major} {bs} {ts} l = omega (arith, l .few, length-append (head major (length bs) ++ bs) (spells ts), length-append (head major (length bs)) bs)
+
+-- a string passed
+pub string-next : {major : ℕ} {bs bs′ : List ℕ} {ts ts′ : List Piece} → major < 7 → Like (Piece.string major bs ∷ ts) (Piece.string major bs′ ∷ ts′) → (bs ≡ bs′) × Like ts ts′
+unfolding spells spell W.string
+string-next {major} {bs} {bs′} {ts} {ts′} hm l =
+    let h = string-small l in
+    let e : head major (length bs) ++ (bs ++ spells ts) ≡ head major (length bs′) ++ (bs′ ++ spells ts′) =
+    sym (append-assoc (head major (length bs)) bs (spells ts)) ∙ l .same ∙ append-assoc (head major (length bs′)) bs′ (spells ts′) in
+    let (_, long) = head-same major major (length bs) (length bs′) (bs ++ spells ts) (bs′ ++ spells ts′) hm hm h e in
+    let rest = head-rest major major (length bs) (length bs′) (bs ++ spells ts) (bs′ ++ spells ts′) hm hm h e in
+    let same : bs ≡ bs′ = sym (take-at bs (spells ts) (length bs) refl) ∙ ap (take (length bs)) rest ∙ take-at bs′ (spells ts′) (length bs) (sym long) in
+    (same, rest-like l (cancel bs (spells ts) (spells ts′) (rest ∙ ap (λ (k : List ℕ). k ++ spells ts′) (sym same))))
+
+-- a text is no number
+pub text-number : {n : ℕ} {bs : List ℕ} {ts ts′ : List Piece} → Like (Piece.string 3 bs ∷ ts) (Piece.number n ∷ ts′) → ⊥
+unfolding spells spell W.string
+text-number {n} {bs} {ts} {ts′} l =
+    let e : head 3 (length bs) ++ (bs ++ spells ts) ≡ head 0 n ++ spells ts′ = sym (append-assoc (head 3 (length bs)) bs (spells ts)) ∙ l .same in
+    omega (arith, head-same 3 0 (length bs) n (bs ++ spells ts) (spells ts′) (lit< tt) (lit< tt) (string-small l) e .0)
+
+-- nor the other way round
+pub number-text : {n : ℕ} {bs : List ℕ} {ts ts′ : List Piece} → Like (Piece.number n ∷ ts) (Piece.string 3 bs ∷ ts′) → ⊥
+number-text {ts′ = ts′} l = text-number (turned l)
+  where
+    turned : {ts ts′ : List Piece} → Like ts ts′ → Like ts′ ts
+    turned l = record { same = sym (l .same); few = rw (sym (l .same)) (l .few) }
+
+-- a number or null
+abbrev pub perhaps : W.Maybe ℕ → Piece
+perhaps W.Maybe.none = Piece.null
+perhaps (W.Maybe.some n) = Piece.number n
+
+-- a small one
+abbrev pub SmallMaybe : W.Maybe ℕ → Type 0
+SmallMaybe W.Maybe.none = Unit {0}
+SmallMaybe (W.Maybe.some n) = Small n
+
+-- no number begins as null does
+number-null : (n : ℕ) (r r′ : List ℕ) → head 0 n ++ r ≡ (0xf6 ∷ []) ++ r′ → ⊥
+unfolding head headBytes
+number-null n r r′ e = omega (arith, ap (λ (l : List ℕ). getD l 0 0) e, info-least n)
+
+-- a number or null passed
+pub perhaps-next : {p p′ : W.Maybe ℕ} {ts ts′ : List Piece} → SmallMaybe p → Like (perhaps p ∷ ts) (perhaps p′ ∷ ts′) → (p ≡ p′) × Like ts ts′
+unfolding spells spell
+perhaps-next {p = W.Maybe.none} {p′ = W.Maybe.none} {ts} {ts′} h l = (refl, rest-like l (cancel (0xf6 ∷ []) (spells ts) (spells ts′) (l .same)))
+perhaps-next {p = W.Maybe.none} {p′ = W.Maybe.some n} {ts} {ts′} h l = absurd (number-null n (spells ts′) (spells ts) (sym (l .same)))
+perhaps-next {p = W.Maybe.some n} {p′ = W.Maybe.none} {ts} {ts′} h l = absurd (number-null n (spells ts) (spells ts′) (l .same))
+perhaps-next {p = W.Maybe.some n} {p′ = W.Maybe.some n′} h l = let (e, r) = number-next h l in (ap W.Maybe.some e, r)
+
+-- a value, where both are or neither is
+pub value-next : {v v′ : List ℕ} {ts ts′ : List Piece} → Valued v → Valued v′ → W.oneMore v ≡ W.oneMore v′ → Like (Piece.value v ∷ ts) (Piece.value v′ ∷ ts′) → (v ≡ v′) × Like ts ts′
+unfolding spells spell W.oneMore
+value-next Valued.none Valued.none e l = (refl, rest-like l (l .same))
+value-next Valued.none (Valued.one x g d) e l = absurd (omega (arith, e ∙ has-bytes x))
+value-next (Valued.one x g d) Valued.none e l = absurd (omega (arith, sym e ∙ has-bytes x))
+value-next {ts = ts} {ts′} (Valued.one x g d) (Valued.one x′ g′ d′) e l =
+    let same : x ≡ x′ = unique x x′ (spells ts) (spells ts′) g g′ (l .same) in
+    (ap encode same, rest-like l (cancel (encode x) (spells ts) (spells ts′) (l .same ∙ ap (λ (y : Item). encode y ++ spells ts′) (sym same))))

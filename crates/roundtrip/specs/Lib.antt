@@ -1,0 +1,5 @@
+-- `Plain`: a message of the grammar as the writer has it. `Lower`: a message with its count one lower, and what a relayed message keeps.
+-- `Says`: which message a description says, and what it is to be read back.
+pub mod Plain
+pub mod Lower
+pub mod Says

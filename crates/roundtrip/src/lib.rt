@@ -1,0 +1,1 @@
+// Writing held against reading: the laws of `writer`; it has no code of its own.

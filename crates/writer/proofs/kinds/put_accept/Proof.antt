@@ -1,0 +1,36 @@
+-- `writer::kinds::put_accept` meets its contract.
+-- Assumes nothing.
+use Rattle.writer.specs.Grasp.{encodeMsg}
+use Rattle.writer.proofs.Puts.{then}
+use borrow.Author.Needs.{needs}
+use Rattle.writer.proofs.kinds.put_accept.Statement.{statement}
+use Rattle.writer.proofs.kinds.put_accept.Tie as tie
+use Rattle.writer.proofs.kinds.put_accept.Reads as reads
+use Rattle.writer.proofs.kinds.put_accept.Lts as lts
+use Rattle.writer.proofs.kinds.put_opening.Reads as put-opening-reads
+use Rattle.writer.proofs.put.head.Reads as head-reads
+
+-- src/kinds.rt:151:9
+put-opening-requires : tie.Need-put-opening-requires
+put-opening-requires c κs = search needs
+
+-- src/kinds.rt:152:9
+head-requires : tie.Need-head-requires
+head-requires c κs = search needs
+
+-- src/kinds.rt:153:5
+head-requires-2 : tie.Need-head-requires-2
+head-requires-2 c κs = search needs
+
+-- src/kinds.rt:148:1
+same-length : tie.Need-same-length
+same-length c = search needs
+
+-- src/kinds.rt:148:1
+returns : tie.Need-returns
+unfolding encodeMsg
+returns c = then (then (c .before .before .before .before .before .before .before .before .before .before .put-opening .ensures) (c .before .before .before .before .before .before .head .ensures)) (c .before .before .head2 .ensures)
+
+pub put-accept-spec : {M : Type 1} → statement M
+put-accept-spec =
+    tie.close (tie.spec put-opening-requires head-requires head-requires-2 same-length returns)

@@ -1,0 +1,24 @@
+-- `writer::objective::one_more` meets its contract.
+-- Assumes nothing.
+use Rattle.writer.proofs.Spans.{more-none, more-one}
+use borrow.Author.Needs.{needs}
+use Rattle.writer.proofs.objective.one_more.Statement.{statement}
+use Rattle.writer.proofs.objective.one_more.Tie as tie
+use Rattle.writer.proofs.objective.one_more.Reads as reads
+use Rattle.writer.proofs.objective.one_more.Lts as lts
+use Rattle.writer.proofs.put.covered.Reads as covered-reads
+
+-- src/objective.rt:66:8
+covered-requires : tie.Need-covered-requires
+covered-requires c κs = search needs
+
+-- src/objective.rt:67:9
+returns : tie.Need-returns
+returns c = more-none _ _ (c .before .covered .ensures) (c .if1 .taken)
+
+-- src/objective.rt:63:1
+returns-2 : tie.Need-returns-2
+returns-2 c = more-one _ _ (c .before .covered .ensures) (c .if1 .left)
+
+pub one-more-spec : {M : Type 1} → statement M
+one-more-spec = tie.close (tie.spec covered-requires returns returns-2)

@@ -1,0 +1,37 @@
+-- `writer::put::byte` meets its contract.
+-- Assumes nothing.
+use Rattle.writer.proofs.Puts.{byte-over, byte-in}
+use native.Mathlib.Omega.{arith}
+use borrow.Author.Needs.{needs}
+use Rattle.writer.proofs.put.byte.Statement.{statement}
+use Rattle.writer.proofs.put.byte.Tie as tie
+use Rattle.writer.proofs.put.byte.Reads as reads
+use Rattle.writer.proofs.put.byte.Lts as lts
+
+-- src/put.rt:28:16
+add-result : tie.Need-add-result
+add-result c = search needs
+
+-- src/put.rt:28:9
+returns : tie.Need-returns
+returns c = byte-over _ _ _ (c .if1 .taken)
+
+-- src/put.rt:30:5
+slice-write-out : tie.Need-slice-write-out
+slice-write-out c = search needs
+
+-- src/put.rt:31:5
+add-result-2 : tie.Need-add-result-2
+add-result-2 c = search needs
+
+-- src/put.rt:24:1
+same-length : tie.Need-same-length
+same-length c = search needs
+
+-- src/put.rt:24:1
+returns-2 : tie.Need-returns-2
+returns-2 c = byte-in _ _ _ (omega arith)
+
+pub byte-spec : {M : Type 1} → statement M
+byte-spec =
+    tie.close (tie.spec add-result returns slice-write-out add-result-2 same-length returns-2)

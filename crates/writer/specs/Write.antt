@@ -1,0 +1,64 @@
+-- What the writer answers: 18, then 19, then the encoding at the front of the output; the bytes after it, and on a refusal all of them,
+-- are as they were.
+use Prim.Native.Nat.{ℕ, _-_}
+use mathlib.Core.Bool.{Bool, true, false}
+use mathlib.Core.List.{List, [], _∷_, _++_}
+use lib.ListN.{length, take, drop}
+use lib.Dec.{ltb, eqb}
+use Rattle.base.specs.Pick.{pick}
+use Rattle.cbor.specs.Put.{head}
+use Rattle.message.specs.Read.{mostBytes}
+use Rattle.writer.specs.declared.Description.{Description}
+use Rattle.writer.specs.declared.Written.{Written}
+use Rattle.writer.specs.Grasp.{Maybe, Loc, Targets, Msg, encodeMsg}
+use Rattle.writer.specs.Describe.{msgOf}
+use Rattle.writer.specs.Judge.{accepts, okDescribed}
+
+-- bytes handed over: 19 where the output is shorter than they are
+unfoldable pub handAnswer : List ℕ → List ℕ → Written
+handAnswer bs out = pick (ltb (length out) (length bs)) (Written.Refused 19) (Written.Length (length bs))
+
+unfoldable pub handOut : List ℕ → List ℕ → List ℕ
+handOut bs out = pick (ltb (length out) (length bs)) out (bs ++ drop (length bs) out)
+
+-- bytes that a test lets pass: 18 where it doesn't, or where they are over 2,048
+unfoldable pub passes : Bool → List ℕ → Bool
+passes test bs = pick (ltb mostBytes (length bs)) false test
+
+unfoldable pub passAnswer : Bool → List ℕ → List ℕ → Written
+passAnswer test bs out = pick (passes test bs) (handAnswer bs out) (Written.Refused 18)
+
+unfoldable pub passOut : Bool → List ℕ → List ℕ → List ℕ
+passOut test bs out = pick (passes test bs) (handOut bs out) out
+
+-- ---- `write`: the description by itself, at most 2,048 bytes, and the reader accepts them
+unfoldable pub draftOf : List ℕ → List ℕ → Description → List ℕ
+draftOf source list m = encodeMsg (msgOf source list m)
+
+unfoldable pub writeAnswer : List ℕ → List ℕ → Description → List ℕ → Written
+writeAnswer source list m out =
+    pick (okDescribed source list m) (passAnswer (accepts (draftOf source list m)) (draftOf source list m) out) (Written.Refused 18)
+
+unfoldable pub writeOut : List ℕ → List ℕ → Description → List ℕ → List ℕ
+writeOut source list m out =
+    pick (okDescribed source list m) (passOut (accepts (draftOf source list m)) (draftOf source list m) out) out
+
+-- ---- `lower`: the message with its bytes from `at` to `end`, the count's head, replaced by the shortest head of one less
+unfoldable pub lowered : List ℕ → ℕ → ℕ → ℕ → List ℕ
+lowered message at end count = take at message ++ head 0 (count - 1) ++ drop end message
+
+-- a count above 0, and a part of the message
+unfoldable pub okLower : List ℕ → ℕ → ℕ → ℕ → Bool
+okLower message at end count = pick (eqb count 0) false (pick (ltb end at) false (pick (ltb (length message) end) false true))
+
+unfoldable pub lowerAnswer : List ℕ → ℕ → ℕ → ℕ → List ℕ → Written
+lowerAnswer message at end count out =
+    pick (okLower message at end count) (passAnswer true (lowered message at end count) out) (Written.Refused 18)
+
+unfoldable pub lowerOut : List ℕ → ℕ → ℕ → ℕ → List ℕ → List ℕ
+lowerOut message at end count out = pick (okLower message at end count) (passOut true (lowered message at end count) out) out
+
+-- ---- `answer`: a Response with one locator of kind 103, protocol 6
+unfoldable pub answerOf : ℕ → List ℕ → ℕ → List ℕ → ℕ → List ℕ
+answerOf session initiator ttl address port =
+    encodeMsg (Msg.response session initiator ttl (Targets.locators (Loc.v6 address 6 port ∷ [])) Maybe.none)

@@ -1,0 +1,194 @@
+// GRASP messages written (RFC 8990), every head in its shortest form: from a description, from a message that is relayed, and a node's answer.
+// What is written goes to the front of the output and the bytes after it stay; on a refusal all of the output stays.
+ghost use mathlib.Core.Path.{_≡_};
+ghost use Rattle.writer.specs.Put.{Wrote};
+ghost use Rattle.writer.specs.Grasp.{fixed};
+ghost use mathlib.Core.Bool.{true};
+ghost use Prim.Native.Nat.{_<_, _≤_};
+ghost use lib.ListN.{length};
+ghost use Rattle.writer.specs.Write.{writeAnswer, writeOut, lowered, lowerAnswer, lowerOut, answerOf, passAnswer, passOut};
+use message::MOST_BYTES;
+use options::Span;
+
+mod judge;
+mod kinds;
+mod locator;
+mod objective;
+mod pair;
+mod put;
+
+// An objective: its name and value are bytes of the source, and a value of 0 bytes is none.
+pub struct Goal {
+    pub name: Span,
+    pub flags: u8,
+    pub count: u8,
+    pub value: Span,
+}
+
+// An objective that may be left out.
+pub enum Extra {
+    Without,
+    With(Goal),
+}
+
+// How a negotiation ends: accepted, declined, or declined with a reason.
+pub enum Ending {
+    Accept,
+    Decline,
+    Reason(Span),
+}
+
+// A message to be written. Spans are bytes of the source. The locators of a Response, or of its divert, and the pairs of a Flood are the rows of
+// the list. A locator's row is five numbers: kind (103 to 106), place and length of its address or text, protocol, port; for 106 protocol 0 and
+// port 65,536 stand for null. A pair's row is twelve: place and length of the name, flags, count, 0, place and length of the value, then the
+// locator's five, or five zeros for none. An item of 0 bytes is none.
+pub enum Description {
+    Noop,
+    Discovery {
+        session: u32,
+        initiator: Span,
+        objective: Goal,
+    },
+    Response {
+        session: u32,
+        initiator: Span,
+        ttl: u32,
+        divert: bool,
+        extra: Extra,
+    },
+    RequestNegotiation {
+        session: u32,
+        objective: Goal,
+    },
+    RequestSynchronization {
+        session: u32,
+        objective: Goal,
+    },
+    Negotiate {
+        session: u32,
+        objective: Goal,
+    },
+    End {
+        session: u32,
+        ending: Ending,
+    },
+    Wait {
+        session: u32,
+        time: u32,
+    },
+    Synch {
+        session: u32,
+        objective: Goal,
+    },
+    Flood {
+        session: u32,
+        initiator: Span,
+        ttl: u32,
+    },
+    Invalid {
+        session: u32,
+        item: Span,
+    },
+}
+
+// How many bytes were written, or the number of the refusal.
+pub enum Written {
+    Refused(u8),
+    Length(usize),
+}
+
+// The message of a description: 18 if no accepted message has it, then 19 if the output is too short.
+pub fn write(source: &[u8], list: &[u64], m: Description, out: &mut [u8]) -> Written
+    ensures { λ r. ⌜ r ≡ writeAnswer (now (source .entry)) (now (list .entry)) m (now (out .entry)) ⌝ }
+    ensures { λ r. ⌜ now (out .exit) ≡ writeOut (now (source .entry)) (now (list .entry)) m (now (out .entry)) ⌝ }
+{
+    if !judge::ok_described(source, list, m) {
+        return Written::Refused(18);
+    }
+    let mut draft = [0u8; MOST_BYTES];
+    let len = kinds::put_message(&mut draft, source, list, m);
+    if MOST_BYTES < len {
+        return Written::Refused(18);
+    }
+    if !judge::accepts(&draft[..len]) {
+        return Written::Refused(18);
+    }
+    put::hand(&draft[..len], out)
+}
+
+// The message with its bytes from `at` to `end`, the head of its loop count, replaced by the shortest head of one less.
+pub fn lower(message: &[u8], at: usize, end: usize, count: u8, out: &mut [u8]) -> Written
+    ensures { λ r. ⌜ r ≡ lowerAnswer (now (message .entry)) at end count (now (out .entry)) ⌝ }
+    ensures { λ r. ⌜ now (out .exit) ≡ lowerOut (now (message .entry)) at end count (now (out .entry)) ⌝ }
+{
+    if count == 0 {
+        return Written::Refused(18);
+    }
+    if end < at {
+        return Written::Refused(18);
+    }
+    if message.len() < end {
+        return Written::Refused(18);
+    }
+    let mut draft = [0u8; MOST_BYTES];
+    let len = put_lowered(&mut draft, message, at, end, count);
+    if MOST_BYTES < len {
+        return Written::Refused(18);
+    }
+    put::hand(&draft[..len], out)
+}
+
+// A Response with one locator of kind 103 and protocol 6, as a node answers.
+pub fn answer(
+    session: u32,
+    initiator: &[u8],
+    ttl: u32,
+    address: &[u8; 16],
+    port: u16,
+    out: &mut [u8],
+) -> Written
+    ensures { λ r. ⌜ r ≡ passAnswer true (answerOf session (now (initiator .entry)) ttl (now (address .entry)) port) (now (out .entry)) ⌝ }
+    ensures { λ r. ⌜ now (out .exit) ≡ passOut true (answerOf session (now (initiator .entry)) ttl (now (address .entry)) port) (now (out .entry)) ⌝ }
+{
+    let mut draft = [0u8; MOST_BYTES];
+    let len = put_answer(&mut draft, session, initiator, ttl, &address[..], port);
+    if MOST_BYTES < len {
+        return Written::Refused(18);
+    }
+    put::hand(&draft[..len], out)
+}
+
+fn put_lowered(out: &mut [u8], message: &[u8], at: usize, end: usize, count: u8) -> usize
+    requires { ⌜ (0 < count) × (at ≤ end) × (end ≤ length (now message)) ⌝ }
+    ensures { λ r. ⌜ Wrote (now (out .entry)) (now (out .exit)) 0 (lowered (now (message .entry)) at end count) r ⌝ }
+{
+    let a = put::all(out, 0, &message[..at]);
+    let b = put::head(out, a, 0, (count - 1) as u64);
+    put::all(out, b, &message[end..])
+}
+
+fn put_answer(
+    out: &mut [u8],
+    session: u32,
+    initiator: &[u8],
+    ttl: u32,
+    address: &[u8],
+    port: u16,
+) -> usize
+    ensures { λ r. ⌜ Wrote (now (out .entry)) (now (out .exit)) 0 (answerOf session (now (initiator .entry)) ttl (now (address .entry)) port) r ⌝ }
+{
+    let a = kinds::put_opening(out, 5, 2, session);
+    let b = put::string(out, a, 2, initiator);
+    let c = put::head(out, b, 0, ttl as u64);
+    put_home(out, c, address, port)
+}
+
+fn put_home(out: &mut [u8], at: usize, address: &[u8], port: u16) -> usize
+    ensures { λ r. ⌜ Wrote (now (out .entry)) (now (out .exit)) at (fixed 103 2 (now (address .entry)) 6 port) r ⌝ }
+{
+    let a = put::head(out, at, 4, 4);
+    let b = put::head(out, a, 0, 103);
+    let c = put::string(out, b, 2, address);
+    let d = put::head(out, c, 0, 6);
+    put::head(out, d, 0, port as u64)
+}
