@@ -4,3 +4,4 @@ pub mod cbor;
 pub mod message;
 pub mod random;
 pub mod vectors;
+pub mod writer;

@@ -5,6 +5,7 @@ mod shape;
 
 use crate::cbor;
 use item::Item;
+pub use shape::{ACCEPT, DECLINE, DIVERT, DOMAIN, TCP, UDP, URI, V4, V6};
 
 /// 01, refusal 1: a message of 0 bytes or over 2,048.
 pub const SIZE: u8 = 1;
@@ -20,8 +21,8 @@ pub const LONG_NAME: u8 = 10;
 pub const NOT_UTF8: u8 = 11;
 
 /// The most bytes of a message, and of an objective's name (01, house limits).
-const MOST_BYTES: usize = 2048;
-const MOST_OF_A_NAME: usize = 64;
+pub const MOST_BYTES: usize = 2048;
+pub const MOST_OF_A_NAME: usize = 64;
 
 /// The eleven kinds of message.
 const KINDS: [u64; 11] = [0, 1, 2, 3, 4, 5, 6, 7, 8, 9, 99];

@@ -4,13 +4,17 @@ use super::item::Item;
 use super::{Locator, Message, Objective, Outcome, Pair, Span, Target};
 
 /// The numbers of the options.
-const DIVERT: u8 = 100;
-const ACCEPT: u8 = 101;
-const DECLINE: u8 = 102;
-const V6: u8 = 103;
-const V4: u8 = 104;
-const DOMAIN: u8 = 105;
-const URI: u8 = 106;
+pub const DIVERT: u8 = 100;
+pub const ACCEPT: u8 = 101;
+pub const DECLINE: u8 = 102;
+pub const V6: u8 = 103;
+pub const V4: u8 = 104;
+pub const DOMAIN: u8 = 105;
+pub const URI: u8 = 106;
+
+/// The transport protocols that a locator may name.
+pub const TCP: u8 = 6;
+pub const UDP: u8 = 17;
 
 /// The message that the outermost item has the shape of.
 pub fn message(root: &Item) -> Option<Message> {
@@ -178,7 +182,8 @@ pub fn locator(item: &Item) -> Option<Locator> {
 
 /// TCP or UDP.
 fn protocol(item: &Item) -> Option<u8> {
-    item.unsigned().filter(|number| matches!(number, 6 | 17))
+    item.unsigned()
+        .filter(|number| matches!(*number, TCP | UDP))
 }
 
 /// Null, or what `read` makes of the item.

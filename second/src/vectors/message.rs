@@ -3,14 +3,14 @@
 mod examples;
 mod fields;
 pub mod generated;
-mod levels;
+pub(super) mod levels;
 mod lines;
-mod parts;
+pub(super) mod parts;
 mod refusals;
-mod shapes;
+pub(super) mod shapes;
 mod sizes;
-mod term;
-mod texts;
+pub(super) mod term;
+pub(super) mod texts;
 
 use std::collections::BTreeSet;
 

@@ -6,6 +6,7 @@ pub mod damage;
 mod edges;
 mod encode;
 pub mod message;
+pub mod write;
 
 /// A file of the repository that this program computes.
 pub struct Stored {
@@ -19,6 +20,7 @@ pub fn all() -> Vec<Stored> {
     [
         program("cbor_vectors", cbor::files()),
         program("message_vectors", message::files()),
+        program("write_vectors", write::files()),
     ]
     .into_iter()
     .flatten()

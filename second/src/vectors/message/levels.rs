@@ -5,7 +5,7 @@ use super::parts::*;
 use super::term::{encoded, Term};
 
 /// The bytes before and after an item that hold it one level down.
-const AROUND: &[(&str, &str)] = &[
+pub const AROUND: &[(&str, &str)] = &[
     ("81", ""),
     ("82 00", ""),
     ("A1", "00"),
@@ -15,7 +15,7 @@ const AROUND: &[(&str, &str)] = &[
 ];
 
 /// An item inside so many containers, of these sorts in turn.
-fn nest(depth: usize, inside: &str, sorts: &[(&str, &str)]) -> Term {
+pub fn nest(depth: usize, inside: &str, sorts: &[(&str, &str)]) -> Term {
     let outward = sorts.iter().cycle().take(depth);
     Term::Raw(outward.fold(unhex(inside), |bytes, (before, after)| {
         [unhex(before), bytes, unhex(after)].concat()

@@ -4,7 +4,7 @@ use super::parts::*;
 use super::term::{encoded, Term};
 
 /// Bytes that are not UTF-8 (RFC 3629): lone tails, cut, overlong, surrogates, too large.
-const BAD: &[&[u8]] = &[
+pub const BAD: &[&[u8]] = &[
     b"\x80",
     b"a\xBFb",
     b"\xC3",
@@ -20,7 +20,7 @@ const BAD: &[&[u8]] = &[
 ];
 
 /// Texts that are UTF-8, at the edges of its ranges too.
-const GOOD: &[&[u8]] = &[
+pub const GOOD: &[&[u8]] = &[
     b"",
     b"\x00",
     b"\x7F",
