@@ -1,7 +1,10 @@
 -- `Tests`: the rules that close a `returns` whose definition picks by tests. `Picks`: going by a test's two cases.
 -- `Parts`: parts of a slice as lists. `Digits`: numbers of n bytes, once for every n. `Lists`: what holds of each element.
+-- `Bools`: tests joined. `Pigeonhole`: different numbers below n are at most n.
 pub mod Tests
 pub mod Picks
 pub mod Parts
 pub mod Digits
 pub mod Lists
+pub mod Bools
+pub mod Pigeonhole

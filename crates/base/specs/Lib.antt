@@ -1,4 +1,4 @@
--- `Pick`: the choice by a test. `BigEndian`: numbers spelled in bytes. `Lists`: what holds of each element.
+-- `Pick`: the choice by a test. `BigEndian`: numbers spelled in bytes. `Lists`: what holds of each element, and of each two.
 pub mod Pick
 pub mod BigEndian
 pub mod Lists

@@ -1,0 +1,19 @@
+use mathlib.Core.Path.{refl}
+use Rattle.node.specs.Record.{isUp}
+use borrow.Author.Needs.{needs}
+use Rattle.node.proofs.links.is_up.Statement.{statement}
+use Rattle.node.proofs.links.is_up.Tie as tie
+use Rattle.node.proofs.links.is_up.Reads as reads
+use Rattle.node.proofs.links.is_up.Lts as lts
+
+-- src/links.rt:25:6
+shr-result : tie.Need-shr-result
+shr-result c = search needs
+
+-- src/links.rt:21:1
+returns : tie.Need-returns
+unfolding isUp
+returns c = refl
+
+pub is-up-spec : {M : Type 1} → statement M
+is-up-spec = tie.close (tie.spec shr-result returns)

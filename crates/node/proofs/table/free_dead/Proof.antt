@@ -1,0 +1,68 @@
+use mathlib.Core.Path.{_≡_, refl, sym, ap, _∙_}
+use mathlib.Core.Logic.{⊎-elim}
+use Prim.Native.Nat.{_-_, _≤_}
+use native.Mathlib.Omega.{arith}
+use lib.ListN.{length}
+use Rattle.node.specs.Table.{freeRows, freed}
+use Rattle.node.proofs.Rows.{pass-row, pass-dead, pass-live, length-free}
+use Rattle.node.proofs.table.free_dead.Statement.{statement}
+use Rattle.node.proofs.table.free_dead.Tie as tie
+use Rattle.node.proofs.table.free_dead.Reads as reads
+use Rattle.node.proofs.table.free_dead.Lts as lts
+use Rattle.node.proofs.table.is_dead.Reads as is-dead-reads
+use Rattle.node.proofs.table.put_row.Reads as put-row-reads
+
+abbrev Inv-loop : tie.InvT-loop
+Inv-loop table₀ clock i₀ table i = (i ≤ 64) × (table ≡ freeRows clock table₀ i)
+
+abbrev μ-loop : tie.MeasureT-loop
+μ-loop table₀ clock i₀ table i = 64 - i
+
+-- src/table.rt:139:5
+loop-holds : tie.Need-loop-holds Inv-loop μ-loop
+unfolding freeRows
+loop-holds c = (omega arith, refl)
+
+-- src/table.rt:140:12
+is-dead-requires : tie.Need-is-dead-requires Inv-loop μ-loop
+is-dead-requires c κs = let p = pass-row (c .before .before .before .before .args .clock) (c .before .before .before .before .args .table .now) (c .before .before .loop .table) (c .before .before .loop .i) (c .before .before .before .before .pre) (c .before .before .loop .inv .1) (c .before .loop-test .taken) in (c .before .loop-test .taken, (p .0, p .1))
+
+-- src/table.rt:141:13
+put-row-requires : tie.Need-put-row-requires Inv-loop μ-loop
+put-row-requires c κs = let p = pass-row (c .before .before .before .before .before .before .before .args .clock) (c .before .before .before .before .before .before .before .args .table .now) (c .before .before .before .before .before .loop .table) (c .before .before .before .before .before .loop .i) (c .before .before .before .before .before .before .before .pre) (c .before .before .before .before .before .loop .inv .1) (c .before .before .before .before .loop-test .taken) in (c .before .before .before .before .loop-test .taken, p .0)
+
+-- src/table.rt:152:9
+add-i : tie.Need-add-i Inv-loop μ-loop
+add-i c = omega arith
+
+-- src/table.rt:139:5
+loop-less : tie.Need-loop-less Inv-loop μ-loop
+loop-less c = omega arith
+
+-- src/table.rt:139:5
+loop-again : tie.Need-loop-again Inv-loop μ-loop
+loop-again c = (omega arith, ⊎-elim (λ w. pass-dead (c .before .before .before .before .before .before .args .clock) (c .before .before .before .before .before .before .args .table .now) (c .before .before .before .before .loop .table) (c .if1 .table) (c .before .before .before .before .loop .i) (c .before .before .before .before .loop .inv .1) (sym (c .before .is-dead .ensures) ∙ w .0 .taken) (w .5 ∙ w .2 .ensures)) (λ w. w .1 ∙ pass-live (c .before .before .before .before .before .before .args .clock) (c .before .before .before .before .before .before .args .table .now) (c .before .before .before .before .loop .table) (c .before .before .before .before .loop .i) (c .before .before .before .before .loop .inv .1) (sym (c .before .is-dead .ensures) ∙ w .0 .left)) (c .if1 .came))
+
+-- src/table.rt:134:1
+same-length : tie.Need-same-length Inv-loop μ-loop
+same-length c = ap length (c .before .loop .inv .1) ∙ length-free (c .before .before .before .args .clock) (c .before .before .before .args .table .now) (c .before .loop .i)
+
+-- src/table.rt:134:1
+returns : tie.Need-returns Inv-loop μ-loop
+unfolding freed
+returns c = let e : c .before .loop .i ≡ 64 = omega arith in rw e at (c .before .loop .inv .1)
+
+pub free-dead-spec : {M : Type 1} → statement M
+free-dead-spec =
+    tie.close
+    (tie.spec
+    Inv-loop
+    μ-loop
+    loop-holds
+    is-dead-requires
+    put-row-requires
+    add-i
+    loop-less
+    loop-again
+    same-length
+    returns)

@@ -1,0 +1,60 @@
+use mathlib.Core.Path.{_≡_, refl, sym, _∙_}
+use Prim.Native.Nat.{_-_, _≤_}
+use native.Mathlib.Omega.{arith}
+use Rattle.node.specs.Table.{rowMatches, firstFrom, isKnown}
+use Rattle.node.proofs.Rows.{scan-next, some-here, some-end}
+use Rattle.node.proofs.table.knows.Statement.{statement}
+use Rattle.node.proofs.table.knows.Tie as tie
+use Rattle.node.proofs.table.knows.Reads as reads
+use Rattle.node.proofs.table.knows.Lts as lts
+use Rattle.node.proofs.table.has_key.Reads as has-key-reads
+
+abbrev Inv-loop : tie.InvT-loop
+Inv-loop table key i₀ i = (i ≤ 64) × (firstFrom (rowMatches key table) (64 - i) i ≡ firstFrom (rowMatches key table) 64 0)
+
+abbrev μ-loop : tie.MeasureT-loop
+μ-loop table key i₀ i = 64 - i
+
+-- src/table.rt:193:5
+loop-holds : tie.Need-loop-holds Inv-loop μ-loop
+loop-holds c = (omega arith, refl)
+
+-- src/table.rt:194:12
+has-key-requires : tie.Need-has-key-requires Inv-loop μ-loop
+has-key-requires c κs = (c .loop-test .taken, c .before .before .before .pre)
+
+-- src/table.rt:195:13
+returns : tie.Need-returns Inv-loop μ-loop
+unfolding isKnown
+returns c = some-here (rowMatches (c .before .before .before .before .before .args .key) (c .before .before .before .before .before .args .table .now)) (c .before .before .before .loop .i) (c .before .before .loop-test .taken) (sym (c .before .has-key .ensures) ∙ c .if1 .taken) (c .before .before .before .loop .inv .1)
+
+-- src/table.rt:197:9
+add-i : tie.Need-add-i Inv-loop μ-loop
+add-i c = omega arith
+
+-- src/table.rt:193:5
+loop-less : tie.Need-loop-less Inv-loop μ-loop
+loop-less c = omega arith
+
+-- src/table.rt:193:5
+loop-again : tie.Need-loop-again Inv-loop μ-loop
+loop-again c = (omega arith, scan-next (rowMatches (c .before .before .before .before .before .args .key) (c .before .before .before .before .before .args .table .now)) 64 (c .before .before .before .loop .i) (firstFrom (rowMatches (c .before .before .before .before .before .args .key) (c .before .before .before .before .before .args .table .now)) 64 0) (c .before .before .loop-test .taken) (sym (c .before .has-key .ensures) ∙ c .if1 .left) (c .before .before .before .loop .inv .1))
+
+-- src/table.rt:188:1
+returns-2 : tie.Need-returns-2 Inv-loop μ-loop
+unfolding isKnown
+returns-2 c = some-end (rowMatches (c .before .before .before .args .key) (c .before .before .before .args .table .now)) (c .before .loop .i) (c .loop-test .left) (c .before .loop .inv .1)
+
+pub knows-spec : {M : Type 1} → statement M
+knows-spec =
+    tie.close
+    (tie.spec
+    Inv-loop
+    μ-loop
+    loop-holds
+    has-key-requires
+    returns
+    add-i
+    loop-less
+    loop-again
+    returns-2)
