@@ -2,7 +2,11 @@
 ghost use mathlib.Core.Path.{_≡_};
 ghost use Rattle.node.specs.Record.{recordBad, fresh, setLinks};
 
+pub mod call;
+mod key;
 mod links;
+mod role;
+mod spread;
 mod table;
 
 // A node's record. Bit i of `links` is set when interface i is up; `clock` is the last accepted clock in ms; `tally` is the rules' own term: the
@@ -20,6 +24,37 @@ pub struct Record {
 // The number of the refusal, 0 for none, and the record.
 pub struct Kept {
     pub refusal: u8,
+    pub node: Record,
+}
+
+// The rules' own term: what a node does with a message.
+pub enum Verdict {
+    Own,
+    Answer,
+    Duplicate,
+    Last,
+    Nowhere,
+    NoRow,
+    Relay,
+    Noop,
+    Hand,
+}
+
+// What a node call answers: the number of a refusal; or the verdict, whether the message is handed up (the rules' own term: given to the host), the
+// mask of the interfaces to send on, and how many bytes to send.
+pub enum Reply {
+    Refused(u8),
+    Given {
+        verdict: Verdict,
+        handed_up: bool,
+        mask: u8,
+        length: usize,
+    },
+}
+
+// The answer of a node call and the record after it.
+pub struct Called {
+    pub reply: Reply,
     pub node: Record,
 }
 

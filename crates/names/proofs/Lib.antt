@@ -1,0 +1,2 @@
+-- `Walks`: the loops over own names and over bytes.
+pub mod Walks

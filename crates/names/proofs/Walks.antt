@@ -1,0 +1,92 @@
+-- The loops over own names and over bytes.
+-- Assumes nothing.
+use mathlib.Core.Path.{_≡_, refl, sym, ap, _∙_}
+use mathlib.Core.Bool.{Bool, true, false, _&&_}
+use mathlib.Core.List.{List, [], _∷_}
+use Prim.Native.Nat.{ℕ, zero, suc, _-_, _+_, _≤_, _<_}
+use native.Mathlib.Numerals.{add-one}
+use native.Mathlib.Omega.{arith}
+use lib.Dec.{eqb}
+use lib.ListN.{length, getD, drop}
+use borrow.Author.Tests.{eq-eqb, ne-eqb}
+use Rattle.base.proofs.Parts.{drop-past}
+use Rattle.cbor.specs.declared.token.Token.{Token}
+use Rattle.cbor.specs.Token.{tokenAt}
+use Rattle.names.specs.Names.{contentOf, goodName, goodNames, sameBytes, ownFrom}
+
+-- ---- bytes
+
+-- what stands at i
+pub front-at : (l : List ℕ) (i : ℕ) → i < length l → drop i l ≡ getD l i 0 ∷ drop (suc i) l
+front-at [] i h = absurd (omega arith)
+front-at (x ∷ l) zero h = refl
+front-at (x ∷ l) (suc i) h = let shorter : i < length l = omega arith in front-at l i shorter
+
+pub same-lengths : (a b : List ℕ) → (length a ≡ length b → ⊥) → false ≡ sameBytes a b
+unfolding sameBytes
+same-lengths [] [] ne = absurd (ne refl)
+same-lengths [] (y ∷ ys) ne = refl
+same-lengths (x ∷ xs) [] ne = refl
+same-lengths (x ∷ xs) (y ∷ ys) ne = go (eqb x y) (same-lengths xs ys (λ e. ne (ap suc e)))
+  where
+    go : (t : Bool) → false ≡ sameBytes xs ys → false ≡ (t && sameBytes xs ys)
+    go true h = h
+    go false h = refl
+
+module _ (a b : List ℕ) (i : ℕ) (same : length a ≡ length b) where
+  pub same-differ : i < length a → (getD a i 0 ≡ getD b i 0 → ⊥) → sameBytes (drop i a) (drop i b) ≡ sameBytes a b → false ≡ sameBytes a b
+  unfolding sameBytes
+  same-differ h ne e =
+      let there : i < length b = omega arith in
+      let differs : sameBytes (drop i a) (drop i b) ≡ false = rw (front-at a i h, front-at b i there, ne-eqb (getD a i 0) (getD b i 0) ne) refl in
+      sym differs ∙ e
+
+  pub same-next : i < length a → getD a i 0 ≡ getD b i 0 → sameBytes (drop i a) (drop i b) ≡ sameBytes a b → sameBytes (drop (i + 1) a) (drop (i + 1) b) ≡ sameBytes a b
+  unfolding sameBytes
+  same-next h q e =
+      let there : i < length b = omega arith in
+      let on : sameBytes (drop i a) (drop i b) ≡ sameBytes (drop (suc i) a) (drop (suc i) b) =
+      rw (front-at a i h, front-at b i there, eq-eqb (getD a i 0) (getD b i 0) q) refl in
+      rw add-one (sym on ∙ e)
+
+  pub same-end : length a ≤ i → sameBytes (drop i a) (drop i b) ≡ sameBytes a b → true ≡ sameBytes a b
+  unfolding sameBytes
+  same-end h e =
+      let there : length b ≤ i = omega arith in
+      let ends : sameBytes (drop i a) (drop i b) ≡ true = rw (drop-past a i h, drop-past b i there) refl in
+      sym ends ∙ e
+
+-- ---- names
+
+module _ (s : List ℕ) (at left : ℕ) (t : Token) (is : t ≡ tokenAt s at) (more : 0 < left) where
+  pub good-stop : goodName s t ≡ false → goodNames s left at ≡ false
+  unfolding goodNames
+  good-stop bad = go left more
+    where
+      go : (n : ℕ) → 0 < n → goodNames s n at ≡ false
+      go zero h = absurd (omega arith)
+      go (suc n) h = rw (← is, bad) refl
+
+  pub good-next : goodName s t ≡ true → goodNames s left at ≡ goodNames s (left - 1) (t .next)
+  unfolding goodNames
+  good-next good = go left more
+    where
+      go : (n : ℕ) → 0 < n → goodNames s n at ≡ goodNames s (n - 1) (t .next)
+      go zero h = absurd (omega arith)
+      go (suc n) h = let less : suc n - 1 ≡ n = omega arith in rw (← is, good, less) refl
+
+  pub own-here : (name : List ℕ) → sameBytes (contentOf s t) name ≡ true → ownFrom s name left at ≡ true
+  unfolding ownFrom
+  own-here name here = go left more
+    where
+      go : (n : ℕ) → 0 < n → ownFrom s name n at ≡ true
+      go zero h = absurd (omega arith)
+      go (suc n) h = rw (← is, here) refl
+
+  pub own-next : (name : List ℕ) → sameBytes (contentOf s t) name ≡ false → ownFrom s name left at ≡ ownFrom s name (left - 1) (t .next)
+  unfolding ownFrom
+  own-next name other = go left more
+    where
+      go : (n : ℕ) → 0 < n → ownFrom s name n at ≡ ownFrom s name (n - 1) (t .next)
+      go zero h = absurd (omega arith)
+      go (suc n) h = let less : suc n - 1 ≡ n = omega arith in rw (← is, other, less) refl

@@ -1,0 +1,99 @@
+use mathlib.Core.Bool.{false}
+use mathlib.Core.Path.{_≡_, refl, sym, _∙_}
+use native.Mathlib.Omega.{arith}
+use borrow.Author.Needs.{needs}
+use borrow.Author.Tests.{lt-ltb, le-ltb}
+use Rattle.base.specs.Pick.{pick}
+use Rattle.names.specs.Names.{isOwn, ownFrom, contentOf}
+use Rattle.names.proofs.Walks.{own-here, own-next}
+use Rattle.names.proofs.are_with.Statement.{statement}
+use Rattle.names.proofs.are_with.Tie as tie
+use Rattle.names.proofs.are_with.Reads as reads
+use Rattle.names.proofs.are_with.Lts as lts
+use Rattle.cbor.proofs.token.token_at.Reads as token-at-reads
+use Rattle.names.proofs.are_same.Reads as are-same-reads
+
+abbrev Inv-loop : tie.InvT-loop
+Inv-loop s name at₀ left₀ at left = ownFrom s name left at ≡ ownFrom s name left₀ at₀
+
+abbrev μ-loop : tie.MeasureT-loop
+μ-loop s name at₀ left₀ at left = left
+
+-- src/lib.rt:83:9
+token-at-requires : tie.Need-token-at-requires Inv-loop μ-loop
+token-at-requires c κs = search needs
+
+-- src/lib.rt:85:9
+returns : tie.Need-returns Inv-loop μ-loop
+unfolding isOwn pick
+returns c = rw (sym (c .before .before .token-at .ensures .is), lt-ltb 16 _ (c .if1 .taken)) refl
+
+-- src/lib.rt:89:5
+loop-holds : tie.Need-loop-holds Inv-loop μ-loop
+loop-holds c = refl
+
+-- src/lib.rt:90:13
+token-at-requires-2 : tie.Need-token-at-requires-2 Inv-loop μ-loop
+token-at-requires-2 c κs = search needs
+
+-- src/lib.rt:93:21
+sub-are-same : tie.Need-sub-are-same Inv-loop μ-loop
+sub-are-same c = c .token-at2 .ensures .start
+
+-- src/lib.rt:93:21
+part-are-same-start : tie.Need-part-are-same-start Inv-loop μ-loop
+part-are-same-start c = c .token-at2 .ensures .start
+
+-- src/lib.rt:93:21
+part-are-same-end : tie.Need-part-are-same-end Inv-loop μ-loop
+part-are-same-end c = c .token-at2 .ensures .end
+
+-- src/lib.rt:93:12
+are-same-requires : tie.Need-are-same-requires Inv-loop μ-loop
+are-same-requires c κs = search needs
+
+-- src/lib.rt:94:13
+returns-2 : tie.Need-returns-2 Inv-loop μ-loop
+unfolding isOwn pick contentOf
+returns-2 c = rw (sym (c .before .before .before .before .before .before .before .before .token-at .ensures .is), le-ltb 16 _ (c .before .before .before .before .before .before .if1 .left), sym (c .before .before .before .before .before .loop .inv) ∙ own-here (c .before .before .before .before .before .before .before .before .before .before .before .args .s .now) (c .before .before .before .before .before .loop .at) (c .before .before .before .before .before .loop .left) _ (c .before .before .before .token-at2 .ensures .is) (c .before .before .before .before .loop-test .taken) (c .before .before .before .before .before .before .before .before .before .before .before .args .name .now) (sym (c .before .are-same .ensures) ∙ c .if2 .taken)) refl
+
+-- src/lib.rt:97:9
+sub-left : tie.Need-sub-left Inv-loop μ-loop
+sub-left c = omega arith
+
+-- src/lib.rt:89:5
+loop-less : tie.Need-loop-less Inv-loop μ-loop
+loop-less c = omega arith
+
+-- src/lib.rt:89:5
+loop-again : tie.Need-loop-again Inv-loop μ-loop
+unfolding contentOf
+loop-again c = sym (own-next (c .before .before .before .before .before .before .before .before .before .before .before .args .s .now) (c .before .before .before .before .before .loop .at) (c .before .before .before .before .before .loop .left) _ (c .before .before .before .token-at2 .ensures .is) (c .before .before .before .before .loop-test .taken) (c .before .before .before .before .before .before .before .before .before .before .before .args .name .now) (sym (c .before .are-same .ensures) ∙ c .if2 .left)) ∙ c .before .before .before .before .before .loop .inv
+
+-- src/lib.rt:80:1
+returns-3 : tie.Need-returns-3 Inv-loop μ-loop
+unfolding isOwn ownFrom pick
+returns-3 c =
+    let done : c .before .loop .left ≡ 0 = omega arith in
+    let none : ownFrom (c .before .before .before .before .before .before .before .args .s .now) (c .before .before .before .before .before .before .before .args .name .now) (c .before .loop .left) (c .before .loop .at) ≡ false = rw done refl in
+    rw (sym (c .before .before .before .before .token-at .ensures .is), le-ltb 16 _ (c .before .before .if1 .left), sym (c .before .loop .inv) ∙ none) refl
+
+pub are-with-spec : {M : Type 1} → statement M
+are-with-spec =
+    tie.close
+    (tie.spec
+    Inv-loop
+    μ-loop
+    token-at-requires
+    returns
+    loop-holds
+    token-at-requires-2
+    sub-are-same
+    part-are-same-start
+    part-are-same-end
+    are-same-requires
+    returns-2
+    sub-left
+    loop-less
+    loop-again
+    returns-3)

@@ -1,0 +1,31 @@
+use mathlib.Core.Path.{refl}
+use borrow.Author.Tests.{eq-eqb, ne-eqb, lt-leb, le-leb}
+use Rattle.names.specs.Names.{goodName, contentOf}
+use borrow.Author.Needs.{needs}
+use Rattle.names.proofs.is_good.Statement.{statement}
+use Rattle.names.proofs.is_good.Tie as tie
+use Rattle.names.proofs.is_good.Reads as reads
+use Rattle.names.proofs.is_good.Lts as lts
+use Rattle.cbor.proofs.utf8.is_utf8_in.Reads as is-utf8-in-reads
+
+-- src/lib.rt:71:9
+returns : tie.Need-returns
+unfolding goodName contentOf
+returns c = rw (ne-eqb _ 3 (c .if1 .taken)) refl
+
+-- src/lib.rt:74:9
+returns-2 : tie.Need-returns-2
+unfolding goodName contentOf
+returns-2 c = rw (eq-eqb _ 3 (c .before .before .if1 .left), lt-leb _ 64 (c .if2 .taken)) refl
+
+-- src/lib.rt:76:5
+is-utf8-in-requires : tie.Need-is-utf8-in-requires
+is-utf8-in-requires c κs = search needs
+
+-- src/lib.rt:67:1
+returns-3 : tie.Need-returns-3
+unfolding goodName contentOf
+returns-3 c = rw (eq-eqb _ 3 (c .before .before .before .if1 .left), le-leb _ 64 (c .before .if2 .left)) (c .is-utf8-in .ensures)
+
+pub is-good-spec : {M : Type 1} → statement M
+is-good-spec = tie.close (tie.spec returns returns-2 is-utf8-in-requires returns-3)

@@ -1,0 +1,2 @@
+-- `Names`: a node's own names.
+pub mod Names

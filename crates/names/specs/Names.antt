@@ -1,0 +1,66 @@
+-- A node's own names (the rules, refusal 16): one CBOR array that passes refusals 1 to 7, with 0 to 16 items, each a UTF-8 text of at most 64 bytes.
+use Prim.Native.Nat.{ℕ, zero, suc, _-_}
+use mathlib.Core.Bool.{Bool, true, false, not, _&&_, _||_}
+use mathlib.Core.List.{List, [], _∷_}
+use lib.ListN.{length, take, drop}
+use lib.Dec.{ltb, leb, eqb}
+use Rattle.base.specs.Pick.{pick}
+use Rattle.cbor.specs.declared.item.ItemRead.{ItemRead}
+use Rattle.cbor.specs.declared.token.Token.{Token}
+use Rattle.cbor.specs.Item.{firstItem}
+use Rattle.cbor.specs.Token.{tokenAt}
+use Rattle.cbor.specs.Utf8.{isUtf8}
+
+-- house limits
+abbrev pub mostBytes : ℕ
+mostBytes = 2048
+
+abbrev pub mostNames : ℕ
+mostNames = 16
+
+abbrev pub mostName : ℕ
+mostName = 64
+
+-- the bytes of a string
+unfoldable pub contentOf : List ℕ → Token → List ℕ
+contentOf s t = take (t .next - t .body) (drop (t .body) s)
+
+-- a UTF-8 text of at most 64 bytes
+unfoldable pub goodName : List ℕ → Token → Bool
+goodName s t = eqb (t .major) 3 && leb (t .arg) mostName && isUtf8 (contentOf s t)
+
+-- n good names from `at` on
+unfoldable pub goodNames : List ℕ → ℕ → ℕ → Bool
+goodNames s zero at = true
+goodNames s (suc n) at = goodName s (tokenAt s at) && goodNames s n (tokenAt s at .next)
+
+unfoldable pub arrayBad : List ℕ → Bool
+arrayBad s =
+    let a = tokenAt s 0 in
+    not (eqb (a .major) 4) || ltb mostNames (a .arg) || not (goodNames s (a .arg) (a .next))
+
+unfoldable pub framedBad : List ℕ → ItemRead → Bool
+framedBad s (ItemRead.Refused number place) = true
+framedBad s (ItemRead.Ends end) = not (eqb end (length s)) || arrayBad s
+
+-- 16
+unfoldable pub namesBad : List ℕ → Bool
+namesBad s = pick (eqb (length s) 0) true (pick (ltb mostBytes (length s)) true (framedBad s (firstItem 0 s)))
+
+-- two lists of bytes are the same
+unfoldable pub sameBytes : List ℕ → List ℕ → Bool
+sameBytes [] [] = true
+sameBytes [] (y ∷ ys) = false
+sameBytes (x ∷ xs) [] = false
+sameBytes (x ∷ xs) (y ∷ ys) = eqb x y && sameBytes xs ys
+
+-- one of n names from `at` on is `name`
+unfoldable pub ownFrom : List ℕ → List ℕ → ℕ → ℕ → Bool
+ownFrom s name zero at = false
+ownFrom s name (suc n) at = sameBytes (contentOf s (tokenAt s at)) name || ownFrom s name n (tokenAt s at .next)
+
+-- one of the names s is `name`
+unfoldable pub isOwn : List ℕ → List ℕ → Bool
+isOwn s name =
+    let a = tokenAt s 0 in
+    pick (ltb mostNames (a .arg)) false (ownFrom s name (a .arg) (a .next))

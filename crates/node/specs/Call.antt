@@ -1,0 +1,156 @@
+-- One node call (the rules, "Refusal numbers", "Record and relay table" and "Verdicts"): what it answers, and the record, the table and the output after it.
+use Prim.Native.Nat.{ℕ, _^_}
+use mathlib.Core.Bool.{Bool, true, false, not, _&&_}
+use mathlib.Core.List.{List, _++_}
+use mathlib.Core.Path.{_≡_}
+use Prim.Native.Nat.{_≤_, _<_}
+use lib.ListN.{length, drop}
+use lib.Count.{ones}
+use lib.Dec.{ltb, leb, eqb}
+use Rattle.base.specs.Pick.{pick}
+use Rattle.options.specs.declared.objective.Objective.{Objective}
+use Rattle.grammar.specs.Stands.{held}
+use Rattle.message.specs.declared.Reading.{Reading}
+use Rattle.message.specs.Read.{mostBytes, readOf}
+use Rattle.writer.specs.Write.{lowered, answerOf}
+use Rattle.names.specs.Names.{namesBad, sameBytes, isOwn}
+use Rattle.node.specs.declared.Record.{Record}
+use Rattle.node.specs.declared.Verdict.{Verdict}
+use Rattle.node.specs.declared.Verdict.the-variants.{Own, Answer, Duplicate, Last, Nowhere, NoRow, Relay, Noop, Hand}
+use Rattle.node.specs.declared.Reply.{Reply}
+use Rattle.node.specs.declared.Reply.the-variants.{Refused, Given}
+use Rattle.node.specs.declared.Called.{Called}
+use Rattle.node.specs.declared.role.Spread.{Spread}
+use Rattle.node.specs.declared.role.Role.{Role}
+use Rattle.node.specs.Record.{recordBad, arrivalBad, others, clocked, tallied, isUp}
+use Rattle.node.specs.Table.{mostRows, tableBad, freed, putRow, lowestFree, isKnown}
+use Rattle.node.specs.Role.{roleOf, keyIn}
+
+-- what a node call is given beside the record and the table
+pub record Call : Type 0 where
+  pub clock : ℕ
+  pub interface : ℕ
+  pub names : List ℕ
+  pub message : List ℕ
+  pub output : List ℕ
+
+abbrev pub callOf : ℕ → ℕ → List ℕ → List ℕ → List ℕ → Call
+callOf clock interface names message output = record { clock = clock; interface = interface; names = names; message = message; output = output }
+
+-- what it answers, and the table and the output after it
+pub record After : Type 0 where
+  pub called : Called
+  pub table : List ℕ
+  pub output : List ℕ
+
+abbrev pub afterOf : Called → List ℕ → List ℕ → After
+afterOf called table output = record { called = called; table = table; output = output }
+
+-- the refusals 12 to 17 in their order, 0 for none
+unfoldable pub barred : Record → List ℕ → ℕ → ℕ → List ℕ → ℕ → ℕ
+barred r t clock interface names room =
+    pick (recordBad r) 12
+    (pick (arrivalBad r interface) 13
+    (pick (ltb clock (r .clock)) 14
+    (pick (tableBad clock t) 15
+    (pick (namesBad names) 16
+    (pick (ltb room mostBytes) 17 0)))))
+
+abbrev pub replies : Reply → Record → Called
+replies reply r = record { reply = reply; node = r }
+
+-- a refusal leaves everything as it was
+unfoldable pub refuse : ℕ → Record → List ℕ → Call → After
+refuse n r t c = record { called = replies (Refused n) r; table = t; output = c .output }
+
+-- a verdict that sends nothing
+unfoldable pub quiet : Verdict → Bool → Record → List ℕ → Call → After
+quiet v up r t c = record { called = replies (Given v up 0 0) r; table = t; output = c .output }
+
+-- bytes at the front of an output, the rest as it was
+unfoldable pub written : List ℕ → List ℕ → List ℕ
+written bytes out = bytes ++ drop (length bytes) out
+
+-- the message with the head of its count replaced by the shortest head of one less
+unfoldable pub onward : List ℕ → Objective → List ℕ
+onward message o = lowered message (o .«count_at») (o .value .at) (o .count)
+
+-- the Response that answers a Discovery
+unfoldable pub response : Record → List ℕ → Spread → List ℕ
+response r message s = answerOf (s .session) (held message (s .initiator)) (r .ttl) (r .address) (r .port)
+
+module _ (r : Record) (t : List ℕ) (c : Call) (s : Spread) where
+  -- the verdicts that count, links and rows decide
+  unfoldable pub laterVerdict : Verdict
+  laterVerdict =
+      pick (leb (s .objective .count) 1) Last
+      (pick (eqb (others r (c .interface)) 0) Nowhere
+      (pick (leb mostRows (lowestFree t)) NoRow Relay))
+
+  -- the first verdict that applies to a Discovery or a Flood
+  unfoldable pub verdictOn : Verdict
+  verdictOn =
+      pick (sameBytes (held (c .message) (s .initiator)) (r .address)) Own
+      (pick (not (s .flood) && isOwn (c .names) (held (c .message) (s .objective .name))) Answer
+      (pick (isKnown (keyIn (c .message) s) t) Duplicate laterVerdict))
+
+  -- ANSWER goes back by the arriving interface alone, and isn't tallied
+  unfoldable pub answered : After
+  answered =
+      let bytes = response r (c .message) s in
+      record { called = replies (Given Answer false (2 ^ c .interface) (length bytes)) r; table = t; output = written bytes (c .output) }
+
+  -- RELAY fills the lowest free row, goes out by every other link that is up, and its copies are tallied
+  unfoldable pub relayed : After
+  relayed =
+      let bytes = onward (c .message) (s .objective) in
+      let mask = others r (c .interface) in
+      record {
+        called = replies (Given Relay (s .flood) mask (length bytes)) (tallied r (ones mask));
+        table = putRow t (lowestFree t) (keyIn (c .message) s) (r .clock);
+        output = written bytes (c .output);
+      }
+
+  -- a Flood is handed up with LAST, NOWHERE, NOROW and RELAY
+  unfoldable pub carriedOut : Verdict → After
+  carriedOut Own = quiet Own false r t c
+  carriedOut Answer = answered
+  carriedOut Duplicate = quiet Duplicate false r t c
+  carriedOut Last = quiet Last (s .flood) r t c
+  carriedOut Nowhere = quiet Nowhere (s .flood) r t c
+  carriedOut NoRow = quiet NoRow (s .flood) r t c
+  carriedOut Relay = relayed
+  carriedOut Noop = quiet Noop false r t c
+  carriedOut Hand = quiet Hand true r t c
+
+-- a message that was read; the clock is taken and no dead row is left
+unfoldable pub taken : Record → List ℕ → Call → Role → After
+taken r t c Role.Noop = quiet Noop false r t c
+taken r t c Role.Upward = quiet Hand true r t c
+taken r t c (Role.Spreads s) = carriedOut r t c s (verdictOn r t c s)
+
+-- after 12 to 17: the message's own refusal, or every dead row freed, the clock taken, and the first verdict that applies
+unfoldable pub judged : Record → List ℕ → Call → Reading → After
+judged r t c (Reading.Refused number) = refuse number r t c
+judged r t c (Reading.Read m) = taken (clocked r (c .clock)) (freed (c .clock) t) c (roleOf m)
+
+unfoldable pub nodeCall : Record → List ℕ → Call → After
+nodeCall r t c =
+    let n = barred r t (c .clock) (c .interface) (c .names) (length (c .output)) in
+    pick (eqb n 0) (judged r t c (readOf (c .message))) (refuse n r t c)
+
+-- what is known once 12 to 17 are passed
+pub record Passed (r : Record) (t : List ℕ) (clock interface room : ℕ) : Type 0 where
+  pub good : recordBad r ≡ false
+  pub arrives : arrivalBad r interface ≡ false
+  pub later : r .clock ≤ clock
+  pub table : tableBad clock t ≡ false
+  pub fits : mostBytes ≤ room
+
+-- what of it the verdicts on a Discovery or a Flood rest on
+pub record Ready (r : Record) (t : List ℕ) (interface room : ℕ) : Type 0 where
+  pub sized : length t ≡ 256
+  pub small : interface < 8
+  pub up : isUp (r .links) interface ≡ true
+  pub tally : r .tally ≤ 2 ^ 63
+  pub fits : mostBytes ≤ room

@@ -1,0 +1,64 @@
+-- What a node looks at in a message (the rules, "Verdicts"), and the key of its row (the rules, "Record and relay table").
+use Prim.Native.Nat.{ℕ, _+_, _*_, _^_, _≤_}
+use mathlib.Core.Bool.{Bool, true, false}
+use mathlib.Core.List.{List}
+use mathlib.Core.Logic.{_⊎_}
+use mathlib.Core.Path.{_≡_}
+use lib.ListN.{length, drop}
+use lib.Dec.{eqb}
+use Rattle.base.specs.Pick.{pick}
+use Rattle.base.specs.BigEndian.{bigEndian}
+use Rattle.options.specs.declared.Span.{Span}
+use Rattle.options.specs.declared.objective.Objective.{Objective}
+use Rattle.grammar.specs.Stands.{held}
+use Rattle.message.specs.declared.Message.{Message}
+use Rattle.message.specs.declared.Message.the-variants as M
+use Rattle.message.specs.declared.Reading.{Reading}
+use Rattle.message.specs.Read.{readOf}
+use Rattle.node.specs.declared.role.Spread.{Spread}
+use Rattle.node.specs.declared.role.Role.{Role}
+use Rattle.node.specs.declared.table.Key.{Key}
+
+abbrev pub spreadOf : Bool → ℕ → Span → Objective → Spread
+spreadOf flood session initiator objective = record { flood = flood; session = session; initiator = initiator; objective = objective }
+
+-- a Discovery spreads, and so does a Flood, whose first objective counts; a Noop is for none, and all others are for the host
+unfoldable pub roleOf : Message → Role
+roleOf M.Noop = Role.Noop
+roleOf (M.Discovery session initiator objective) = Role.Spreads (spreadOf false session initiator objective)
+roleOf (M.Response session initiator ttl targets extra) = Role.Upward
+roleOf (M.RequestNegotiation session objective) = Role.Upward
+roleOf (M.RequestSynchronization session objective) = Role.Upward
+roleOf (M.Negotiate session objective) = Role.Upward
+roleOf (M.End session outcome) = Role.Upward
+roleOf (M.Wait session time) = Role.Upward
+roleOf (M.Synch session objective) = Role.Upward
+roleOf (M.Flood session initiator ttl first pairs) = Role.Spreads (spreadOf true session initiator first)
+roleOf (M.Invalid session item) = Role.Upward
+
+-- the role of the message
+pub record RoleIn (message : List ℕ) (role : Role) : Type 0 where
+  pub is : Message
+  pub read : readOf message ≡ Reading.Read is
+  pub role : roleOf is ≡ role
+
+-- the initiator, of 4 or 16 bytes, and the name lie in the message
+pub record Within (message : List ℕ) (s : Spread) : Type 0 where
+  pub initiator : s .initiator .at + s .initiator .len ≤ length message
+  pub bytes : (s .initiator .len ≡ 4) ⊎ (s .initiator .len ≡ 16)
+  pub name : s .objective .name .at + s .objective .name .len ≤ length message
+
+-- 1 and 2 for a Discovery whose initiator has 4 and 16 bytes, 3 and 4 for a Flood
+unfoldable pub tagOf : Bool → ℕ → ℕ
+tagOf flood len = pick flood (pick (eqb len 4) 3 4) (pick (eqb len 4) 1 2)
+
+-- a row's first three numbers: session + 2^32 times the tag; the initiator, where it has 4 bytes in the second alone
+unfoldable pub keyOf : Bool → ℕ → List ℕ → Key
+keyOf flood session initiator =
+    let first = session + 2 ^ 32 * tagOf flood (length initiator) in
+    pick (eqb (length initiator) 4) (record { first = first; second = bigEndian initiator 4; third = 0 })
+    (record { first = first; second = bigEndian initiator 8; third = bigEndian (drop 8 initiator) 8 })
+
+-- the key of s, which was read of the message
+unfoldable pub keyIn : List ℕ → Spread → Key
+keyIn message s = keyOf (s .flood) (s .session) (held message (s .initiator))

@@ -1,0 +1,85 @@
+// What a node looks at in a message.
+ghost use mathlib.Core.Path.{_≡_};
+ghost use Rattle.node.specs.Role.{roleOf};
+use message::Message;
+use options::Span;
+use options::objective::Objective;
+
+// A Discovery, or a Flood with its first objective.
+pub struct Spread {
+    pub flood: bool,
+    pub session: u32,
+    pub initiator: Span,
+    pub objective: Objective,
+}
+
+pub enum Role {
+    Noop,
+    Upward,
+    Spreads(Spread),
+}
+
+pub(crate) fn role_of(m: Message) -> Role
+    ensures { λ r. ⌜ r ≡ roleOf m ⌝ }
+{
+    match m {
+        Message::Noop => Role::Noop,
+        Message::Discovery {
+            session,
+            initiator,
+            objective,
+        } => Role::Spreads(Spread {
+            flood: false,
+            session,
+            initiator,
+            objective,
+        }),
+        Message::Response {
+            session: _,
+            initiator: _,
+            ttl: _,
+            targets: _,
+            extra: _,
+        } => Role::Upward,
+        Message::RequestNegotiation {
+            session: _,
+            objective: _,
+        } => Role::Upward,
+        Message::RequestSynchronization {
+            session: _,
+            objective: _,
+        } => Role::Upward,
+        Message::Negotiate {
+            session: _,
+            objective: _,
+        } => Role::Upward,
+        Message::End {
+            session: _,
+            outcome: _,
+        } => Role::Upward,
+        Message::Wait {
+            session: _,
+            time: _,
+        } => Role::Upward,
+        Message::Synch {
+            session: _,
+            objective: _,
+        } => Role::Upward,
+        Message::Flood {
+            session,
+            initiator,
+            ttl: _,
+            first,
+            pairs: _,
+        } => Role::Spreads(Spread {
+            flood: true,
+            session,
+            initiator,
+            objective: first,
+        }),
+        Message::Invalid {
+            session: _,
+            item: _,
+        } => Role::Upward,
+    }
+}
