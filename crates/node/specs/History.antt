@@ -17,7 +17,7 @@ use Rattle.message.specs.Fields.{kindOf, sessionOf, initiatorOf, objectiveOf}
 use Rattle.message.specs.Read.{readOf}
 use Rattle.node.specs.declared.Record.{Record}
 use Rattle.node.specs.declared.Verdict.{Verdict}
-use Rattle.node.specs.declared.Verdict.the-variants as V
+use Rattle.node.specs.declared.Verdict.the-variants.{Own, Answer, Duplicate, Last, Nowhere, NoRow, Relay, Noop, Hand}
 use Rattle.node.specs.declared.Reply.{Reply}
 use Rattle.node.specs.declared.Reply.the-variants.{Refused, Given}
 use Rattle.node.specs.Record.{setLinks, isUp}
@@ -57,15 +57,15 @@ Fits (links mask) = Unit {0}
 -- ---- what an answer says
 
 unfoldable pub isRelay : Verdict → Bool
-isRelay V.Own = false
-isRelay V.Answer = false
-isRelay V.Duplicate = false
-isRelay V.Last = false
-isRelay V.Nowhere = false
-isRelay V.NoRow = false
-isRelay V.Relay = true
-isRelay V.Noop = false
-isRelay V.Hand = false
+isRelay Own = false
+isRelay Answer = false
+isRelay Duplicate = false
+isRelay Last = false
+isRelay Nowhere = false
+isRelay NoRow = false
+isRelay Relay = true
+isRelay Noop = false
+isRelay Hand = false
 
 unfoldable pub saysRelay : Reply → Bool
 saysRelay (Refused number) = false

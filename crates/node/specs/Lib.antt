@@ -3,3 +3,4 @@ pub mod Record
 pub mod Table
 pub mod Role
 pub mod Call
+pub mod History

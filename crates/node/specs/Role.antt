@@ -36,11 +36,11 @@ roleOf (M.Synch session objective) = Role.Upward
 roleOf (M.Flood session initiator ttl first pairs) = Role.Spreads (spreadOf true session initiator first)
 roleOf (M.Invalid session item) = Role.Upward
 
--- the role of the message
+-- the message is read, and this is its role
 pub record RoleIn (message : List ℕ) (role : Role) : Type 0 where
   pub is : Message
   pub read : readOf message ≡ Reading.Read is
-  pub role : roleOf is ≡ role
+  pub plays : roleOf is ≡ role
 
 -- the initiator, of 4 or 16 bytes, and the name lie in the message
 pub record Within (message : List ℕ) (s : Spread) : Type 0 where

@@ -1,0 +1,81 @@
+-- What a node sends: the message with its count one lower, and the Response of an answer; both fit an output of 2,048 bytes.
+-- Assumes nothing.
+use mathlib.Core.Path.{_≡_, refl, sym, ap, _∙_}
+use mathlib.Core.Bool.{true}
+use mathlib.Core.Logic.{_⊎_, inl, inr}
+use mathlib.Core.List.{List, [], _∷_, _++_}
+use Prim.Native.Nat.{ℕ, _+_, _-_, _≤_, _<_}
+use native.Mathlib.Omega.{arith}
+use lib.ListN.{length, take, drop, length-append, length-drop}
+use lib.Seq.{length-take-le}
+use borrow.Author.Tests.{le-ltb}
+use Rattle.base.specs.Pick.{pick}
+use Rattle.base.specs.BigEndian.{Bytes}
+use Rattle.base.proofs.Picks.{both}
+use Rattle.cbor.specs.Put.{head}
+use Rattle.cbor.specs.Tree.{shortest, headBytes}
+use Rattle.cbor.proofs.HeadExact.{length-head}
+use Rattle.options.specs.declared.Span.{Span}
+use Rattle.grammar.specs.Stands.{held}
+use Rattle.message.specs.Read.{mostBytes}
+use Rattle.writer.specs.Grasp.{Maybe, Loc, Targets, Msg, string, reached, fixed, encodeLoc, encodeLocs, targetItems, howMany, encodeTargets, maybeObj, opening, encodeMsg}
+use Rattle.writer.specs.declared.Written.{Written}
+use Rattle.writer.specs.Write.{handAnswer, handOut, passes, passAnswer, passOut, lowerAnswer, lowerOut, answerOf}
+use Rattle.roundtrip.proofs.Relay.{lowered-given}
+use Rattle.node.specs.declared.Record.{Record}
+use Rattle.node.specs.declared.role.Spread.{Spread}
+use Rattle.node.specs.declared.role.Role.{Role}
+use Rattle.node.specs.Role.{RoleIn, Within}
+use Rattle.node.specs.Call.{onward, response, written}
+use Rattle.node.proofs.Spreads.{role-spreading, read-most}
+
+-- ---- a relay
+
+pub onward-given : (message out : List ℕ) (s : Spread) → Bytes message → RoleIn message (Role.Spreads s) → 1 ≤ s .objective .count → mostBytes ≤ length out
+    → (lowerAnswer message (s .objective .«count_at») (s .objective .value .at) (s .objective .count) out ≡ Written.Length (length (onward message (s .objective))))
+    × (lowerOut message (s .objective .«count_at») (s .objective .value .at) (s .objective .count) out ≡ written (onward message (s .objective)) out)
+unfolding onward written
+onward-given message out s b r some room =
+    let fits : length message ≤ length out = omega (arith, read-most message (Role.Spreads s) b r) in
+    lowered-given message (r .is) (s .objective) out b (r .read) (role-spreading message s b r .lowers) some fits
+
+-- ---- an answer
+
+-- a head has at most nine bytes
+head-most : (major arg : ℕ) → length (head major arg) ≤ 9
+unfolding head shortest
+head-most major arg = omega (arith, length-head major (shortest arg) arg, wide)
+  where
+    wide : shortest arg ≤ 8
+    wide =
+        both (λ (w : ℕ). w ≤ 8) _ (omega arith) (both (λ (w : ℕ). w ≤ 8) _ (omega arith) (both (λ (w : ℕ). w ≤ 8) _ (omega arith) (both (λ (w : ℕ). w ≤ 8) _ (omega arith) (omega arith))))
+
+-- bytes in a message
+pub held-length : (s : List ℕ) (i : Span) → i .at + i .len ≤ length s → length (held s i) ≡ i .len
+held-length s i h = length-take-le (i .len) (drop (i .at) s) (omega (arith, length-drop (i .at) s))
+
+answer-most : (session : ℕ) (initiator : List ℕ) (ttl : ℕ) (address : List ℕ) (port : ℕ) → length initiator ≤ 16 → length address ≤ 16
+    → length (answerOf session initiator ttl address port) ≤ mostBytes
+unfolding answerOf encodeMsg opening string targetItems howMany encodeTargets encodeLocs encodeLoc fixed reached maybeObj
+answer-most session initiator ttl address port i a =
+    simp length-append
+    (omega (arith, i, a, head-most 4 5, head-most 0 2, head-most 0 session, head-most 2 (length initiator), head-most 0 ttl, head-most 4 4, head-most 0 103, head-most 2 (length address), head-most 0 6, head-most 0 port))
+
+pub response-given : (r : Record) (message out : List ℕ) (s : Spread) → length (r .address) ≡ 16 → Within message s → mostBytes ≤ length out
+    → (passAnswer true (response r message s) out ≡ Written.Length (length (response r message s))) × (passOut true (response r message s) out ≡ written (response r message s) out)
+unfolding response written passAnswer passOut passes handAnswer handOut pick
+response-given r message out s sixteen w room =
+    let bytes : List ℕ = answerOf (s .session) (held message (s .initiator)) (r .ttl) (r .address) (r .port) in
+    let most : length bytes ≤ mostBytes = answer-most (s .session) (held message (s .initiator)) (r .ttl) (r .address) (r .port) (short (w .bytes)) (omega arith) in
+    let fits : length bytes ≤ length out = omega arith in
+    (rw (le-ltb mostBytes (length bytes) most, le-ltb (length out) (length bytes) fits) refl, rw (le-ltb mostBytes (length bytes) most, le-ltb (length out) (length bytes) fits) refl)
+  where
+    short : (s .initiator .len ≡ 4) ⊎ (s .initiator .len ≡ 16) → length (held message (s .initiator)) ≤ 16
+    short (inl e) = omega (arith, held-length message (s .initiator) (w .initiator))
+    short (inr e) = omega (arith, held-length message (s .initiator) (w .initiator))
+
+-- ---- a part of a message
+
+-- `&message[at..at + len]`
+pub part-held : (s : List ℕ) (i : Span) → take (i .at + i .len - i .at) (drop (i .at) s) ≡ held s i
+part-held s i = let e : i .at + i .len - i .at ≡ i .len = omega arith in ap (λ (n : ℕ). take n (drop (i .at) s)) e

@@ -1,0 +1,83 @@
+use borrow.Author.Needs.{needs}
+use Rattle.node.proofs.call.take.Statement.{statement}
+use Rattle.node.proofs.call.take.Tie as tie
+use Rattle.node.proofs.call.take.Reads as reads
+use Rattle.node.proofs.call.take.Lts as lts
+use Rattle.node.proofs.call.quiet.Reads as quiet-reads
+use Rattle.node.proofs.spread.judge.Reads as judge-reads
+use Rattle.node.proofs.table.free_dead.Reads as free-dead-reads
+
+-- src/call.rt:121:5
+free-dead-requires : tie.Need-free-dead-requires
+free-dead-requires c κs = search needs
+
+-- src/call.rt:125:35
+enum-told : tie.Need-enum-told
+enum-told c = search needs
+
+-- src/call.rt:125:23
+quiet-requires : tie.Need-quiet-requires
+quiet-requires c κs = search needs
+
+-- src/call.rt:126:37
+enum-told-2 : tie.Need-enum-told-2
+enum-told-2 c = search needs
+
+-- src/call.rt:126:25
+quiet-requires-2 : tie.Need-quiet-requires-2
+quiet-requires-2 c κs = search needs
+
+-- src/call.rt:127:23
+enum-known-role : tie.Need-enum-known-role
+enum-known-role c = search needs
+
+-- src/call.rt:127:29
+judge-requires : tie.Need-judge-requires
+judge-requires c κs = ?
+
+-- src/call.rt:107:1
+same-length : tie.Need-same-length
+same-length c = search needs
+
+-- src/call.rt:107:1
+returns : tie.Need-returns
+returns c = ?
+
+-- src/call.rt:107:1
+same-length-2 : tie.Need-same-length-2
+same-length-2 c = search needs
+
+-- src/call.rt:107:1
+returns-2 : tie.Need-returns-2
+returns-2 c = ?
+
+-- src/call.rt:107:1
+same-length-3 : tie.Need-same-length-3
+same-length-3 c = search needs
+
+-- src/call.rt:107:1
+same-length-4 : tie.Need-same-length-4
+same-length-4 c = search needs
+
+-- src/call.rt:107:1
+returns-3 : tie.Need-returns-3
+returns-3 c = ?
+
+pub take-spec : {M : Type 1} → statement M
+take-spec =
+    tie.close
+    (tie.spec
+    free-dead-requires
+    enum-told
+    quiet-requires
+    enum-told-2
+    quiet-requires-2
+    enum-known-role
+    judge-requires
+    same-length
+    returns
+    same-length-2
+    returns-2
+    same-length-3
+    same-length-4
+    returns-3)

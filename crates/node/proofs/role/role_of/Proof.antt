@@ -1,0 +1,120 @@
+use borrow.Author.Needs.{needs}
+use Rattle.node.proofs.role.role_of.Statement.{statement}
+use Rattle.node.proofs.role.role_of.Tie as tie
+use Rattle.node.proofs.role.role_of.Reads as reads
+use Rattle.node.proofs.role.role_of.Lts as lts
+
+-- src/role.rt:26:26
+enum-told : tie.Need-enum-told
+enum-told c = search needs
+
+-- src/role.rt:28:13
+enum-known-m : tie.Need-enum-known-m
+enum-known-m c = search needs
+
+-- src/role.rt:43:14
+enum-told-2 : tie.Need-enum-told-2
+enum-told-2 c = search needs
+
+-- src/role.rt:47:14
+enum-told-3 : tie.Need-enum-told-3
+enum-told-3 c = search needs
+
+-- src/role.rt:51:14
+enum-told-4 : tie.Need-enum-told-4
+enum-told-4 c = search needs
+
+-- src/role.rt:55:14
+enum-told-5 : tie.Need-enum-told-5
+enum-told-5 c = search needs
+
+-- src/role.rt:59:14
+enum-told-6 : tie.Need-enum-told-6
+enum-told-6 c = search needs
+
+-- src/role.rt:63:14
+enum-told-7 : tie.Need-enum-told-7
+enum-told-7 c = search needs
+
+-- src/role.rt:67:14
+enum-told-8 : tie.Need-enum-told-8
+enum-told-8 c = search needs
+
+-- src/role.rt:69:13
+enum-known-m-2 : tie.Need-enum-known-m-2
+enum-known-m-2 c = search needs
+
+-- src/role.rt:83:14
+enum-told-9 : tie.Need-enum-told-9
+enum-told-9 c = search needs
+
+-- src/role.rt:22:1
+returns : tie.Need-returns
+returns c = ?
+
+-- src/role.rt:22:1
+returns-2 : tie.Need-returns-2
+returns-2 c = ?
+
+-- src/role.rt:22:1
+returns-3 : tie.Need-returns-3
+returns-3 c = ?
+
+-- src/role.rt:22:1
+returns-4 : tie.Need-returns-4
+returns-4 c = ?
+
+-- src/role.rt:22:1
+returns-5 : tie.Need-returns-5
+returns-5 c = ?
+
+-- src/role.rt:22:1
+returns-6 : tie.Need-returns-6
+returns-6 c = ?
+
+-- src/role.rt:22:1
+returns-7 : tie.Need-returns-7
+returns-7 c = ?
+
+-- src/role.rt:22:1
+returns-8 : tie.Need-returns-8
+returns-8 c = ?
+
+-- src/role.rt:22:1
+returns-9 : tie.Need-returns-9
+returns-9 c = ?
+
+-- src/role.rt:22:1
+returns-10 : tie.Need-returns-10
+returns-10 c = ?
+
+-- src/role.rt:22:1
+returns-11 : tie.Need-returns-11
+returns-11 c = ?
+
+pub role-of-spec : {M : Type 1} → statement M
+role-of-spec =
+    tie.close
+    (tie.spec
+    enum-told
+    enum-known-m
+    enum-told-2
+    enum-told-3
+    enum-told-4
+    enum-told-5
+    enum-told-6
+    enum-told-7
+    enum-told-8
+    enum-known-m-2
+    enum-told-9
+    returns
+    returns-2
+    returns-3
+    returns-4
+    returns-5
+    returns-6
+    returns-7
+    returns-8
+    returns-9
+    returns-10
+    returns-11)

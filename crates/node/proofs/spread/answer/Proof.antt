@@ -1,0 +1,25 @@
+use borrow.Author.Needs.{needs}
+use Rattle.node.proofs.spread.answer.Statement.{statement}
+use Rattle.node.proofs.spread.answer.Tie as tie
+use Rattle.node.proofs.spread.answer.Reads as reads
+use Rattle.node.proofs.spread.answer.Lts as lts
+use Rattle.node.proofs.spread.put_response.Reads as put-response-reads
+
+-- src/spread.rt:89:9
+put-response-requires : tie.Need-put-response-requires
+put-response-requires c κs = search needs
+
+-- src/spread.rt:94:19
+shl-t10 : tie.Need-shl-t10
+shl-t10 c = search needs
+
+-- src/spread.rt:82:1
+same-length : tie.Need-same-length
+same-length c = search needs
+
+-- src/spread.rt:82:1
+returns : tie.Need-returns
+returns c = ?
+
+pub answer-spec : {M : Type 1} → statement M
+answer-spec = tie.close (tie.spec put-response-requires shl-t10 same-length returns)

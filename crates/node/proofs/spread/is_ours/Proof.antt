@@ -1,0 +1,46 @@
+use borrow.Author.Needs.{needs}
+use Rattle.node.proofs.spread.is_ours.Statement.{statement}
+use Rattle.node.proofs.spread.is_ours.Tie as tie
+use Rattle.node.proofs.spread.is_ours.Reads as reads
+use Rattle.node.proofs.spread.is_ours.Lts as lts
+use Rattle.names.proofs.are_with.Reads as are-with-reads
+
+-- src/spread.rt:74:9
+returns : tie.Need-returns
+returns c = search needs
+
+-- src/spread.rt:77:14
+add-to : tie.Need-add-to
+add-to c = search needs
+
+-- src/spread.rt:78:28
+sub-are-with : tie.Need-sub-are-with
+sub-are-with c = search needs
+
+-- src/spread.rt:78:28
+part-are-with-start : tie.Need-part-are-with-start
+part-are-with-start c = search needs
+
+-- src/spread.rt:78:28
+part-are-with-end : tie.Need-part-are-with-end
+part-are-with-end c = search needs
+
+-- src/spread.rt:78:5
+are-with-requires : tie.Need-are-with-requires
+are-with-requires c κs = search needs
+
+-- src/spread.rt:69:1
+returns-2 : tie.Need-returns-2
+returns-2 c = ?
+
+pub is-ours-spec : {M : Type 1} → statement M
+is-ours-spec =
+    tie.close
+    (tie.spec
+    returns
+    add-to
+    sub-are-with
+    part-are-with-start
+    part-are-with-end
+    are-with-requires
+    returns-2)

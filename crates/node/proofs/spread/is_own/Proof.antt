@@ -1,0 +1,46 @@
+use borrow.Author.Needs.{needs}
+use Rattle.node.proofs.spread.is_own.Statement.{statement}
+use Rattle.node.proofs.spread.is_own.Tie as tie
+use Rattle.node.proofs.spread.is_own.Reads as reads
+use Rattle.node.proofs.spread.is_own.Lts as lts
+use Rattle.names.proofs.are_same.Reads as are-same-reads
+
+-- src/spread.rt:63:14
+add-to : tie.Need-add-to
+add-to c = search needs
+
+-- src/spread.rt:65:21
+sub-are-same : tie.Need-sub-are-same
+sub-are-same c = search needs
+
+-- src/spread.rt:65:21
+part-are-same-start : tie.Need-part-are-same-start
+part-are-same-start c = search needs
+
+-- src/spread.rt:65:21
+part-are-same-end : tie.Need-part-are-same-end
+part-are-same-end c = search needs
+
+-- src/spread.rt:65:39
+slice-aggregate-are-same : tie.Need-slice-aggregate-are-same
+slice-aggregate-are-same c = search needs
+
+-- src/spread.rt:65:5
+are-same-requires : tie.Need-are-same-requires
+are-same-requires c κs = search needs
+
+-- src/spread.rt:58:1
+returns : tie.Need-returns
+returns c = ?
+
+pub is-own-spec : {M : Type 1} → statement M
+is-own-spec =
+    tie.close
+    (tie.spec
+    add-to
+    sub-are-same
+    part-are-same-start
+    part-are-same-end
+    slice-aggregate-are-same
+    are-same-requires
+    returns)

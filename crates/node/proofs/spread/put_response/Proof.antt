@@ -1,0 +1,66 @@
+use borrow.Author.Needs.{needs}
+use Rattle.node.proofs.spread.put_response.Statement.{statement}
+use Rattle.node.proofs.spread.put_response.Tie as tie
+use Rattle.node.proofs.spread.put_response.Reads as reads
+use Rattle.node.proofs.spread.put_response.Lts as lts
+use Rattle.writer.proofs.answer.Reads as answer-reads
+
+-- src/spread.rt:109:14
+add-to : tie.Need-add-to
+add-to c = search needs
+
+-- src/spread.rt:113:9
+sub-answer : tie.Need-sub-answer
+sub-answer c = search needs
+
+-- src/spread.rt:113:9
+part-answer-start : tie.Need-part-answer-start
+part-answer-start c = search needs
+
+-- src/spread.rt:113:9
+part-answer-end : tie.Need-part-answer-end
+part-answer-end c = search needs
+
+-- src/spread.rt:111:9
+answer-requires : tie.Need-answer-requires
+answer-requires c κs = search needs
+
+-- src/spread.rt:120:25
+enum-known-sent : tie.Need-enum-known-sent
+enum-known-sent c = search needs
+
+-- src/spread.rt:121:32
+enum-told : tie.Need-enum-told
+enum-told c = search needs
+
+-- src/spread.rt:102:1
+same-length : tie.Need-same-length
+same-length c = search needs
+
+-- src/spread.rt:102:1
+returns : tie.Need-returns
+returns c = ?
+
+-- src/spread.rt:102:1
+same-length-2 : tie.Need-same-length-2
+same-length-2 c = search needs
+
+-- src/spread.rt:102:1
+returns-2 : tie.Need-returns-2
+returns-2 c = ?
+
+pub put-response-spec : {M : Type 1} → statement M
+put-response-spec =
+    tie.close
+    (tie.spec
+    add-to
+    sub-answer
+    part-answer-start
+    part-answer-end
+    answer-requires
+    enum-known-sent
+    enum-told
+    same-length
+    returns
+    same-length-2
+    returns-2)

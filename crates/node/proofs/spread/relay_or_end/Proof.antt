@@ -1,0 +1,91 @@
+use borrow.Author.Needs.{needs}
+use Rattle.node.proofs.spread.relay_or_end.Statement.{statement}
+use Rattle.node.proofs.spread.relay_or_end.Tie as tie
+use Rattle.node.proofs.spread.relay_or_end.Reads as reads
+use Rattle.node.proofs.spread.relay_or_end.Lts as lts
+use Rattle.node.proofs.call.quiet.Reads as quiet-reads
+use Rattle.node.proofs.links.others.Reads as others-reads
+use Rattle.node.proofs.spread.put_onward.Reads as put-onward-reads
+use Rattle.node.proofs.spread.relayed.Reads as relayed-reads
+use Rattle.node.proofs.table.lowest_free.Reads as lowest-free-reads
+use Rattle.node.proofs.table.put_row.Reads as put-row-reads
+
+-- src/spread.rt:141:9
+quiet-requires : tie.Need-quiet-requires
+quiet-requires c κs = search needs
+
+-- src/spread.rt:141:9
+returns : tie.Need-returns
+returns c = ?
+
+-- src/spread.rt:143:9
+others-requires : tie.Need-others-requires
+others-requires c κs = search needs
+
+-- src/spread.rt:145:9
+quiet-requires-2 : tie.Need-quiet-requires-2
+quiet-requires-2 c κs = search needs
+
+-- src/spread.rt:145:9
+returns-2 : tie.Need-returns-2
+returns-2 c = ?
+
+-- src/spread.rt:147:9
+lowest-free-requires : tie.Need-lowest-free-requires
+lowest-free-requires c κs = search needs
+
+-- src/spread.rt:149:9
+quiet-requires-3 : tie.Need-quiet-requires-3
+quiet-requires-3 c κs = search needs
+
+-- src/spread.rt:149:9
+same-length : tie.Need-same-length
+same-length c = search needs
+
+-- src/spread.rt:149:9
+returns-3 : tie.Need-returns-3
+returns-3 c = ?
+
+-- src/spread.rt:151:5
+put-row-requires : tie.Need-put-row-requires
+put-row-requires c κs = search needs
+
+-- src/spread.rt:152:9
+put-onward-requires : tie.Need-put-onward-requires
+put-onward-requires c κs = search needs
+
+-- src/spread.rt:153:5
+relayed-requires : tie.Need-relayed-requires
+relayed-requires c κs = search needs
+
+-- src/spread.rt:126:1
+same-length-2 : tie.Need-same-length-2
+same-length-2 c = search needs
+
+-- src/spread.rt:126:1
+same-length-3 : tie.Need-same-length-3
+same-length-3 c = search needs
+
+-- src/spread.rt:126:1
+returns-4 : tie.Need-returns-4
+returns-4 c = ?
+
+pub relay-or-end-spec : {M : Type 1} → statement M
+relay-or-end-spec =
+    tie.close
+    (tie.spec
+    quiet-requires
+    returns
+    others-requires
+    quiet-requires-2
+    returns-2
+    lowest-free-requires
+    quiet-requires-3
+    same-length
+    returns-3
+    put-row-requires
+    put-onward-requires
+    relayed-requires
+    same-length-2
+    same-length-3
+    returns-4)

@@ -1,0 +1,19 @@
+use Rattle.node.proofs.spread.relayed.Statement.{statement}
+use Rattle.node.proofs.spread.relayed.Tie as tie
+use Rattle.node.proofs.spread.relayed.Reads as reads
+use Rattle.node.proofs.spread.relayed.Lts as lts
+
+-- src/spread.rt:178:31
+cast-next : tie.Need-cast-next
+cast-next c = ?
+
+-- src/spread.rt:178:18
+add-next : tie.Need-add-next
+add-next c = ?
+
+-- src/spread.rt:173:1
+returns : tie.Need-returns
+returns c = ?
+
+pub relayed-spec : {M : Type 1} → statement M
+relayed-spec = tie.close (tie.spec cast-next add-next returns)
