@@ -1,4 +1,4 @@
--- A list of steps on one negotiation state, fresh at first, and the last sentence of demand 3 about it.
+-- A list of steps on one negotiation state, and the last sentence of demand 3 about it.
 use mathlib.Core.Path.{_≡_}
 use mathlib.Core.List.{List, [], _∷_}
 use mathlib.Core.Bool.{Bool, false}
@@ -23,8 +23,8 @@ pub record Sent : Type 0 where
   pub sender : Side
   pub bytes : List ℕ
 
--- a step of a list: the bytes that it was given and its answer
-pub record Turn : Type 0 where
+-- a step of a list: the bytes that it was given, and what it answered
+pub record Answered : Type 0 where
   pub bytes : List ℕ
   pub answer : Stepped
 
@@ -34,29 +34,29 @@ after state (Refused number) = state
 after state (Moved next) = next
 
 -- the steps of a list, each given the state that the step before it returned or left
-unfoldable pub turns : State → List Sent → List Turn
-turns state [] = []
-turns state (m ∷ ms) =
+unfoldable pub answered : State → List Sent → List Answered
+answered state [] = []
+answered state (m ∷ ms) =
     let answer = step state (m .bytes) (m .sender) in
-    record { bytes = m .bytes; answer = answer } ∷ turns (after state answer) ms
+    record { bytes = m .bytes; answer = answer } ∷ answered (after state answer) ms
 
--- whether bytes are read as a message of a kind
+-- whether a message was read, and of this kind
 unfoldable pub isKind : ℕ → Reading → Bool
 isKind kind (Reading.Refused number) = false
 isKind kind (Reading.Read m) = eqb (kindOf m) kind
 
--- whether a step was accepted with a Negotiate (kind 5)
+-- whether a Negotiate (kind 5) was accepted
 unfoldable pub tookNegotiate : List ℕ → Stepped → Bool
 tookNegotiate bytes (Refused number) = false
 tookNegotiate bytes (Moved next) = isKind 5 (readOf bytes)
 
--- how many Negotiates are accepted in a list
-unfoldable pub negotiated : List Turn → ℕ
+-- how many Negotiates are accepted
+unfoldable pub negotiated : List Answered → ℕ
 negotiated [] = 0
 negotiated (x ∷ xs) = pick (tookNegotiate (x .bytes) (x .answer)) (suc (negotiated xs)) (negotiated xs)
 
--- the step opens the state at a count: it is accepted with a Request (kind 3) of that count
-pub record Opens (x : Turn) (count : ℕ) : Type 0 where
+-- a step opened the state at a count: a Request (kind 3) with that count was accepted
+pub record Opens (x : Answered) (count : ℕ) : Type 0 where
   pub m : Message
   pub read : readOf (x .bytes) ≡ Reading.Read m
   pub request : kindOf m ≡ 3
@@ -64,7 +64,11 @@ pub record Opens (x : Turn) (count : ℕ) : Type 0 where
   pub next : State
   pub accepted : x .answer ≡ Moved next
 
--- Demand 3 for one negotiation state: where a step opened it at count c, the accepted Negotiates of the whole list are at most c - 1; where none did, none is accepted.
-pub record Bounded (messages : List Sent) : Type 0 where
-  pub opened : Every (λ x. (c : ℕ) → Opens x c → negotiated (turns Fresh messages) + 1 ≤ c) (turns Fresh messages)
-  pub unopened : Every (λ x. (c : ℕ) → Opens x c → ⊥) (turns Fresh messages) → negotiated (turns Fresh messages) ≡ 0
+-- where a step opened the state at count c, at most c - 1 Negotiates are accepted; where none did, none is accepted
+pub record BoundedIn (steps : List Answered) : Type 0 where
+  pub opened : Every (λ x. (c : ℕ) → Opens x c → negotiated steps + 1 ≤ c) steps
+  pub unopened : Every (λ x. (c : ℕ) → Opens x c → ⊥) steps → negotiated steps ≡ 0
+
+-- Demand 3 for one negotiation state, fresh at first: its last sentence.
+abbrev pub Bounded : List Sent → Type 0
+Bounded messages = BoundedIn (answered Fresh messages)
