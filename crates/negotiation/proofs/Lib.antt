@@ -1,6 +1,6 @@
 -- For readers: `Accepted`, when a step is accepted and when it is refused; `Turns`, the last sentence of demand 3.
 pub mod Accepted
--- pub mod Turns
+pub mod Turns
 -- For their proofs: what a step leads to is allowed, and what is allowed is led to; numbers and counts of what was read.
 mod Ways
 mod Readings
