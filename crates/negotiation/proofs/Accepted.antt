@@ -17,8 +17,8 @@ use Rattle.negotiation.specs.declared.State.the-variants.{Closed}
 use Rattle.negotiation.specs.declared.Stepped.{Stepped}
 use Rattle.negotiation.specs.declared.Stepped.the-variants.{Refused, Moved}
 use Rattle.negotiation.specs.Step.{moveOf, stateStep, stepFrom, step}
-use Rattle.negotiation.specs.Allowed.{Names, Allowed, Opened}
-use Rattle.negotiation.specs.Turns.{Sent, Answered, after, answered}
+use Rattle.negotiation.specs.Allowed.{Allowed, Opened}
+use Rattle.negotiation.specs.Turns.{Sent, after, answered}
 use Rattle.negotiation.proofs.Ways.{Judged, state-judged, allowed-moves}
 use Rattle.negotiation.proofs.Readings.{reading-number, request-count}
 

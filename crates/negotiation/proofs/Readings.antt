@@ -1,11 +1,9 @@
 -- What was read: a refusal's number is at most 11, and a Request's count at most 255.
 -- Assumes nothing.
-use mathlib.Core.Path.{_≡_, refl, sym, ap, _∙_, subst}
+use mathlib.Core.Path.{_≡_, refl, subst}
 use mathlib.Core.List.{List}
 use Prim.Native.Nat.{ℕ, _+_, _-_, _≤_}
 use native.Mathlib.Omega.{arith}
-use native.Mathlib.Nat.{le-trans}
-use lib.ListN.{length, drop}
 use lib.Dec.{ltb, lit≤}
 use borrow.Author.Tests.{ltb-false}
 use Rattle.base.specs.BigEndian.{Bytes}
@@ -22,7 +20,6 @@ use Rattle.options.specs.declared.pair.PairRead.{PairRead}
 use Rattle.options.specs.Objective.{objectiveIn, objectiveAt}
 use Rattle.options.specs.Pair.{pairAt}
 use Rattle.message.specs.declared.Message.{Message}
-use Rattle.message.specs.declared.Extra.{Extra}
 use Rattle.message.specs.declared.Targets.{Targets}
 use Rattle.message.specs.declared.Series.{Series}
 use Rattle.message.specs.declared.Reading.{Reading}

@@ -1,7 +1,7 @@
 -- What a step leads to is allowed (`state-judged`), and what is allowed is led to (`allowed-moves`).
 -- Assumes nothing.
 use mathlib.Core.Path.{_≡_, refl, ap, _∙_, subst}
-use mathlib.Core.Bool.{true, false, false≢true}
+use mathlib.Core.Bool.{true, false≢true}
 use Prim.Native.Nat.{ℕ, _+_, _≤_}
 use native.Mathlib.Omega.{arith}
 use lib.Dec.{eqb}
@@ -21,7 +21,7 @@ use Rattle.negotiation.specs.declared.Stepped.{Stepped}
 use Rattle.negotiation.specs.declared.Stepped.the-variants.{Refused, Moved}
 use Rattle.negotiation.specs.declared.Move.{Move}
 use Rattle.negotiation.specs.declared.Move.the-variants.{Request, Negotiate, Wait, End, Other}
-use Rattle.negotiation.specs.Step.{moveOf, otherSide, sameSide, freshStep, oneLower, turnStep, stateStep}
+use Rattle.negotiation.specs.Step.{moveOf, sameSide, freshStep, oneLower, turnStep, stateStep}
 use Rattle.negotiation.specs.Allowed.{Names, Counts, Allowed}
 
 -- an answer to a message that was read: 20, or a state that is allowed
