@@ -7,7 +7,8 @@ use native.Mathlib.Omega.{arith}
 use lib.Dec.{eqb}
 use borrow.Author.Tests.{eq-eqb, ne-eqb, eqb-true, eqb-false}
 use Rattle.base.specs.Pick.{pick}
-use Rattle.base.proofs.Picks.{pick-case, past}
+use Rattle.base.proofs.Picks.{pick-case}
+use Rattle.options.specs.declared.objective.Objective.{Objective}
 use Rattle.message.specs.declared.Message.{Message}
 use Rattle.message.specs.declared.Message.the-variants as M
 use Rattle.message.specs.declared.Extra.{Extra}
@@ -21,7 +22,7 @@ use Rattle.negotiation.specs.declared.Stepped.{Stepped}
 use Rattle.negotiation.specs.declared.Stepped.the-variants.{Refused, Moved}
 use Rattle.negotiation.specs.declared.Move.{Move}
 use Rattle.negotiation.specs.declared.Move.the-variants.{Request, Negotiate, Wait, End, Other}
-use Rattle.negotiation.specs.Step.{moveOf, sameSide, freshStep, oneLower, turnStep, stateStep}
+use Rattle.negotiation.specs.Step.{moveOf, sameSide, freshStep, lowerStep, turnStep, stateStep}
 use Rattle.negotiation.specs.Allowed.{Names, Counts, Allowed}
 
 -- an answer to a message that was read: 20, or a state that is allowed
@@ -48,17 +49,26 @@ fresh-judged sender (M.Synch session objective) = refl
 fresh-judged sender (M.Flood session initiator ttl first pairs) = refl
 fresh-judged sender (M.Invalid session item) = refl
 
-one-lower : {count lower : ℕ} → oneLower count lower ≡ true → (1 ≤ lower) × (lower + 1 ≡ count)
-unfolding oneLower
-one-lower {count} {lower} e =
-    let (some, q) = past (eqb lower 0) e false≢true in
-    let positive = eqb-false lower 0 some in
-    (omega arith, eqb-true (lower + 1) count q)
-
 -- the side with the turn
 module _ (turn : Side) (session count : ℕ) (some : 1 ≤ count) where
   in-session : (P : Stepped → Type 0) (named : ℕ) {x : Stepped} → P (Refused 20) → (named ≡ session → P x) → P (pick (eqb named session) x (Refused 20))
   in-session P named refused f = pick-case P (eqb named session) (λ e. f (eqb-true named session e)) (λ _. refused)
+
+  lower-judged : (named : ℕ) (objective : Objective) → named ≡ session
+      → Judged turn (M.Negotiate named objective) (Open session count turn) (lowerStep session count turn (objective .count))
+  unfolding lowerStep kindOf sessionOf objectiveOf
+  lower-judged named objective same =
+      pick-case J (eqb (objective .count) 0) (λ _. refl)
+      (λ e.
+      let least = eqb-false (objective .count) 0 e in
+      pick-case J (eqb (objective .count + 1) count)
+      (λ lower.
+      Allowed.negotiate (record { ofKind = refl; ofSession = ap Session.Number same }) (record { objective = objective; has = refl; is = refl })
+      (omega arith) (eqb-true (objective .count + 1) count lower))
+      (λ _. refl))
+    where
+      J : Stepped → Type 0
+      J = Judged turn (M.Negotiate named objective) (Open session count turn)
 
   turn-judged : (m : Message) → Judged turn m (Open session count turn) (turnStep session count turn (moveOf m))
   unfolding moveOf turnStep kindOf sessionOf objectiveOf
@@ -68,13 +78,7 @@ module _ (turn : Side) (session count : ℕ) (some : 1 ≤ count) where
   turn-judged (M.RequestNegotiation named objective) = refl
   turn-judged (M.RequestSynchronization named objective) = refl
   turn-judged (M.Negotiate named objective) =
-      in-session (Judged turn (M.Negotiate named objective) (Open session count turn)) named refl
-      (λ same.
-      pick-case (Judged turn (M.Negotiate named objective) (Open session count turn)) (oneLower count (objective .count))
-      (λ e.
-      let (least, lower) = one-lower e in
-      Allowed.negotiate (record { ofKind = refl; ofSession = ap Session.Number same }) (record { objective = objective; has = refl; is = refl }) least lower)
-      (λ _. refl))
+      in-session (Judged turn (M.Negotiate named objective) (Open session count turn)) named refl (λ same. lower-judged named objective same)
   turn-judged (M.End named outcome) =
       in-session (Judged turn (M.End named outcome) (Open session count turn)) named refl
       (λ same. Allowed.end (record { ofKind = refl; ofSession = ap Session.Number same }) some)
@@ -169,7 +173,7 @@ unfolding stateStep pick
 on-turn session count turn move some = rw (ne-eqb count 0 (λ e. omega arith), side-same turn)
 
 pub allowed-moves : {sender : Side} {m : Message} {state next : State} → Allowed sender m state next → stateStep state (moveOf m) sender ≡ Moved next
-unfolding stateStep freshStep turnStep oneLower pick
+unfolding stateStep freshStep turnStep lowerStep pick
 allowed-moves (Allowed.request {session} {count} n c least) = rw (request-move n c, ne-eqb count 0 (λ e. omega arith))
 allowed-moves {sender} {m} (Allowed.negotiate {session} {count} {lower} n c least one) =
     on-turn session count sender (moveOf m) (omega arith) ∙ rw (negotiate-move n c, eq-eqb session session refl, ne-eqb lower 0 (λ e. omega arith), eq-eqb (lower + 1) count one)

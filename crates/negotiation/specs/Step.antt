@@ -1,4 +1,4 @@
--- What `step` answers (the rules, "Negotiation (house)"; the kinds of RFC 8990, section 2.8.6 to 2.8.9): 1 to 11 by the message's reading, then 20.
+-- What `step` answers (the rules, "Negotiation (house)"; the messages of RFC 8990, sections 2.8.6 to 2.8.9): 1 to 11 by the message's reading, then 20.
 use Prim.Native.Nat.{ℕ, _+_}
 use mathlib.Core.List.{List}
 use mathlib.Core.Bool.{Bool, true, false}
@@ -52,15 +52,16 @@ freshStep (Wait session) sender = Refused 20
 freshStep (End session) sender = Refused 20
 freshStep Other sender = Refused 20
 
--- whether a count is exactly one lower and at least 1
-unfoldable pub oneLower : ℕ → ℕ → Bool
-oneLower count lower = pick (eqb lower 0) false (eqb (lower + 1) count)
+-- a Negotiate with a count exactly one lower and at least 1: the turn passes
+unfoldable pub lowerStep : ℕ → ℕ → Side → ℕ → Stepped
+lowerStep session count turn lower =
+    pick (eqb lower 0) (Refused 20) (unless (eqb (lower + 1) count) (Refused 20) (Moved (Open session lower (otherSide turn))))
 
--- an open state, for the side with the turn: with its session, a Negotiate one lower (the turn passes), Wait (nothing changes) or End
+-- an open state, for the side with the turn: with that session, a Negotiate, Wait (nothing changes) or End (closed)
 unfoldable pub turnStep : ℕ → ℕ → Side → Move → Stepped
 turnStep session count turn (Request named lower) = Refused 20
 turnStep session count turn (Negotiate named lower) =
-    unless (eqb named session) (Refused 20) (pick (oneLower count lower) (Moved (Open session lower (otherSide turn))) (Refused 20))
+    unless (eqb named session) (Refused 20) (lowerStep session count turn lower)
 turnStep session count turn (Wait named) = unless (eqb named session) (Refused 20) (Moved (Open session count turn))
 turnStep session count turn (End named) = unless (eqb named session) (Refused 20) (Moved Closed)
 turnStep session count turn Other = Refused 20
@@ -72,11 +73,11 @@ stateStep (Open session count turn) move sender =
     pick (eqb count 0) (Refused 20) (pick (sameSide sender turn) (turnStep session count turn move) (Refused 20))
 stateStep Closed move sender = Refused 20
 
--- the step on a state, after the message's reading
+-- the number of a refused reading, else what the message that was read does to the state
 unfoldable pub stepFrom : State → Reading → Side → Stepped
 stepFrom state (Reading.Refused number) sender = Refused number
 stepFrom state (Reading.Read m) sender = stateStep state (moveOf m) sender
 
--- the step
+-- the answer to a message's bytes from this sender
 unfoldable pub step : State → List ℕ → Side → Stepped
 step state message sender = stepFrom state (readOf message) sender

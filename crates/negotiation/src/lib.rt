@@ -1,6 +1,6 @@
 // Negotiation (house): what a message does to the state of one session.
 ghost use mathlib.Core.Path.{_≡_};
-ghost use Rattle.negotiation.specs.Step.{moveOf, otherSide, sameSide, freshStep, oneLower, turnStep, stateStep, step};
+ghost use Rattle.negotiation.specs.Step.{moveOf, otherSide, sameSide, freshStep, lowerStep, turnStep, stateStep, step};
 use message::Message;
 use message::Reading;
 
@@ -43,6 +43,7 @@ pub fn step(state: State, message: &[u8], sender: Side) -> Stepped
     }
 }
 
+// A message that was read.
 fn state_step(state: State, m: Move, sender: Side) -> Stepped
     ensures { λ r. ⌜ r ≡ stateStep state m sender ⌝ }
 {
@@ -80,12 +81,9 @@ fn fresh_step(m: Move, sender: Side) -> Stepped
                 turn: other_side(sender),
             })
         }
-        Move::Negotiate {
-            session: _,
-            count: _,
-        } => Stepped::Refused(20),
-        Move::Wait { session: _ } => Stepped::Refused(20),
-        Move::End { session: _ } => Stepped::Refused(20),
+        Move::Negotiate { .. } => Stepped::Refused(20),
+        Move::Wait { .. } => Stepped::Refused(20),
+        Move::End { .. } => Stepped::Refused(20),
         Move::Other => Stepped::Refused(20),
     }
 }
@@ -95,10 +93,7 @@ fn turn_step(session: u32, count: u8, turn: Side, m: Move) -> Stepped
     ensures { λ r. ⌜ r ≡ turnStep session count turn m ⌝ }
 {
     match m {
-        Move::Request {
-            session: _,
-            count: _,
-        } => Stepped::Refused(20),
+        Move::Request { .. } => Stepped::Refused(20),
         Move::Negotiate {
             session: named,
             count: lower,
@@ -106,14 +101,7 @@ fn turn_step(session: u32, count: u8, turn: Side, m: Move) -> Stepped
             if named != session {
                 return Stepped::Refused(20);
             }
-            if one_lower(count, lower) {
-                return Stepped::Moved(State::Open {
-                    session,
-                    count: lower,
-                    turn: other_side(turn),
-                });
-            }
-            Stepped::Refused(20)
+            lower_step(session, count, turn, lower)
         }
         Move::Wait { session: named } => {
             if named != session {
@@ -135,14 +123,21 @@ fn turn_step(session: u32, count: u8, turn: Side, m: Move) -> Stepped
     }
 }
 
-// A count exactly one lower and at least 1.
-fn one_lower(count: u8, lower: u8) -> bool
-    ensures { λ r. ⌜ r ≡ oneLower count lower ⌝ }
+// A Negotiate: a count exactly one lower and at least 1. The turn passes.
+fn lower_step(session: u32, count: u8, turn: Side, lower: u8) -> Stepped
+    ensures { λ r. ⌜ r ≡ lowerStep session count turn lower ⌝ }
 {
     if lower == 0 {
-        return false;
+        return Stepped::Refused(20);
     }
-    lower as u16 + 1 == count as u16
+    if lower as u16 + 1 != count as u16 {
+        return Stepped::Refused(20);
+    }
+    Stepped::Moved(State::Open {
+        session,
+        count: lower,
+        turn: other_side(turn),
+    })
 }
 
 fn move_of(m: Message) -> Move
@@ -150,50 +145,22 @@ fn move_of(m: Message) -> Move
 {
     match m {
         Message::Noop => Move::Other,
-        Message::Discovery {
-            session: _,
-            initiator: _,
-            objective: _,
-        } => Move::Other,
-        Message::Response {
-            session: _,
-            initiator: _,
-            ttl: _,
-            targets: _,
-            extra: _,
-        } => Move::Other,
+        Message::Discovery { .. } => Move::Other,
+        Message::Response { .. } => Move::Other,
         Message::RequestNegotiation { session, objective } => Move::Request {
             session,
             count: objective.count,
         },
-        Message::RequestSynchronization {
-            session: _,
-            objective: _,
-        } => Move::Other,
+        Message::RequestSynchronization { .. } => Move::Other,
         Message::Negotiate { session, objective } => Move::Negotiate {
             session,
             count: objective.count,
         },
-        Message::End {
-            session,
-            outcome: _,
-        } => Move::End { session },
-        Message::Wait { session, time: _ } => Move::Wait { session },
-        Message::Synch {
-            session: _,
-            objective: _,
-        } => Move::Other,
-        Message::Flood {
-            session: _,
-            initiator: _,
-            ttl: _,
-            first: _,
-            pairs: _,
-        } => Move::Other,
-        Message::Invalid {
-            session: _,
-            item: _,
-        } => Move::Other,
+        Message::End { session, .. } => Move::End { session },
+        Message::Wait { session, .. } => Move::Wait { session },
+        Message::Synch { .. } => Move::Other,
+        Message::Flood { .. } => Move::Other,
+        Message::Invalid { .. } => Move::Other,
     }
 }
 
