@@ -1,4 +1,4 @@
--- One session from its Request to its End, computed, with what is refused on the way.
+-- One session from its Request to its End, computed, with what is refused on the way; and a state handed in with a count of 0.
 -- Assumes nothing.
 use mathlib.Core.Path.{_≡_, refl}
 use mathlib.Core.List.{List, [], _∷_}
@@ -47,11 +47,14 @@ answersOf [] = []
 answersOf (x ∷ xs) = x .answer ∷ answersOf xs
 
 -- for readers
+
+-- What each message is answered: the Request opened the state at 3, and two Negotiates are accepted.
 pub session :
     (answersOf (answered Fresh messages)
     ≡ Refused 20 ∷ Refused 20 ∷ Moved (Open 7 3 Them) ∷ Refused 20 ∷ Refused 20 ∷ Moved (Open 7 2 Us)
     ∷ Refused 20 ∷ Refused 20 ∷ Moved (Open 7 1 Them) ∷ Moved (Open 7 1 Them) ∷ Refused 20 ∷ Refused 20 ∷ Moved Closed
     ∷ Refused 20 ∷ Refused 1 ∷ [])
     × (negotiated (answered Fresh messages) ≡ 2)
+    × (step (Open 7 0 Us) ending Us ≡ Refused 20)
 unfolding pick bigEndian widthOf leastOf initialOf argOf headJudged headFrom headBy headOf headAt opens stepOf itemFrom stepAt itemsOf next run enough firstItem nothingAt tokenOf tokenFrom tokenAt itemsIn upTo tailsOf leastTail greatestTail goesOn isUtf8 badText longName objectiveIn exchangeOf exchanged exchangeAt waitAt optionAt endAt byKind judged shaped framed examined placeless readOf kindOf moveOf freshStep lowerStep turnStep stateStep stepFrom step after answered isKind tookNegotiate negotiated
-session = (refl, refl)
+session = (refl, refl, refl)

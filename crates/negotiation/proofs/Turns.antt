@@ -1,4 +1,4 @@
--- The last sentence of demand 3. A state that was opened may still accept so many Negotiates as its count says, less one; each accepted one lowers it.
+-- The last sentence of demand 3. An open state may still accept one Negotiate less than its count says, and each accepted one lowers the count.
 -- Assumes nothing.
 use mathlib.Core.Path.{_≡_, refl, sym, ap, _∙_}
 use mathlib.Core.List.{List, [], _∷_}
