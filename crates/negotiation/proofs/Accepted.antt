@@ -1,0 +1,116 @@
+-- When a step is accepted, and when it is refused. For readers: each statement stands alone.
+-- Assumes nothing.
+use mathlib.Core.Path.{_≡_, refl, sym, ap, _∙_, subst}
+use mathlib.Core.Logic.{_↔_}
+use mathlib.Core.List.{List, [], _∷_}
+use Prim.Native.Nat.{ℕ}
+use native.Mathlib.Omega.{arith}
+use Rattle.base.specs.BigEndian.{Bytes}
+use Rattle.base.specs.Lists.{Every}
+use Rattle.message.specs.declared.Message.{Message}
+use Rattle.message.specs.declared.Reading.{Reading}
+use Rattle.message.specs.Read.{readOf}
+use Rattle.message.specs.Fields.{kindOf}
+use Rattle.negotiation.specs.declared.Side.{Side}
+use Rattle.negotiation.specs.declared.State.{State}
+use Rattle.negotiation.specs.declared.State.the-variants.{Closed}
+use Rattle.negotiation.specs.declared.Stepped.{Stepped}
+use Rattle.negotiation.specs.declared.Stepped.the-variants.{Refused, Moved}
+use Rattle.negotiation.specs.Step.{moveOf, stateStep, stepFrom, step}
+use Rattle.negotiation.specs.Allowed.{Allowed, Opened}
+use Rattle.negotiation.specs.Turns.{Sent, after, answered}
+use Rattle.negotiation.proofs.Ways.{Judged, state-judged, allowed-moves}
+use Rattle.negotiation.proofs.Readings.{reading-number, request-count}
+
+-- an answer is a refusal or a state
+refused-or-moved : {number : ℕ} {next : State} {x : Stepped} → x ≡ Refused number → x ≡ Moved next → ⊥
+refused-or-moved e f = let z : _≡_ {A = ℕ} 0 1 = cc in omega arith
+
+module _ (state : State) (message : List ℕ) (sender : Side) where
+  -- the step on a message that was read
+  read-step : {m : Message} → readOf message ≡ Reading.Read m → step state message sender ≡ stateStep state (moveOf m) sender
+  unfolding step stepFrom
+  read-step e = ap (λ (r : Reading). stepFrom state r sender) e
+
+  -- the step on one that was refused
+  unread-step : {number : ℕ} → readOf message ≡ Reading.Refused number → step state message sender ≡ Refused number
+  unfolding step stepFrom
+  unread-step e = ap (λ (r : Reading). stepFrom state r sender) e
+
+  -- an answer's reasons
+  judged : {m : Message} {x : Stepped} → readOf message ≡ Reading.Read m → step state message sender ≡ x → Judged sender m state x
+  judged {m} e q = subst (Judged sender m state) (sym (read-step e) ∙ q) (state-judged sender m state)
+
+-- for readers
+
+-- A step is accepted exactly if its message is read and allowed.
+pub moved-exactly : (state : State) (message : List ℕ) (sender : Side) (next : State)
+    → step state message sender ≡ Moved next ↔ ((m : Message) × (readOf message ≡ Reading.Read m) × Allowed sender m state next)
+moved-exactly state message sender next = (by (readOf message) refl, λ h. read-step state message sender (h .1) ∙ allowed-moves (h .2))
+  where
+    by : (r : Reading) → readOf message ≡ r → step state message sender ≡ Moved next → (m : Message) × (readOf message ≡ Reading.Read m) × Allowed sender m state next
+    by (Reading.Refused number) e q = absurd (refused-or-moved (unread-step state message sender e) q)
+    by (Reading.Read m) e q = (m, e, judged state message sender e q)
+
+-- A step is refused with 20 exactly if its message is read and leads to no state.
+pub refused-20-exactly : (state : State) (message : List ℕ) (sender : Side) → Bytes message
+    → step state message sender ≡ Refused 20 ↔ ((m : Message) × (readOf message ≡ Reading.Read m) × ((next : State) → Allowed sender m state next → ⊥))
+refused-20-exactly state message sender bytes = (by (readOf message) refl, λ h. back (h .1) (h .2) (step state message sender) refl)
+  where
+    by : (r : Reading) → readOf message ≡ r → step state message sender ≡ Refused 20 → (m : Message) × (readOf message ≡ Reading.Read m) × ((next : State) → Allowed sender m state next → ⊥)
+    by (Reading.Refused number) e q =
+        let f = unread-step state message sender e in
+        let same : number ≡ 20 = cc in
+        absurd (omega (arith, reading-number message bytes e))
+    by (Reading.Read m) e q = (m, e, λ next a. refused-or-moved q (read-step state message sender e ∙ allowed-moves a))
+
+    back : {m : Message} → readOf message ≡ Reading.Read m → ((next : State) → Allowed sender m state next → ⊥) → (x : Stepped) → step state message sender ≡ x → step state message sender ≡ Refused 20
+    back e none (Refused number) q = q ∙ ap Refused (judged state message sender e q)
+    back e none (Moved next) q = absurd (none next (judged state message sender e q))
+
+-- A step is refused with any other number exactly if its message is refused with that number.
+pub refused-exactly : (state : State) (message : List ℕ) (sender : Side) (number : ℕ) → (number ≡ 20 → ⊥)
+    → step state message sender ≡ Refused number ↔ readOf message ≡ Reading.Refused number
+refused-exactly state message sender number other = (by (readOf message) refl, unread-step state message sender)
+  where
+    by : (r : Reading) → readOf message ≡ r → step state message sender ≡ Refused number → readOf message ≡ Reading.Refused number
+    by (Reading.Refused n) e q =
+        let f = unread-step state message sender e in
+        let same : n ≡ number = cc in
+        e ∙ ap Reading.Refused same
+    by (Reading.Read m) e q = absurd (other (judged state message sender e q))
+
+-- A Request that is accepted opens a fresh state, with a count from 1 to 255, and then the other side has the turn.
+pub request-opens : (state : State) (message : List ℕ) (sender : Side) (next : State) (m : Message)
+    → readOf message ≡ Reading.Read m → kindOf m ≡ 3 → step state message sender ≡ Moved next → Opened sender m state next
+request-opens state message sender next m read kind moved = by (judged state message sender read moved)
+  where
+    by : {before after : State} → Allowed sender m before after → Opened sender m before after
+    by (Allowed.request {session} {count} n c least) =
+        record {
+          session = session;
+          count = count;
+          names = n;
+          counts = c;
+          least = least;
+          most = request-count message read n c;
+          before = refl;
+          after = refl;
+        }
+    by (Allowed.negotiate n c least lower) = absurd (omega (arith, kind, n .ofKind))
+    by (Allowed.wait n some) = absurd (omega (arith, kind, n .ofKind))
+    by (Allowed.end n some) = absurd (omega (arith, kind, n .ofKind))
+
+-- Closed is for good: every later step is refused.
+pub closed-for-good : (messages : List Sent) → Every (λ x. (next : State) → x .answer ≡ Moved next → ⊥) (answered Closed messages)
+unfolding answered after
+closed-for-good [] = tt
+closed-for-good (m ∷ ms) = by (step Closed (m .bytes) (m .sender)) refl (closed-for-good ms)
+  where
+    by : (x : Stepped) → step Closed (m .bytes) (m .sender) ≡ x → Every (λ x. (next : State) → x .answer ≡ Moved next → ⊥) (answered Closed ms)
+        → Every (λ x. (next : State) → x .answer ≡ Moved next → ⊥) (record { bytes = m .bytes; answer = x } ∷ answered (after Closed x) ms)
+    by (Refused number) q rest = (λ next e. refused-or-moved refl e, rest)
+    by (Moved next) q rest = absurd (none (moved-exactly Closed (m .bytes) (m .sender) next .0 q .2))
+      where
+        none : {sender : Side} {m : Message} {next : State} → Allowed sender m Closed next → ⊥
+        none = elim [ ]

@@ -1,0 +1,42 @@
+-- The ways in which a step is accepted (the rules, "Negotiation (house)"), said of what the message holds: its kind, its session, its objective's count.
+use mathlib.Core.Path.{_≡_}
+use Prim.Native.Nat.{ℕ, _+_, _≤_}
+use Rattle.options.specs.declared.objective.Objective.{Objective}
+use Rattle.message.specs.declared.Message.{Message}
+use Rattle.message.specs.declared.Extra.{Extra}
+use Rattle.message.specs.declared.fields.Session.{Session}
+use Rattle.message.specs.Fields.{kindOf, sessionOf, objectiveOf}
+use Rattle.negotiation.specs.declared.Side.{Side}
+use Rattle.negotiation.specs.declared.State.{State}
+use Rattle.negotiation.specs.declared.State.the-variants.{Fresh, Open, Closed}
+use Rattle.negotiation.specs.Step.{otherSide}
+
+-- a message of this kind and session
+pub record Names (m : Message) (kind session : ℕ) : Type 0 where
+  pub ofKind : kindOf m ≡ kind
+  pub ofSession : sessionOf m ≡ Session.Number session
+
+-- a message with this count in its objective
+pub record Counts (m : Message) (count : ℕ) : Type 0 where
+  pub objective : Objective
+  pub has : objectiveOf m ≡ Extra.With objective
+  pub is : objective .count ≡ count
+
+-- from which state to which state a message of this sender leads
+pub data Allowed (sender : Side) (m : Message) : State → State → Type 0 where
+  request : {session count : ℕ} → Names m 3 session → Counts m count → 1 ≤ count → Allowed sender m Fresh (Open session count (otherSide sender))
+  negotiate : {session count lower : ℕ} → Names m 5 session → Counts m lower → 1 ≤ lower → lower + 1 ≡ count
+      → Allowed sender m (Open session count sender) (Open session lower (otherSide sender))
+  wait : {session count : ℕ} → Names m 7 session → 1 ≤ count → Allowed sender m (Open session count sender) (Open session count sender)
+  end : {session count : ℕ} → Names m 6 session → 1 ≤ count → Allowed sender m (Open session count sender) Closed
+
+-- a Request opened the state: it was fresh, the count is from 1 to 255, and the other side has the turn
+pub record Opened (sender : Side) (m : Message) (state next : State) : Type 0 where
+  pub session : ℕ
+  pub count : ℕ
+  pub names : Names m 3 session
+  pub counts : Counts m count
+  pub least : 1 ≤ count
+  pub most : count ≤ 255
+  pub before : state ≡ Fresh
+  pub after : next ≡ Open session count (otherSide sender)
