@@ -20,8 +20,11 @@ pub struct Stored {
 /// Programs that are still to be written: their files are neither stored nor checked.
 const AWAITED: &[&str] = &["negotiation_vectors", "node_vectors"];
 
-/// Every program that is fed stored cases, and what gives its files.
-const PROGRAMS: &[(&str, fn() -> Files)] = &[
+/// A program's name under `crates/`, and what gives its files.
+type Program = (&'static str, fn() -> Files);
+
+/// Every program that is fed stored cases.
+const PROGRAMS: &[Program] = &[
     ("cbor_vectors", cbor::files),
     ("message_vectors", message::files),
     ("write_vectors", write::files),

@@ -5,7 +5,7 @@ use super::super::message::generated::message;
 use super::super::message::parts::{accept, declined, end, wait};
 use super::steps::{about, of_session};
 use super::talk::Talk;
-use crate::negotiation::{Side, State};
+use crate::negotiation::{step, Side, State};
 use crate::random::Random;
 
 /// How many lists are stored, and the steps of each.
@@ -23,7 +23,7 @@ pub fn generated(random: &mut Random, steps: usize) -> Talk {
     let mut state = State::Fresh;
     for _ in 0..steps {
         let (message, sender) = next(random, state);
-        if let Ok(after) = crate::negotiation::step(state, &message, sender) {
+        if let Ok(after) = step(state, &message, sender) {
             state = after;
         }
         talk.step(sender, &message);

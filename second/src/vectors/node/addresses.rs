@@ -1,7 +1,7 @@
 //! What tells relays apart: kind, session and initiator with its length; and our own address.
 
 use super::draft::Draft;
-use super::story::{Story, ADDRESS};
+use super::story::{Story, ADDRESS, EX1};
 
 pub fn stories() -> Vec<Story> {
     vec![
@@ -88,7 +88,7 @@ fn own(address: [u8; 16]) -> Story {
     for count in [0, 1, 255] {
         for draft in Draft::both() {
             let draft = draft.from(&address).count(count);
-            story.named(0, 1, super::story::EX1, &draft.bytes());
+            story.named(0, 1, EX1, &draft.bytes());
         }
     }
     story

@@ -71,26 +71,30 @@ const NOW: u64 = 500_000;
 fn deaths() -> Vec<Story> {
     let call = |message: &[u8]| given(NOW, 1, message);
     let own = Draft::discovery().from(&ADDRESS).bytes();
-    let two = |session| Draft::discovery().session(session).bytes();
+    let asking = |session| Draft::discovery().session(session).bytes();
     let calls = [
         call(b"\x81\x00"),
         call(&parts::end(parts::accept()).encoded()),
         call(&own),
         Given {
             names: EX1.to_vec(),
-            ..call(&two(70))
+            ..call(&asking(70))
         },
-        call(&two(2)),
+        call(&asking(2)),
         call(&Draft::flood().session(9).bytes()),
         call(&Draft::discovery().session(70).count(1).bytes()),
-        call(&two(70)),
+        call(&asking(70)),
         call(b"\x81"),
         Given {
             out_len: 2_047,
-            ..call(&two(70))
+            ..call(&asking(70))
         },
     ];
-    calls.map(aged).to_vec()
+    let mut stories = calls.map(aged).to_vec();
+    let mut nowhere = aged(call(&asking(70)));
+    nowhere.ops.insert(1, Op::Links(2));
+    stories.push(nowhere);
+    stories
 }
 
 /// The call on the table of many ages, then the same again and a Noop a little later.

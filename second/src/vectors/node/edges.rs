@@ -2,9 +2,9 @@
 
 use super::super::edges::AT_THE_EDGES;
 use super::super::message::levels::{nest, AROUND};
-use super::super::message::parts::{flood, invalid, nowhere, pair, valued};
+use super::super::message::parts::*;
 use super::super::message::sizes::of_length;
-use super::super::message::{parts, term::Term};
+use super::super::message::term::Term;
 use super::super::unhex;
 use super::draft::Draft;
 use super::story::{Story, EX1, NO_NAMES};
@@ -80,7 +80,7 @@ fn levels() -> Story {
     let mut story = Story::fresh(3, 7);
     let arrays = |depth| nest(depth, "80", &AROUND[..1]);
     for (depth, holder) in [
-        (5, parts::discovery as fn(Term) -> Term),
+        (5, discovery as Holder),
         (4, |objective| flood([pair(objective, nowhere())])),
     ] {
         story.call(0, 0, &holder(valued(arrays(depth + 1))).encoded());
@@ -94,18 +94,12 @@ fn levels() -> Story {
 
 /// Messages of 2,048 bytes and of 2,049, with counts that keep their length or shrink.
 fn sizes() -> Story {
-    let filled = |length: usize| valued(parts::bytes(length));
     let holders: [fn(usize) -> Term; 5] = [
-        |length| parts::discovery(valued(parts::bytes(length))),
-        |length| parts::discovery(valued(parts::bytes(length)).with(&[2], parts::number(24))),
-        |length| flood([pair(valued(parts::bytes(length)), parts::v4())]),
-        |length| {
-            flood([
-                pair(parts::ex1(), nowhere()),
-                pair(valued(parts::bytes(length)), nowhere()),
-            ])
-        },
-        |length| invalid([parts::bytes(length)]),
+        |length| discovery(filled(length)),
+        |length| discovery(filled(length).with(&[2], number(24))),
+        |length| flood([pair(filled(length), v4())]),
+        |length| flood([pair(ex1(), nowhere()), pair(filled(length), nowhere())]),
+        |length| invalid([bytes(length)]),
     ];
     let mut story = Story::fresh(3, 7);
     for (place, holder) in holders.into_iter().enumerate() {
@@ -114,9 +108,13 @@ fn sizes() -> Story {
             story.call(clock, 1, &of_length(total, holder));
         }
     }
-    let longest = parts::discovery(filled(4_000)).encoded();
-    story.call(600_000, 1, &longest);
+    story.call(600_000, 1, &discovery(filled(4_000)).encoded());
     story
+}
+
+/// An objective with a value that holds so many bytes.
+fn filled(length: usize) -> Term {
+    valued(bytes(length))
 }
 
 /// 64 live rows give NOROW, and one dying gives RELAY.
