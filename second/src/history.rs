@@ -126,7 +126,8 @@ impl Relay {
         u64::from(self.mask.count_ones())
     }
 
-    /// Whether every copy goes to an interface that is there and is not the arriving one.
+    /// Whether every copy goes to an interface that is there and is not the arriving one; a mask
+    /// has each interface at most once.
     fn goes_onward(&self, interfaces: u64) -> bool {
         let out: Vec<u64> = (0..64).filter(|bit| self.mask >> bit & 1 == 1).collect();
         out.iter()

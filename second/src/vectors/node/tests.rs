@@ -5,6 +5,7 @@ use std::collections::BTreeMap;
 use super::story::{given, ADDRESS};
 use super::*;
 use crate::message::read;
+use crate::node::Record;
 use crate::random::Random;
 
 /// How often each first two words of a line are printed.
@@ -89,6 +90,15 @@ fn operations_are_stored_as_said() {
     story.links(6);
     story.row(2, [1, 2, 3, 4]);
     story.ops.push(Op::Length(257));
+    story.ops.push(Op::Record(Record {
+        address: [9; 16],
+        port: 1,
+        ttl: 2,
+        count: 3,
+        mask: 4,
+        clock: 5,
+        tally: 6,
+    }));
     let number = |number: u8| [0, 0, 0, 0, 0, 0, 0, number];
     let stored = [
         &[1][..],
@@ -105,6 +115,10 @@ fn operations_are_stored_as_said() {
         &[5, 2],
         &[number(1), number(2), number(3), number(4)].concat(),
         &[6, 1, 1],
+        &[4],
+        &[9; 16],
+        &[0, 1, 0, 0, 0, 2],
+        &[number(3), number(4), number(5), number(6)].concat(),
     ]
     .concat();
     assert_eq!(story.stored(), stored);
@@ -116,5 +130,5 @@ fn operations_are_stored_as_said() {
     assert!(lines[1].starts_with("verdict 8 0 0 0 "));
     assert!(lines[1].ends_with(" 0 "));
     assert!(lines[2].starts_with("done 0 "));
-    assert!(lines[3].starts_with("refused 13 0 "));
+    assert!(lines[3].starts_with("refused 13 6 "));
 }
