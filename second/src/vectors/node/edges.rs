@@ -117,7 +117,7 @@ fn filled(length: usize) -> Term {
     valued(bytes(length))
 }
 
-/// 64 live rows give NOROW, and one dying gives RELAY.
+/// 64 live rows give DUPLICATE and NOROW, and one dying gives RELAY.
 fn full_tables() -> Vec<Story> {
     let mut stories = Vec::new();
     for (first, second, life) in [
@@ -125,9 +125,12 @@ fn full_tables() -> Vec<Story> {
         (Draft::flood(), Draft::discovery(), 120_000),
     ] {
         let mut story = Story::fresh(4, 15);
+        let row = |place| first.clone().session(place).bytes();
         for place in 0..64 {
-            let draft = first.clone().session(place);
-            story.call(u64::from(place / 2), u64::from(place % 4), &draft.bytes());
+            story.call(u64::from(place / 2), u64::from(place % 4), &row(place));
+        }
+        for place in 0..64 {
+            story.call(31, 3, &row(place));
         }
         let more = |session| second.clone().session(session).bytes();
         for (clock, session) in [
@@ -142,7 +145,7 @@ fn full_tables() -> Vec<Story> {
         ] {
             story.call(clock, 3, &more(session));
         }
-        story.call(life + 31, 0, &first.clone().session(63).bytes());
+        story.call(life + 31, 0, &row(63));
         stories.push(story);
     }
     stories

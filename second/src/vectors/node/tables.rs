@@ -104,7 +104,7 @@ fn lengths() -> Story {
 fn holes() -> Story {
     let mut story = Story::fresh(3, 7);
     for (place, draft) in Draft::four().into_iter().cycle().take(64).enumerate() {
-        let dead = [3, 17, 62].contains(&place);
+        let dead = [3, 17, 63].contains(&place);
         let admitted = if dead { NOW - 120_000 } else { NOW - 100 };
         if ![9, 40].contains(&place) {
             story.row(place, draft.session(place as u32).row(admitted));
