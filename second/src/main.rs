@@ -16,8 +16,8 @@ fn main() -> ExitCode {
     match words[..] {
         ["store"] => each_file(store, "."),
         ["store", root] => each_file(store, root),
-        ["check"] => each_file(check, "."),
-        ["check", root] => each_file(check, root),
+        ["check"] => check_all("."),
+        ["check", root] => check_all(root),
         ["read"] => read(),
         _ => {
             eprintln!("{USAGE}");
@@ -36,6 +36,20 @@ fn each_file(action: fn(&Path, &Stored) -> Result<(), String>, root: &str) -> Ex
         }
     }
     code
+}
+
+/// Checks every stored file, and demand 3 on the stored histories.
+fn check_all(root: &str) -> ExitCode {
+    let code = each_file(check, root);
+    let faults = vectors::faults();
+    for fault in &faults {
+        eprintln!("{fault}");
+    }
+    if faults.is_empty() {
+        code
+    } else {
+        ExitCode::FAILURE
+    }
 }
 
 /// Prints the one line of the program `read_message` for the message on standard input.

@@ -4,7 +4,7 @@ mod item;
 mod shape;
 
 use crate::cbor;
-use item::Item;
+pub use item::Item;
 pub use shape::{ACCEPT, DECLINE, DIVERT, DOMAIN, TCP, UDP, URI, V4, V6};
 
 /// 01, refusal 1: a message of 0 bytes or over 2,048.
@@ -144,14 +144,7 @@ pub struct Pair {
 
 /// The message that the bytes are, or the number of its refusal.
 pub fn read(bytes: &[u8]) -> Result<Message, u8> {
-    if bytes.is_empty() || bytes.len() > MOST_BYTES {
-        return Err(SIZE);
-    }
-    let end = cbor::item(0, bytes).map_err(|refusal| refusal.number)?;
-    if end < bytes.len() {
-        return Err(AFTER);
-    }
-    let root = Item::at(bytes, 0).map_err(|refusal| refusal.number)?;
+    let root = one_item(bytes)?;
     let first = root.array().and_then(<[Item]>::first);
     if let Some(kind) = first.and_then(Item::unsigned::<u64>) {
         if !KINDS.contains(&kind) {
@@ -159,14 +152,26 @@ pub fn read(bytes: &[u8]) -> Result<Message, u8> {
         }
     }
     let message = shape::message(&root).ok_or(SHAPE)?;
-    let said = |text: &Span| &bytes[text.at..text.at + text.length];
-    if !message.texts().iter().all(|text| cbor::is_utf8(said(text))) {
+    let texts = message.texts();
+    if !texts.iter().all(|text| cbor::is_utf8(text.of(bytes))) {
         return Err(NOT_UTF8);
     }
     if message.names().any(|name| name.length > MOST_OF_A_NAME) {
         return Err(LONG_NAME);
     }
     Ok(message)
+}
+
+/// The one item that 1 to 2,048 bytes are (01, refusals 1 to 7).
+pub fn one_item(bytes: &[u8]) -> Result<Item, u8> {
+    if bytes.is_empty() || bytes.len() > MOST_BYTES {
+        return Err(SIZE);
+    }
+    let end = cbor::item(0, bytes).map_err(|refusal| refusal.number)?;
+    if end < bytes.len() {
+        return Err(AFTER);
+    }
+    Item::at(bytes, 0).map_err(|refusal| refusal.number)
 }
 
 /// Where each locator or pair of a message's list stands, if it has a list.

@@ -121,4 +121,9 @@ impl Span {
     pub fn end(&self) -> usize {
         self.at + self.length
     }
+
+    /// Its bytes in the message.
+    pub fn of<'a>(&self, message: &'a [u8]) -> &'a [u8] {
+        &message[self.at..self.end()]
+    }
 }

@@ -8,7 +8,7 @@ mod lines;
 pub(super) mod parts;
 mod refusals;
 pub(super) mod shapes;
-mod sizes;
+pub(super) mod sizes;
 pub(super) mod term;
 pub(super) mod texts;
 

@@ -6,6 +6,8 @@ pub mod damage;
 mod edges;
 mod encode;
 pub mod message;
+pub mod negotiation;
+pub mod node;
 pub mod write;
 
 /// A file of the repository that this program computes.
@@ -15,20 +17,37 @@ pub struct Stored {
     pub contents: Vec<u8>,
 }
 
+/// Programs that are still to be written: their files are neither stored nor checked.
+const AWAITED: &[&str] = &["negotiation_vectors", "node_vectors"];
+
+/// A program's name under `crates/`, and what gives its files.
+type Program = (&'static str, fn() -> Files);
+
+/// Every program that is fed stored cases.
+const PROGRAMS: &[Program] = &[
+    ("cbor_vectors", cbor::files),
+    ("message_vectors", message::files),
+    ("write_vectors", write::files),
+    ("node_vectors", node::files),
+    ("negotiation_vectors", negotiation::files),
+];
+
 /// Every stored file.
 pub fn all() -> Vec<Stored> {
-    [
-        program("cbor_vectors", cbor::files()),
-        program("message_vectors", message::files()),
-        program("write_vectors", write::files()),
-    ]
-    .into_iter()
-    .flatten()
-    .collect()
+    PROGRAMS
+        .iter()
+        .filter(|(name, _)| !AWAITED.contains(name))
+        .flat_map(|(name, files)| program(name, files()))
+        .collect()
+}
+
+/// What demand 3 finds wrong in the stored histories.
+pub fn faults() -> Vec<String> {
+    [node::faults(), negotiation::faults()].concat()
 }
 
 /// The input and the expected output of one program under `crates/`.
-struct Files {
+pub(crate) struct Files {
     stdin: Vec<u8>,
     stdout: Vec<u8>,
 }

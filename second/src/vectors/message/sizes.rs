@@ -4,7 +4,7 @@ use super::parts::*;
 use super::term::{encoded, Term};
 
 /// The message of this length that the content's length makes.
-fn of_length(total: usize, holder: fn(usize) -> Term) -> Vec<u8> {
+pub fn of_length(total: usize, holder: fn(usize) -> Term) -> Vec<u8> {
     (0..=total)
         .rev()
         .map(|length| holder(length).encoded())
