@@ -1,17 +1,16 @@
 -- One call: the ways a node call can go, and what each does to a row that an earlier relay filled.
 -- Assumes nothing.
-use mathlib.Core.Path.{_≡_, refl, sym, ap, _∙_}
+use mathlib.Core.Path.{_≡_, refl}
 use mathlib.Core.Logic.{_≢_, _⊎_, inl, inr}
 use mathlib.Core.Bool.{Bool, true, false}
 use mathlib.Core.List.{List}
-use Prim.Native.Nat.{ℕ, _+_, _-_, _^_, _≤_, _<_}
+use Prim.Native.Nat.{ℕ, _+_, _-_, _≤_, _<_}
 use native.Mathlib.Nat.{le-trans}
 use native.Mathlib.Decide.{decLt}
 use native.Mathlib.Omega.{arith}
 use lib.Dec.{eqb}
 use lib.ListN.{length}
 use borrow.Author.Tests.{eqb-true, leb-false}
-use Rattle.base.specs.Pick.{pick}
 use Rattle.base.proofs.Picks.{pick-case}
 use Rattle.message.specs.declared.Message.{Message}
 use Rattle.message.specs.declared.Reading.{Reading}
@@ -19,12 +18,12 @@ use Rattle.message.specs.Read.{readOf}
 use Rattle.node.specs.declared.Record.{Record}
 use Rattle.node.specs.declared.Kept.{Kept}
 use Rattle.node.specs.declared.Verdict.{Verdict}
-use Rattle.node.specs.declared.Verdict.the-variants.{Own, Answer, Duplicate, Last, Nowhere, NoRow, Relay, Noop, Hand}
+use Rattle.node.specs.declared.Verdict.the-variants.{Own, Duplicate, Last, Nowhere, NoRow, Noop, Hand}
 use Rattle.node.specs.declared.role.Spread.{Spread}
 use Rattle.node.specs.declared.role.Role.{Role}
 use Rattle.node.specs.declared.table.Key.{Key}
 use Rattle.node.specs.Record.{setLinks, linked, clocked}
-use Rattle.node.specs.Table.{cell, noKey, rowLife, freed, putRow, lowestFree, isKnown}
+use Rattle.node.specs.Table.{cell, rowLife, freed, putRow, lowestFree, isKnown}
 use Rattle.node.specs.Role.{roleOf, RoleIn, keyIn}
 use Rattle.node.specs.Call.{Call, After, barred, refuse, quiet, laterVerdict, verdictOn, answered, relayed, carriedOut, taken, judged, nodeCall, Passed}
 use Rattle.node.specs.History.{isRelay, saysRelay}

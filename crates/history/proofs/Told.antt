@@ -1,7 +1,7 @@
 -- What is read of a Discovery or a Flood that is relayed, and of the message that goes out.
 -- Assumes nothing.
-use mathlib.Core.Path.{_≡_, refl, sym, ap, _∙_}
-use mathlib.Core.Bool.{Bool, true, false}
+use mathlib.Core.Path.{_≡_, refl, ap, _∙_}
+use mathlib.Core.Bool.{true, false}
 use mathlib.Core.List.{List}
 use Prim.Native.Nat.{ℕ, _-_}
 use native.Mathlib.Omega.{arith}
@@ -9,12 +9,10 @@ use Rattle.base.specs.Pick.{pick}
 use Rattle.base.specs.BigEndian.{Bytes}
 use Rattle.options.specs.declared.objective.Objective.{Objective}
 use Rattle.grammar.specs.Stands.{held}
-use Rattle.message.specs.declared.Extra.{Extra}
 use Rattle.message.specs.declared.Message.{Message}
 use Rattle.message.specs.declared.Message.the-variants as M
 use Rattle.message.specs.declared.Reading.{Reading}
 use Rattle.message.specs.Fields.{kindOf, sessionOf, initiatorOf, objectiveOf}
-use Rattle.message.specs.Read.{readOf}
 use Rattle.roundtrip.specs.Lower.{Lowers}
 use Rattle.roundtrip.proofs.Relay.{lowered-reads}
 use Rattle.node.specs.declared.role.Spread.{Spread}

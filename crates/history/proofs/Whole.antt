@@ -7,8 +7,6 @@ use mathlib.Core.List.{List, [], _∷_, map}
 use Prim.Native.Nat.{ℕ, _+_, _-_, _*_, _^_, _≤_, _<_, zero-le}
 use native.Mathlib.Nat.{le-trans, mul-le-mul-right}
 use native.Mathlib.Omega.{arith}
-use lib.Count.{ones}
-use lib.Dec.{eqb}
 use lib.ListN.{length, take, drop, length-map}
 use lib.Seq.{take-append-seam}
 use lib.Pow.{pow-mono}
@@ -26,11 +24,11 @@ use Rattle.node.specs.declared.Kept.{Kept}
 use Rattle.node.specs.declared.role.Spread.{Spread}
 use Rattle.node.specs.Record.{fresh, isUp, others, clocked, tallied, setLinks}
 use Rattle.node.specs.Table.{freshTable, rowLife, freed, lowestFree, isKnown}
-use Rattle.node.specs.Role.{keyOf, keyIn}
-use Rattle.node.specs.Call.{Call, After, written, onward, relayed, nodeCall, Passed}
+use Rattle.node.specs.Role.{keyIn}
+use Rattle.node.specs.Call.{Call, After, written, onward, relayed, nodeCall}
 use Rattle.node.specs.History.{Event, call, links, Step, steps, finally, Fits, isRelay, saysRelay, maskOf, lengthOf, Told, told, relaysOf, given, sent, clockOf, arrivedOn, interfacesIn, copies, copiesOf, SameKey, apartBy, Apart, GoesOut, Near, Few, WholeList}
 use Rattle.node.specs.Demand.{Demand3}
-use Rattle.node.proofs.Masks.{record-links, record-tally, up-below, taken-down}
+use Rattle.node.proofs.Masks.{record-links, up-below, taken-down}
 use Rattle.node.proofs.Rows.{put-holds, length-free, table-sized}
 use Rattle.node.proofs.Keys.{key-life, key-used}
 use Rattle.node.proofs.Outcomes.{arrives}

@@ -1,16 +1,15 @@
 -- The outcome of a node call by the way that its code takes.
 -- Assumes nothing.
-use mathlib.Core.Path.{_≡_, refl, sym, ap, _∙_}
-use mathlib.Core.Bool.{Bool, true, false, not, _&&_, _||_}
-use mathlib.Core.List.{List, []}
+use mathlib.Core.Path.{_≡_, refl, sym, _∙_}
+use mathlib.Core.Bool.{true, false, not, _&&_}
+use mathlib.Core.List.{List}
 use Prim.Native.Nat.{ℕ, _^_, _≤_, _<_}
 use native.Mathlib.Omega.{arith}
 use lib.Count.{ones}
-use lib.Dec.{leb, eqb}
+use lib.Dec.{leb}
 use lib.ListN.{length}
 use borrow.Author.Tests.{eq-eqb, ne-eqb, le-leb, lt-leb, ltb-false, leb-false, not-false}
 use Rattle.base.specs.Pick.{pick}
-use Rattle.base.specs.BigEndian.{Bytes}
 use Rattle.base.proofs.Picks.{pick-case}
 use Rattle.base.proofs.Bools.{or-left, or-right}
 use Rattle.grammar.specs.Stands.{held}
@@ -25,10 +24,8 @@ use Rattle.node.specs.declared.Reply.the-variants.{Refused, Given}
 use Rattle.node.specs.declared.Verdict.{Verdict}
 use Rattle.node.specs.declared.Verdict.the-variants.{Own, Answer, Duplicate, Last, Nowhere, NoRow, Relay, Noop, Hand}
 use Rattle.node.specs.declared.role.Spread.{Spread}
-use Rattle.node.specs.declared.role.Role.{Role}
-use Rattle.node.specs.declared.table.Key.{Key}
 use Rattle.node.specs.Record.{recordBad, arrivalBad, isUp, others, clocked, tallied}
-use Rattle.node.specs.Table.{tableBad, freed, putRow, lowestFree, isKnown}
+use Rattle.node.specs.Table.{freed, putRow, lowestFree, isKnown}
 use Rattle.node.specs.Role.{roleOf, keyIn}
 use Rattle.node.specs.Call.{Call, callOf, After, afterOf, barred, replies, refuse, quiet, written, onward, response, laterVerdict, verdictOn, answered, relayed, carriedOut, taken, judged, nodeCall, Passed, Ready}
 use Rattle.node.proofs.Masks.{record-links, record-tally}

@@ -11,6 +11,7 @@ mod table;
 
 // A node's record. Bit i of `links` is set when interface i is up; `clock` is the last accepted clock in ms; `tally` is the rules' own term: the
 // copies of all relays.
+#[repr(C)]
 pub struct Record {
     pub address: [u8; 16],
     pub port: u16,

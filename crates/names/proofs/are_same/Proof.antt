@@ -1,3 +1,5 @@
+-- `names::are_same` meets its contract. The loop's invariant: the bytes from here on are the same exactly if all are.
+-- Assumes nothing.
 use mathlib.Core.Path.{_≡_, refl}
 use Prim.Native.Nat.{_-_}
 use native.Mathlib.Omega.{arith}

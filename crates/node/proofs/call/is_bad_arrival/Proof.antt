@@ -1,3 +1,5 @@
+-- `node::call::is_bad_arrival` meets its contract.
+-- Assumes nothing.
 use mathlib.Core.Path.{refl, sym}
 use native.Mathlib.Omega.{arith}
 use borrow.Author.Tests.{le-leb, lt-leb}

@@ -1,5 +1,7 @@
+-- `node::call::node_call` meets its contract.
+-- Assumes nothing.
 use lib.ListN.{length}
-use mathlib.Core.Path.{_≡_, refl, sym, _∙_}
+use mathlib.Core.Path.{refl, sym, _∙_}
 use native.Mathlib.Omega.{arith}
 use Rattle.node.specs.Call.{callOf}
 use Rattle.node.proofs.Outcomes.{passed, arrives, barred-outcome, refused-outcome, taken-outcome}

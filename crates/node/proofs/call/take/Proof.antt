@@ -1,3 +1,5 @@
+-- `node::call::take` meets its contract.
+-- Assumes nothing.
 use mathlib.Core.List.{List}
 use Prim.Native.Nat.{ℕ}
 use lib.ListN.{length}

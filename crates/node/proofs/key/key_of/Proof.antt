@@ -1,5 +1,5 @@
-use mathlib.Core.Path.{refl, ap, _∙_}
-use mathlib.Core.Logic.{inl, inr}
+-- `node::key::key_of` meets its contract.
+-- Assumes nothing.
 use native.Mathlib.Omega.{arith}
 use Rattle.node.proofs.Keys.{tag-range, sixteen, key-short, key-long}
 use borrow.Author.Needs.{needs}

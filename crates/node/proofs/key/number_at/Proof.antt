@@ -1,3 +1,5 @@
+-- `node::key::number_at` meets its contract. The loop's invariant: the bytes passed spell `value`, a number of that many bytes.
+-- Assumes nothing.
 use mathlib.Core.Path.{_≡_, refl}
 use Prim.Native.Nat.{_≤_, _<_, _-_, _+_, _*_, _^_}
 use native.Mathlib.Numerals.{add-one}

@@ -1,3 +1,5 @@
+-- `node::role::role_of` meets its contract.
+-- Assumes nothing.
 use mathlib.Core.Path.{refl}
 use Rattle.node.specs.Role.{roleOf}
 use borrow.Author.Needs.{needs}

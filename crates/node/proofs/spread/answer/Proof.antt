@@ -1,5 +1,6 @@
+-- `node::spread::answer` meets its contract.
+-- Assumes nothing.
 use mathlib.Core.Path.{refl}
-use native.Mathlib.Omega.{arith}
 use Rattle.node.proofs.Masks.{one-bit}
 use borrow.Author.Needs.{needs}
 use Rattle.node.proofs.spread.answer.Statement.{statement}

@@ -1,4 +1,6 @@
-use mathlib.Core.Path.{refl, ap, _∙_}
+-- `node::spread::is_ours` meets its contract.
+-- Assumes nothing.
+use mathlib.Core.Path.{ap, _∙_}
 use Rattle.names.specs.Names.{isOwn}
 use Rattle.node.proofs.Sends.{part-held}
 use borrow.Author.Needs.{needs}

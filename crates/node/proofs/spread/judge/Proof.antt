@@ -1,4 +1,6 @@
-use mathlib.Core.Path.{_≡_, sym, _∙_, ap}
+-- `node::spread::judge` meets its contract.
+-- Assumes nothing.
+use mathlib.Core.Path.{sym, _∙_, ap}
 use mathlib.Core.List.{[]}
 use Rattle.node.specs.Call.{callOf, laterVerdict}
 use Rattle.node.proofs.Spreads.{role-spreading}

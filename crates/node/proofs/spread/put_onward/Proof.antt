@@ -1,4 +1,5 @@
-use mathlib.Core.Path.{_∙_}
+-- `node::spread::put_onward` meets its contract.
+-- Assumes nothing.
 use Rattle.node.specs.Call.{onward}
 use Rattle.node.proofs.Sends.{onward-given}
 use Rattle.node.proofs.Outcomes.{sent-length, sent-never}

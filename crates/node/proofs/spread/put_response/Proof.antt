@@ -1,9 +1,9 @@
-use native.Mathlib.Omega.{arith}
+-- `node::spread::put_response` meets its contract.
+-- Assumes nothing.
 use mathlib.Core.Path.{ap, _∙_}
 use mathlib.Core.List.{List}
 use mathlib.Core.Bool.{true}
 use Prim.Native.Nat.{ℕ}
-use Rattle.writer.specs.declared.Written.{Written}
 use Rattle.writer.specs.Write.{passAnswer, passOut, answerOf}
 use Rattle.node.specs.Call.{response}
 use Rattle.node.proofs.Sends.{part-held, response-given}

@@ -1,4 +1,6 @@
-use mathlib.Core.Path.{_≡_, refl, sym, _∙_}
+-- `node::spread::relay_or_end` meets its contract.
+-- Assumes nothing.
+use mathlib.Core.Path.{refl, sym, _∙_}
 use mathlib.Core.List.{[]}
 use native.Mathlib.Omega.{arith}
 use Rattle.node.specs.Record.{others}
