@@ -21,8 +21,8 @@ use Rattle.message.specs.declared.Outcome.{Outcome}
 use Rattle.message.specs.declared.Message.{Message}
 use Rattle.exact.specs.Describes.{SeriesIs, AimIs, ExtraIs, OutcomeIs, Describes}
 use Rattle.exact.proofs.Described.{locators-count, pairs-count}
-use Rattle.writer.specs.Grasp as W
-use Rattle.writer.specs.Describe.{placeRow, pairRow, locOf, placeAt, rowLoc, locsOf, targetsOf, extraOf, rowPair, pairsOf, endOf, msgOf}
+use Rattle.description.specs.Grasp as W
+use Rattle.description.specs.Describe.{placeRow, pairRow, locOf, placeAt, rowLoc, locsOf, targetsOf, extraOf, rowPair, pairsOf, endOf, msgOf}
 use Rattle.describe.specs.Describe as D
 use Rattle.describe.specs.Rows as R
 use Rattle.roundtrip.specs.Plain.{plainMaybe, plainAll, plainObj, plainLoc, plainPair, plainAim, plainEnd, plain}

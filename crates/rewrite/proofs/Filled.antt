@@ -11,7 +11,7 @@ use lib.ListN.{length, take, drop, set, length-append}
 use lib.Seq.{sets, sets-eq, take-at}
 use Rattle.base.specs.Pick.{pick}
 use Rattle.describe.specs.Rows.{rowsFrom}
-use Rattle.writer.specs.Describe.{upTo}
+use Rattle.description.specs.Describe.{upTo}
 use Rattle.roundtrip.specs.Plain.{plainAll}
 
 -- ---- stores

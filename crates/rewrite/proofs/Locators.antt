@@ -28,9 +28,9 @@ use Rattle.grammar.specs.Stands as S
 use Rattle.grammar.specs.Stands.{Stands, StandAll}
 use Rattle.grammar.proofs.Bridge.{split, advances}
 use Rattle.grammar.proofs.Locators.{locator-read}
-use Rattle.writer.specs.declared.locator.Place.{Place}
-use Rattle.writer.specs.Grasp as W
-use Rattle.writer.specs.Describe.{placeRow, cut, orNull, locOf, placeAt}
+use Rattle.description.specs.declared.rows.Place.{Place}
+use Rattle.description.specs.Grasp as W
+use Rattle.description.specs.Describe.{placeRow, cut, orNull, locOf, placeAt}
 use Rattle.describe.specs.Rows.{locatorNumbered, locatorNextFrom, locatorRowFrom, locatorNext, locatorRow}
 use Rattle.roundtrip.specs.Plain.{plainMaybe, plainNumber, plainLoc}
 use Rattle.roundtrip.specs.Says.{Inside, PlaceSays}

@@ -33,10 +33,10 @@ use Rattle.grammar.specs.Stands as S
 use Rattle.grammar.specs.Stands.{StandAll, tagOf}
 use Rattle.grammar.proofs.Bridge.{split, advances}
 use Rattle.grammar.proofs.Pairs.{pair-read}
-use Rattle.writer.specs.declared.objective.Entry.{Entry}
-use Rattle.writer.specs.declared.locator.Place.{Place}
-use Rattle.writer.specs.Grasp as W
-use Rattle.writer.specs.Describe.{pairRow, entryRow, entryOf, objOf, entryAt, locOf, placeAt, locOrNone}
+use Rattle.description.specs.declared.rows.Entry.{Entry}
+use Rattle.description.specs.declared.rows.Place.{Place}
+use Rattle.description.specs.Grasp as W
+use Rattle.description.specs.Describe.{pairRow, entryRow, entryOf, objOf, entryAt, locOf, placeAt, locOrNone}
 use Rattle.describe.specs.Describe.{goalOf}
 use Rattle.describe.specs.Rows as R
 use Rattle.roundtrip.specs.Plain.{plainMaybe, plainLoc, plainPair}

@@ -16,8 +16,8 @@ use Rattle.options.specs.Text.{spanOf}
 use Rattle.grammar.specs.Cddl.{Obj}
 use Rattle.grammar.specs.Stands.{Stands, ValueIs, ObjectiveIs}
 use Rattle.grammar.proofs.Bridge.{text-token}
-use Rattle.writer.specs.Grasp as W
-use Rattle.writer.specs.Describe.{cut, entryOf, objOf}
+use Rattle.description.specs.Grasp as W
+use Rattle.description.specs.Describe.{cut, entryOf, objOf}
 use Rattle.describe.specs.Describe.{goalOf}
 use Rattle.roundtrip.specs.Plain.{plainItem, plainObj}
 use Rattle.roundtrip.specs.Says.{Inside, EntrySays}

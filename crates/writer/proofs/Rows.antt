@@ -9,10 +9,10 @@ use native.Mathlib.Nat.{le-antisymm}
 use native.Mathlib.Omega.{arith}
 use lib.ListN.{length, length-append}
 use Rattle.writer.specs.Put.{Wrote}
-use Rattle.writer.specs.Grasp.{Loc, Pair, encodeLoc, encodeLocs, encodePair, encodePairs, targetItems, howMany}
-use Rattle.writer.specs.declared.Extra.{Extra}
-use Rattle.writer.specs.declared.Extra.the-variants as X
-use Rattle.writer.specs.Describe.{placeRow, pairRow, upTo, rowLoc, locsOf, rowPair, pairsOf, targetsOf, extraOf}
+use Rattle.description.specs.Grasp.{Loc, Pair, encodeLoc, encodeLocs, encodePair, encodePairs, targetItems, howMany}
+use Rattle.description.specs.declared.Extra.{Extra}
+use Rattle.description.specs.declared.Extra.the-variants as X
+use Rattle.description.specs.Describe.{placeRow, pairRow, upTo, rowLoc, locsOf, rowPair, pairsOf, targetsOf, extraOf}
 use Rattle.writer.proofs.Puts.{then, still}
 
 pub length-up : {A : Type 0} (f : ℕ → A) (n : ℕ) → length (upTo f n) ≡ n

@@ -2,18 +2,19 @@
 ghost use mathlib.Core.Path.{_≡_};
 ghost use mathlib.Core.List.{[]};
 ghost use Rattle.writer.specs.Put.{Wrote};
-ghost use Rattle.writer.specs.Grasp.{Maybe, Msg, opening, encodeMsg, encodeObj, encodeTargets, targetItems, maybeObj, howMany};
-ghost use Rattle.writer.specs.Describe.{cut, entryOf, objOf, targetsOf, pairsOf, extraOf, endOf, msgOf};
-use crate::Description;
-use crate::Ending;
-use crate::Extra;
-use crate::Goal;
+ghost use Rattle.description.specs.Grasp.{Maybe, Msg, opening, encodeMsg, encodeObj, encodeTargets, targetItems, maybeObj, howMany};
+ghost use Rattle.description.specs.Describe.{cut, entryOf, objOf, targetsOf, pairsOf, extraOf, endOf, msgOf};
 use crate::locator;
-use crate::locator::PLACE_ROW;
 use crate::objective;
 use crate::pair;
-use crate::pair::PAIR_ROW;
 use crate::put;
+use description::Description;
+use description::Ending;
+use description::Extra;
+use description::Goal;
+use description::rows;
+use description::rows::PAIR_ROW;
+use description::rows::PLACE_ROW;
 use options::Span;
 
 // The message of a description.
@@ -76,7 +77,7 @@ pub(crate) fn put_noop(out: &mut [u8]) -> usize
 pub(crate) fn put_goal(out: &mut [u8], at: usize, source: &[u8], o: Goal) -> usize
     ensures { λ r. ⌜ Wrote (now (out .entry)) (now (out .exit)) at (encodeObj (objOf (now (source .entry)) (entryOf o))) r ⌝ }
 {
-    let entry = objective::entry_of(o);
+    let entry = rows::entry_of(o);
     objective::put_entry(out, at, source, entry)
 }
 

@@ -1,54 +1,13 @@
 // Objectives put (RFC 8990, section 2.10.1).
 ghost use mathlib.Core.Path.{_≡_};
-ghost use Prim.Native.Nat.{_+_, _≤_};
-ghost use lib.ListN.{length};
+ghost use Prim.Native.Nat.{_+_};
 ghost use Rattle.writer.specs.Put.{Wrote};
-ghost use Rattle.writer.specs.Grasp.{oneMore, encodeObj};
-ghost use Rattle.writer.specs.Describe.{entryRow, cut, entryOf, objOf, entryAt};
-use crate::Goal;
+ghost use Rattle.description.specs.Grasp.{oneMore, encodeObj};
+ghost use Rattle.description.specs.Describe.{cut, objOf};
 use crate::put;
+use description::rows::Entry;
+use description::spans;
 use options::Span;
-
-// An objective as a row has it: numbers are written as they are, and the reader judges them.
-pub struct Entry {
-    pub name: Span,
-    pub flags: u64,
-    pub count: u64,
-    pub value: Span,
-}
-
-pub(crate) fn entry_of(o: Goal) -> Entry
-    ensures { λ r. ⌜ r ≡ entryOf o ⌝ }
-{
-    let name = o.name;
-    let value = o.value;
-    Entry {
-        name,
-        flags: o.flags as u64,
-        count: o.count as u64,
-        value,
-    }
-}
-
-// The objective of the seven numbers from place k on.
-pub(crate) fn entry_at(list: &[u64], k: usize) -> Entry
-    requires { ⌜ k + entryRow ≤ length (now list) ⌝ }
-    ensures { λ r. ⌜ r ≡ entryAt (now (list .entry)) k ⌝ }
-{
-    let at = list[k] as usize;
-    let len = list[k + 1] as usize;
-    let value_at = list[k + 5] as usize;
-    let value_len = list[k + 6] as usize;
-    Entry {
-        name: Span { at, len },
-        flags: list[k + 2],
-        count: list[k + 3],
-        value: Span {
-            at: value_at,
-            len: value_len,
-        },
-    }
-}
 
 pub(crate) fn put_entry(out: &mut [u8], at: usize, source: &[u8], o: Entry) -> usize
     ensures { λ r. ⌜ Wrote (now (out .entry)) (now (out .exit)) at (encodeObj (objOf (now (source .entry)) o)) r ⌝ }
@@ -65,7 +24,7 @@ pub(crate) fn put_entry(out: &mut [u8], at: usize, source: &[u8], o: Entry) -> u
 pub(crate) fn one_more(source: &[u8], s: Span) -> u64
     ensures { λ r. ⌜ r ≡ oneMore (cut (now (source .entry)) s) ⌝ }
 {
-    if put::covered(source, s) == 0 {
+    if spans::covered(source, s) == 0 {
         return 0;
     }
     1

@@ -1,7 +1,7 @@
 -- `writer::kinds::target_items` meets its contract.
 -- Assumes nothing.
-use Rattle.writer.specs.Grasp.{targetItems}
-use Rattle.writer.specs.Describe.{targetsOf}
+use Rattle.description.specs.Grasp.{targetItems}
+use Rattle.description.specs.Describe.{targetsOf}
 use Rattle.writer.proofs.Rows.{rows-many}
 use mathlib.Core.Path.{refl}
 use Rattle.writer.proofs.kinds.target_items.Statement.{statement}
@@ -9,12 +9,12 @@ use Rattle.writer.proofs.kinds.target_items.Tie as tie
 use Rattle.writer.proofs.kinds.target_items.Reads as reads
 use Rattle.writer.proofs.kinds.target_items.Lts as lts
 
--- src/kinds.rt:95:9
+-- src/kinds.rt:96:9
 returns : tie.Need-returns
 unfolding targetItems targetsOf
 returns c = rw (c .if1 .taken) refl
 
--- src/kinds.rt:91:1
+-- src/kinds.rt:92:1
 returns-2 : tie.Need-returns-2
 returns-2 c = rw (c .if1 .left) (rows-many _)
 

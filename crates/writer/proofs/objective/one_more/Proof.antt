@@ -6,17 +6,17 @@ use Rattle.writer.proofs.objective.one_more.Statement.{statement}
 use Rattle.writer.proofs.objective.one_more.Tie as tie
 use Rattle.writer.proofs.objective.one_more.Reads as reads
 use Rattle.writer.proofs.objective.one_more.Lts as lts
-use Rattle.writer.proofs.put.covered.Reads as covered-reads
+use Rattle.description.proofs.spans.covered.Reads as covered-reads
 
--- src/objective.rt:66:8
+-- src/objective.rt:25:8
 covered-requires : tie.Need-covered-requires
 covered-requires c κs = search needs
 
--- src/objective.rt:67:9
+-- src/objective.rt:26:9
 returns : tie.Need-returns
 returns c = more-none _ _ (c .before .covered .ensures) (c .if1 .taken)
 
--- src/objective.rt:63:1
+-- src/objective.rt:22:1
 returns-2 : tie.Need-returns-2
 returns-2 c = more-one _ _ (c .before .covered .ensures) (c .if1 .left)
 

@@ -1,0 +1,5 @@
+-- For callers' proofs: `Cuts`, the bytes that a span covers. For those of this crate: `Numbers`, a list's numbers, also past its end; `Verdicts`, the
+-- judge's loops.
+pub mod Cuts
+pub mod Numbers
+pub mod Verdicts
