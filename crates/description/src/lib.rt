@@ -2,6 +2,7 @@
 // speak of a message.
 use options::Span;
 
+pub mod counts;
 pub mod judge;
 pub mod rows;
 pub mod spans;

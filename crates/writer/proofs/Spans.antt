@@ -1,7 +1,6 @@
 -- The bytes of a slice and of a span, put.
 -- Assumes nothing.
 use Prim.Native.Nat.{ℕ, _+_, _-_, _≤_, _<_}
-use mathlib.Core.Path.{_≡_, refl}
 use mathlib.Core.List.{List, [], _∷_}
 use native.Mathlib.Nat.{add-sub-cancel-left}
 use native.Mathlib.Omega.{arith}
@@ -22,16 +21,6 @@ byte-more s i h v w = rw (add-one i, take-suc s i 0 h) (then v w)
 
 pub all-done : {l l′ : List ℕ} {at r : ℕ} (s : List ℕ) (i : ℕ) → length s ≤ i → Wrote l l′ at (take i s) r → Wrote l l′ at s r
 all-done s i h v = rw (take-all i s h) at v
-
-pub more-none : (bs : List ℕ) (n : ℕ) → n ≡ length bs → n ≡ 0 → 0 ≡ oneMore bs
-unfolding oneMore
-more-none [] n e h = refl
-more-none (x ∷ bs) n e h = absurd (omega (arith, e, h))
-
-pub more-one : (bs : List ℕ) (n : ℕ) → n ≡ length bs → (n ≡ 0 → ⊥) → 1 ≡ oneMore bs
-unfolding oneMore
-more-one [] n e h = absurd (h e)
-more-one (x ∷ bs) n e h = refl
 
 pub more-le : (bs : List ℕ) → oneMore bs ≤ 1
 unfolding oneMore

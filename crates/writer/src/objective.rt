@@ -1,31 +1,20 @@
 // Objectives put (RFC 8990, section 2.10.1).
-ghost use mathlib.Core.Path.{_≡_};
 ghost use Prim.Native.Nat.{_+_};
 ghost use Rattle.writer.specs.Put.{Wrote};
-ghost use Rattle.description.specs.Grasp.{oneMore, encodeObj};
-ghost use Rattle.description.specs.Describe.{cut, objOf};
+ghost use Rattle.description.specs.Grasp.{encodeObj};
+ghost use Rattle.description.specs.Describe.{objOf};
 use crate::put;
+use description::counts;
 use description::rows::Entry;
-use description::spans;
 use options::Span;
 
 pub(crate) fn put_entry(out: &mut [u8], at: usize, source: &[u8], o: Entry) -> usize
     ensures { λ r. ⌜ Wrote (now (out .entry)) (now (out .exit)) at (encodeObj (objOf (now (source .entry)) o)) r ⌝ }
 {
-    let more = one_more(source, o.value);
+    let more = counts::one_more(source, o.value);
     let a = put::head(out, at, 4, 3 + more);
     let b = put::part_string(out, a, 3, source, o.name);
     let c = put::head(out, b, 0, o.flags);
     let d = put::head(out, c, 0, o.count);
     put::part(out, d, source, o.value)
-}
-
-// 1 for a span that covers something, else 0.
-pub(crate) fn one_more(source: &[u8], s: Span) -> u64
-    ensures { λ r. ⌜ r ≡ oneMore (cut (now (source .entry)) s) ⌝ }
-{
-    if spans::covered(source, s) == 0 {
-        return 0;
-    }
-    1
 }

@@ -10,23 +10,23 @@ use Rattle.writer.proofs.kinds.put_accept.Lts as lts
 use Rattle.writer.proofs.kinds.put_opening.Reads as put-opening-reads
 use Rattle.writer.proofs.put.head.Reads as head-reads
 
--- src/kinds.rt:152:9
+-- src/kinds.rt:132:9
 put-opening-requires : tie.Need-put-opening-requires
 put-opening-requires c κs = search needs
 
--- src/kinds.rt:153:9
+-- src/kinds.rt:133:9
 head-requires : tie.Need-head-requires
 head-requires c κs = search needs
 
--- src/kinds.rt:154:5
+-- src/kinds.rt:134:5
 head-requires-2 : tie.Need-head-requires-2
 head-requires-2 c κs = search needs
 
--- src/kinds.rt:149:1
+-- src/kinds.rt:129:1
 same-length : tie.Need-same-length
 same-length c = search needs
 
--- src/kinds.rt:149:1
+-- src/kinds.rt:129:1
 returns : tie.Need-returns
 unfolding encodeMsg
 returns c = then (then (c .before .before .before .before .before .before .before .before .before .before .put-opening .ensures) (c .before .before .before .before .before .before .head .ensures)) (c .before .before .head2 .ensures)

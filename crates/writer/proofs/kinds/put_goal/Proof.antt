@@ -8,19 +8,19 @@ use Rattle.writer.proofs.kinds.put_goal.Lts as lts
 use Rattle.description.proofs.rows.entry_of.Reads as entry-of-reads
 use Rattle.writer.proofs.objective.put_entry.Reads as put-entry-reads
 
--- src/kinds.rt:58:9
+-- src/kinds.rt:57:9
 entry-of-requires : tie.Need-entry-of-requires
 entry-of-requires c κs = search needs
 
--- src/kinds.rt:59:5
+-- src/kinds.rt:58:5
 put-entry-requires : tie.Need-put-entry-requires
 put-entry-requires c κs = search needs
 
--- src/kinds.rt:55:1
+-- src/kinds.rt:54:1
 same-length : tie.Need-same-length
 same-length c = search needs
 
--- src/kinds.rt:55:1
+-- src/kinds.rt:54:1
 returns : tie.Need-returns
 returns c = rw (← (c .before .before .before .before .entry-of .ensures)) (c .before .before .put-entry .ensures)
 

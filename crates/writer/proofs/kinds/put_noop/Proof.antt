@@ -9,19 +9,19 @@ use Rattle.writer.proofs.kinds.put_noop.Reads as reads
 use Rattle.writer.proofs.kinds.put_noop.Lts as lts
 use Rattle.writer.proofs.put.head.Reads as head-reads
 
--- src/kinds.rt:51:9
+-- src/kinds.rt:50:9
 head-requires : tie.Need-head-requires
 head-requires c κs = search needs
 
--- src/kinds.rt:52:5
+-- src/kinds.rt:51:5
 head-requires-2 : tie.Need-head-requires-2
 head-requires-2 c κs = search needs
 
--- src/kinds.rt:48:1
+-- src/kinds.rt:47:1
 same-length : tie.Need-same-length
 same-length c = search needs
 
--- src/kinds.rt:48:1
+-- src/kinds.rt:47:1
 returns : tie.Need-returns
 unfolding encodeMsg
 returns c = then (c .before .before .before .before .before .before .head .ensures) (c .before .before .head2 .ensures)

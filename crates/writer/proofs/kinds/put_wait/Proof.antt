@@ -10,19 +10,19 @@ use Rattle.writer.proofs.kinds.put_wait.Lts as lts
 use Rattle.writer.proofs.kinds.put_opening.Reads as put-opening-reads
 use Rattle.writer.proofs.put.head.Reads as head-reads
 
--- src/kinds.rt:177:9
+-- src/kinds.rt:157:9
 put-opening-requires : tie.Need-put-opening-requires
 put-opening-requires c κs = search needs
 
--- src/kinds.rt:178:5
+-- src/kinds.rt:158:5
 head-requires : tie.Need-head-requires
 head-requires c κs = search needs
 
--- src/kinds.rt:174:1
+-- src/kinds.rt:154:1
 same-length : tie.Need-same-length
 same-length c = search needs
 
--- src/kinds.rt:174:1
+-- src/kinds.rt:154:1
 returns : tie.Need-returns
 unfolding encodeMsg
 returns c = then (c .before .before .before .before .before .before .put-opening .ensures) (c .before .before .head .ensures)
