@@ -18,7 +18,7 @@ use Rattle.cbor.proofs.HeadExact.{length-head}
 use Rattle.options.specs.declared.Span.{Span}
 use Rattle.grammar.specs.Stands.{held}
 use Rattle.message.specs.Read.{mostBytes}
-use Rattle.writer.specs.Grasp.{string, reached, fixed, encodeLoc, encodeLocs, targetItems, howMany, encodeTargets, maybeObj, opening, encodeMsg}
+use Rattle.description.specs.Grasp.{string, reached, fixed, encodeLoc, encodeLocs, targetItems, howMany, encodeTargets, maybeObj, opening, encodeMsg}
 use Rattle.writer.specs.declared.Written.{Written}
 use Rattle.writer.specs.Write.{handAnswer, handOut, passes, passAnswer, passOut, lowerAnswer, lowerOut, answerOf}
 use Rattle.roundtrip.proofs.Relay.{lowered-given}
