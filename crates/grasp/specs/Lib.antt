@@ -2,3 +2,5 @@
 pub mod Block
 pub mod Reading
 pub mod Writing
+pub mod Table
+pub mod Call
