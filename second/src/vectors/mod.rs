@@ -18,7 +18,7 @@ pub struct Stored {
 }
 
 /// Programs that are still to be written: their files are neither stored nor checked.
-const AWAITED: &[&str] = &["negotiation_vectors", "node_vectors"];
+const AWAITED: &[&str] = &["node_vectors"];
 
 /// A program's name under `crates/`, and what gives its files.
 type Program = (&'static str, fn() -> Files);
