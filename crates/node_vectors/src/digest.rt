@@ -1,4 +1,4 @@
-// One number for a whole record and table.
+// One number for a whole record and table: each part is added to a factor times what stood before, modulo a prime.
 use node::Record;
 
 // The greatest prime below 2^32.
@@ -22,9 +22,13 @@ pub(crate) fn digest_of(node: Record, table: &[u64]) -> u32 {
 fn with_address(d: u32, address: &[u8; 16]) -> u32 {
     let mut d = d;
     for i in 0..16 {
-        d = with_half(d, address[i] as u32);
+        d = with_byte(d, address[i]);
     }
     d
+}
+
+fn with_byte(d: u32, b: u8) -> u32 {
+    with_half(d, b as u32)
 }
 
 fn with_numbers(d: u32, table: &[u64]) -> u32 {

@@ -1,4 +1,5 @@
 // What is printed of an operation: its answer, then the state after it.
+ghost use Prim.Native.Nat.{_≤_};
 use crate::State;
 use crate::digest;
 use node::Reply;
@@ -60,19 +61,28 @@ fn print_state(state: State, table: &[u64]) {
     if table.len() < length {
         return;
     }
-    print_number(b" ", state.node.tally);
-    print_number(b" ", digest::digest_of(state.node, &table[..length]) as u64);
+    let node = state.node;
+    print_number(b" ", node.tally);
+    print_number(b" ", digest::digest_of(node, &table[..length]) as u64);
 }
 
-// How many bytes from a place on aren't what the output is filled with.
+// How many bytes from a place on have changed.
 fn touched(out: &[u8], from: usize) -> u64 {
     let mut count: u64 = 0;
     for i in from..out.len() {
-        if out[i] != 0xaa {
-            count += 1;
-        }
+        count += changed(out[i]);
     }
     count
+}
+
+// 1 for a byte that isn't what the output is filled with.
+fn changed(b: u8) -> u64
+    ensures { λ r. ⌜ r ≤ 1 ⌝ }
+{
+    if b == 0xaa {
+        return 0;
+    }
+    1
 }
 
 fn print_written(out: &[u8], length: usize) {

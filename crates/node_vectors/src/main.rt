@@ -1,5 +1,6 @@
-// Runs the stored stories over the node. An operation is a byte and what it takes: 1 takes a fresh record and a fresh table, 2 calls the node, 3 sets
-// links; each prints a line, which ends a story's state in the tally and a digest. 4 puts a record, 5 a row, 6 the length of the table that is lent.
+// Runs the stored stories over the node. An operation is a byte and what it takes. 1 takes a fresh record and a fresh table, 2 calls the node, 3 sets
+// links: each prints a line, its answer and then the tally and the digest of record and table. 4 puts a record, 5 a row of the table, 6 how many of
+// the table's numbers are lent.
 mod digest;
 mod input;
 mod line;
@@ -37,6 +38,7 @@ fn run_all(table: &mut [u64]) {
     }
 }
 
+// All zeros.
 fn blank() -> Record {
     Record {
         address: [0; 16],
@@ -65,6 +67,7 @@ fn run(state: State, table: &mut [u64], operation: u8) -> State {
     }
     if operation == 5 {
         put_row(table);
+        return state;
     }
     if operation == 6 {
         return put_length(state);
@@ -81,10 +84,8 @@ fn run_fresh(table: &mut [u64]) -> State {
     let mask = input::next_eight();
     clear(table);
     let kept = Record::fresh(address, port, ttl, interfaces, mask);
-    let state = State {
-        node: kept.node,
-        length: 256,
-    };
+    let node = kept.node;
+    let state = State { node, length: 256 };
     line::print_kept(kept.refusal, state, table);
     state
 }
@@ -97,10 +98,11 @@ fn clear(table: &mut [u64]) {
 
 fn run_links(state: State, table: &[u64]) -> State {
     let mask = input::next_eight();
-    let node = state.node;
-    let kept = node.set_links(mask);
+    let before = state.node;
+    let kept = before.set_links(mask);
+    let node = kept.node;
     let after = State {
-        node: kept.node,
+        node,
         length: state.length,
     };
     line::print_kept(kept.refusal, after, table);
@@ -171,8 +173,9 @@ fn call(
     if table.len() < length {
         return state;
     }
+    let before = state.node;
     let called = node::call::node_call(
-        state.node,
+        before,
         &mut table[..length],
         clock,
         interface,
@@ -180,11 +183,10 @@ fn call(
         message,
         out,
     );
-    let after = State {
-        node: called.node,
-        length,
-    };
-    line::print_called(called.reply, after, table, out);
+    let node = called.node;
+    let reply = called.reply;
+    let after = State { node, length };
+    line::print_called(reply, after, table, out);
     after
 }
 
@@ -223,8 +225,7 @@ fn put_row(table: &mut [u64]) {
 }
 
 fn put_length(state: State) -> State {
-    State {
-        node: state.node,
-        length: input::next_two() as usize,
-    }
+    let node = state.node;
+    let length = input::next_two() as usize;
+    State { node, length }
 }
