@@ -21,7 +21,7 @@
 extern "C" {
 #endif
 
-/* The numbers of the refusals that reading and writing give. */
+/* The numbers of the refusals. */
 enum grasp_refusal {
     GRASP_ACCEPTED = 0,
     GRASP_BAD_SIZE = 1,         /* no bytes, or over 2,048 */
@@ -36,7 +36,8 @@ enum grasp_refusal {
     GRASP_LONG_NAME = 10,       /* an objective's name over 64 bytes */
     GRASP_BAD_TEXT = 11,        /* a named text that isn't UTF-8 */
     GRASP_NO_SUCH_MESSAGE = 18, /* writing: no accepted message has this description */
-    GRASP_SHORT_OUTPUT = 19     /* writing: the output is shorter than the encoding */
+    GRASP_SHORT_OUTPUT = 19,    /* writing: the output is shorter than the encoding */
+    GRASP_NOT_ALLOWED = 20      /* negotiation: a step that isn't allowed */
 };
 
 /* The kinds of messages. */
@@ -106,6 +107,23 @@ enum grasp_pair_field {
 };
 
 /*
+ * The state of a negotiation, one for a session. A fresh one is all zeros, and a
+ * host begins each session with it; grasp_step changes it.
+ */
+enum grasp_state_field {
+    GRASP_STATE_PHASE = 0,
+    GRASP_STATE_SESSION = 1, /* open: the session */
+    GRASP_STATE_COUNT = 2,   /* open: the count of the last Request or Negotiate */
+    GRASP_STATE_TURN = 3,    /* open: the side that may move */
+    GRASP_STATE_FIELDS = 4
+};
+
+enum grasp_phase { GRASP_FRESH = 0, GRASP_OPEN = 1, GRASP_CLOSED = 2 };
+
+/* The two sides of a session. */
+enum grasp_side { GRASP_WE = 0, GRASP_THEY = 1 };
+
+/*
  * Reads the message that the len bytes are. Answers 0 and fills the block, or
  * answers the number of the refusal and leaves the block as it was.
  */
@@ -140,6 +158,19 @@ size_t grasp_pair(const uint8_t *bytes, size_t len, size_t at, uint64_t fields[G
  */
 uint8_t grasp_write(const uint8_t *source, size_t len, const uint64_t *list, size_t numbers,
                     const uint64_t fields[GRASP_FIELDS], uint8_t *out, size_t size, uint64_t *length);
+
+/*
+ * Takes one step of a negotiation: the message that the len bytes are, sent by
+ * this side. Answers 0 and puts the state that the message leads to, or answers
+ * the number of the refusal and leaves the state as it was: 1 to 11 as
+ * grasp_read, then 20. A fresh state takes a Request of negotiation with a count
+ * of at least 1, by either side. An open one takes from the side with the turn,
+ * with the state's session: a Negotiate with a count one lower and at least 1, a
+ * Wait, or an End. All else is 20, and so is a side or a state with a number that
+ * isn't one of the above, a session over 32 bits or a count over 255. A state
+ * that becomes closed has 0 in its other fields.
+ */
+uint8_t grasp_step(uint64_t state[GRASP_STATE_FIELDS], const uint8_t *bytes, size_t len, uint64_t side);
 
 #ifdef __cplusplus
 }

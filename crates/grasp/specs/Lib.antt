@@ -1,4 +1,5 @@
--- `Block`: what was read, as numbers in fixed places. `Reading`, `Writing`: what the exported functions answer and leave.
+-- `Block`: what was read, as numbers in fixed places. `Reading`, `Writing`, `Negotiating`: what the exported functions answer and leave.
 pub mod Block
 pub mod Reading
 pub mod Writing
+pub mod Negotiating

@@ -1,5 +1,6 @@
 // The C surface of Copperladle, built as `libgrasp.a`; `include/grasp.h` documents it. Functions take numbers and byte slices, keep nothing, and
 // answer every argument.
 pub mod block;
+pub mod negotiating;
 pub mod reading;
 pub mod writing;
