@@ -35,6 +35,8 @@ enum grasp_refusal {
     GRASP_BAD_SHAPE = 9,        /* any other departure from the message shapes */
     GRASP_LONG_NAME = 10,       /* an objective's name over 64 bytes */
     GRASP_BAD_TEXT = 11,        /* a named text that isn't UTF-8 */
+    GRASP_BAD_RECORD = 12,      /* interfaces not 1 to 8, a link at or above them, or tally above 2^63 */
+    GRASP_BAD_LINK = 13,        /* new links with a bit at or above the interfaces */
     GRASP_NO_SUCH_MESSAGE = 18, /* writing: no accepted message has this description */
     GRASP_SHORT_OUTPUT = 19,    /* writing: the output is shorter than the encoding */
     GRASP_NOT_ALLOWED = 20      /* negotiation: a step that isn't allowed */
@@ -107,6 +109,22 @@ enum grasp_pair_field {
 };
 
 /*
+ * A node's record is its own address, 16 bytes that the host keeps, and these
+ * numbers. grasp_fresh fills them.
+ */
+enum grasp_record_field {
+    GRASP_RECORD_PORT = 0,
+    GRASP_RECORD_TTL = 1,        /* in ms */
+    GRASP_RECORD_INTERFACES = 2, /* how many: 1 to 8 */
+    GRASP_RECORD_LINKS = 3,      /* bit i: interface i is up */
+    GRASP_RECORD_CLOCK = 4,      /* the last accepted one, in ms */
+    GRASP_RECORD_TALLY = 5,      /* the copies of all relays */
+    GRASP_RECORD_FIELDS = 6
+};
+
+enum { GRASP_ADDRESS_BYTES = 16 };
+
+/*
  * The state of a negotiation, one for a session. A fresh one is all zeros, and a
  * host begins each session with it; grasp_step changes it.
  */
@@ -158,6 +176,21 @@ size_t grasp_pair(const uint8_t *bytes, size_t len, size_t at, uint64_t fields[G
  */
 uint8_t grasp_write(const uint8_t *source, size_t len, const uint64_t *list, size_t numbers,
                     const uint64_t fields[GRASP_FIELDS], uint8_t *out, size_t size, uint64_t *length);
+
+/*
+ * Begins a node: answers 0 and fills the numbers of a fresh record, whose clock
+ * and tally are 0; or answers 12 and leaves them as they were.
+ */
+uint8_t grasp_fresh(const uint8_t address[GRASP_ADDRESS_BYTES], uint16_t port, uint32_t ttl,
+                    uint64_t interfaces, uint64_t links, uint64_t numbers[GRASP_RECORD_FIELDS]);
+
+/*
+ * Puts new links in the place of the old ones. Answers 0; or 12, also where the
+ * port has more than 16 bits or the ttl more than 32, then 13, and leaves the
+ * numbers as they were.
+ */
+uint8_t grasp_set_links(const uint8_t address[GRASP_ADDRESS_BYTES], uint64_t numbers[GRASP_RECORD_FIELDS],
+                        uint64_t links);
 
 /*
  * Takes one step of a negotiation: the message that the len bytes are, sent by

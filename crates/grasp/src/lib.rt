@@ -3,4 +3,5 @@
 pub mod block;
 pub mod negotiating;
 pub mod reading;
+pub mod records;
 pub mod writing;
