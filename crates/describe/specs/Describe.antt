@@ -6,12 +6,12 @@ use Rattle.message.specs.declared.Extra.{Extra}
 use Rattle.message.specs.declared.Outcome.{Outcome}
 use Rattle.message.specs.declared.Message.{Message}
 use Rattle.message.specs.declared.Message.the-variants as M
-use Rattle.writer.specs.declared.Goal.{Goal}
-use Rattle.writer.specs.declared.Extra.the-variants as X
-use Rattle.writer.specs.declared.Extra.{Extra as Said}
-use Rattle.writer.specs.declared.Ending.{Ending}
-use Rattle.writer.specs.declared.Description.{Description}
-use Rattle.writer.specs.declared.Description.the-variants as D
+use Rattle.description.specs.declared.Goal.{Goal}
+use Rattle.description.specs.declared.Extra.the-variants as X
+use Rattle.description.specs.declared.Extra.{Extra as Said}
+use Rattle.description.specs.declared.Ending.{Ending}
+use Rattle.description.specs.declared.Description.{Description}
+use Rattle.description.specs.declared.Description.the-variants as D
 
 unfoldable pub goalOf : Objective → Goal
 goalOf o = record { name = o .name; flags = o .flags; count = o .count; value = o .value }

@@ -1,14 +1,14 @@
 // A message that was read, as a description for the writer: its numbers and spans, and its locators or pairs as rows of a list.
 ghost use mathlib.Core.Path.{_≡_};
 ghost use Rattle.describe.specs.Describe.{goalOf, extraOf, endingOf, isDivert, descriptionOf};
+use description::Description;
+use description::Ending;
+use description::Extra;
+use description::Goal;
 use message::Message;
 use message::Outcome;
 use message::Targets;
 use options::objective::Objective;
-use writer::Description;
-use writer::Ending;
-use writer::Extra;
-use writer::Goal;
 
 pub mod rows;
 

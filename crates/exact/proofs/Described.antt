@@ -103,13 +103,13 @@ series-ext : (i i′ : Series) → i .at ≡ i′ .at → i .many ≡ i′ .many
 series-ext i i′ a b = ap₂ (λ (at many : ℕ). series-of at many) a b
 
 -- there are as many items as locators
-locators-count : {xs : Items} {ls : List Loc} → LocatorItems xs ls → count xs ≡ length ls
+pub locators-count : {xs : Items} {ls : List Loc} → LocatorItems xs ls → count xs ≡ length ls
 unfolding count
 locators-count LocatorItems.empty = refl
 locators-count (LocatorItems.more i is) = ap suc (locators-count is)
 
 -- and as pairs
-pairs-count : {xs : Items} {ps : List (Obj × Option Loc)} → PairItems xs ps → count xs ≡ length ps
+pub pairs-count : {xs : Items} {ps : List (Obj × Option Loc)} → PairItems xs ps → count xs ≡ length ps
 unfolding count
 pairs-count PairItems.empty = refl
 pairs-count (PairItems.more i is) = ap suc (pairs-count is)

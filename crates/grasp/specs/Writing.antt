@@ -7,11 +7,11 @@ use lib.Dec.{ltb, eqb}
 use Rattle.base.specs.Pick.{pick}
 use Rattle.options.specs.declared.Span.{Span}
 use Rattle.options.specs.Text.{unless, spanOf}
-use Rattle.writer.specs.declared.Goal.{Goal}
-use Rattle.writer.specs.declared.Extra.{Extra}
-use Rattle.writer.specs.declared.Ending.{Ending}
-use Rattle.writer.specs.declared.Description.{Description}
-use Rattle.writer.specs.declared.Description.the-variants as D
+use Rattle.description.specs.declared.Goal.{Goal}
+use Rattle.description.specs.declared.Extra.{Extra}
+use Rattle.description.specs.declared.Ending.{Ending}
+use Rattle.description.specs.declared.Description.{Description}
+use Rattle.description.specs.declared.Description.the-variants as D
 use Rattle.writer.specs.declared.Written.{Written}
 use Rattle.writer.specs.Write.{writeAnswer, writeOut}
 use Rattle.grasp.specs.declared.writing.Narrow.{Narrow}

@@ -2,11 +2,11 @@
 ghost use mathlib.Core.Path.{_≡_};
 ghost use Rattle.options.specs.Text.{spanOf};
 ghost use Rattle.grasp.specs.Writing.{allowedIn, fieldFits, allFit, isBlank, goalOf, responseBy, toldResponse, toldEnd, toldFlood, toldObjective, byKind, toldBy, writeNumber, writeBytes, writeLength};
+use description::Description;
+use description::Ending;
+use description::Extra;
+use description::Goal;
 use options::Span;
-use writer::Description;
-use writer::Ending;
-use writer::Extra;
-use writer::Goal;
 use writer::Written;
 
 // What a block says: nothing that could be written, or a description.

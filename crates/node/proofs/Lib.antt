@@ -3,3 +3,5 @@ pub mod Rows
 pub mod Masks
 pub mod Spreads
 pub mod Sends
+pub mod Keys
+pub mod Outcomes

@@ -4,7 +4,7 @@ use mathlib.Core.Path.{_≡_, refl, sym, ap, _∙_}
 use mathlib.Core.Logic.{_≢_, _⊎_, inl, inr}
 use mathlib.Core.Bool.{Bool, true, false, not, _&&_, _||_}
 use mathlib.Core.List.{List}
-use Prim.Native.Nat.{ℕ, zero, suc, _+_, _-_, _*_, _^_, _≤_, _<_, zero-le}
+use Prim.Native.Nat.{ℕ, zero, suc, _+_, _-_, _*_, _≤_, _<_, zero-le}
 use native.Mathlib.Nat.{le-refl, le-trans, add-zero}
 use native.Mathlib.Numerals.{add-one}
 use native.Mathlib.Decide.{ℕ-discrete, decLt}
@@ -12,7 +12,7 @@ use native.Mathlib.Omega.{arith}
 use lib.Dec.{ltb, leb, eqb}
 use lib.ListN.{length, getD, set, length-set}
 use lib.Seq.{getD-set-same, getD-set-other}
-use borrow.Author.Tests.{ltb-true, ltb-false, leb-true, eqb-true, lt-ltb, le-ltb, le-leb, lt-leb, eq-eqb, ne-eqb, not-false}
+use borrow.Author.Tests.{ltb-true, ltb-false, leb-true, eqb-true, lt-ltb, le-ltb, le-leb, lt-leb, eq-eqb, not-false}
 use Rattle.base.specs.Pick.{pick}
 use Rattle.base.proofs.Picks.{pick-case}
 use Rattle.base.proofs.Bools.{true-or-false, and-left, and-right, and-true, or-left, or-right, or-true, not-both}
@@ -301,14 +301,6 @@ pass-row now t u i ok e l =
 pub cell-first : (t : List ℕ) (i : ℕ) → cell t i 0 ≡ getD t (4 * i) 0
 unfolding cell
 cell-first t i = ap (λ (k : ℕ). getD t k 0) (add-zero (4 * i))
-
--- a row with a number that isn't 0 isn't free
-pub not-free : (t : List ℕ) (i j : ℕ) → (Holds t i noKey 0 → cell t i j ≡ 0) → (cell t i j ≡ 0 → ⊥) → false ≡ rowFree t i
-not-free t i j f ne = go (true-or-false (rowFree t i))
-  where
-    go : (rowFree t i ≡ true) ⊎ (rowFree t i ≡ false) → false ≡ rowFree t i
-    go (inl e) = absurd (ne (f (free-zeros t i e)))
-    go (inr e) = sym e
 
 -- a row that was admitted after the clock
 pub later-bad : (now d : ℕ) → ltb now d ≡ not (leb d now)

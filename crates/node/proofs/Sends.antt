@@ -1,10 +1,10 @@
 -- What a node sends: the message with its count one lower, and the Response of an answer; both fit an output of 2,048 bytes.
 -- Assumes nothing.
-use mathlib.Core.Path.{_≡_, refl, sym, ap, _∙_}
+use mathlib.Core.Path.{_≡_, refl, ap}
 use mathlib.Core.Bool.{true}
 use mathlib.Core.Logic.{_⊎_, inl, inr}
-use mathlib.Core.List.{List, [], _∷_, _++_}
-use Prim.Native.Nat.{ℕ, _+_, _-_, _≤_, _<_}
+use mathlib.Core.List.{List}
+use Prim.Native.Nat.{ℕ, _+_, _-_, _≤_}
 use native.Mathlib.Omega.{arith}
 use lib.ListN.{length, take, drop, length-append, length-drop}
 use lib.Seq.{length-take-le}
@@ -13,12 +13,12 @@ use Rattle.base.specs.Pick.{pick}
 use Rattle.base.specs.BigEndian.{Bytes}
 use Rattle.base.proofs.Picks.{both}
 use Rattle.cbor.specs.Put.{head}
-use Rattle.cbor.specs.Tree.{shortest, headBytes}
+use Rattle.cbor.specs.Tree.{shortest}
 use Rattle.cbor.proofs.HeadExact.{length-head}
 use Rattle.options.specs.declared.Span.{Span}
 use Rattle.grammar.specs.Stands.{held}
 use Rattle.message.specs.Read.{mostBytes}
-use Rattle.writer.specs.Grasp.{Maybe, Loc, Targets, Msg, string, reached, fixed, encodeLoc, encodeLocs, targetItems, howMany, encodeTargets, maybeObj, opening, encodeMsg}
+use Rattle.description.specs.Grasp.{string, reached, fixed, encodeLoc, encodeLocs, targetItems, howMany, encodeTargets, maybeObj, opening, encodeMsg}
 use Rattle.writer.specs.declared.Written.{Written}
 use Rattle.writer.specs.Write.{handAnswer, handOut, passes, passAnswer, passOut, lowerAnswer, lowerOut, answerOf}
 use Rattle.roundtrip.proofs.Relay.{lowered-given}

@@ -13,13 +13,11 @@ use Rattle.options.specs.declared.Span.{Span}
 use Rattle.options.specs.declared.objective.Objective.{Objective}
 use Rattle.options.specs.Text.{spanOf}
 use Rattle.grammar.specs.Cddl.{Obj, Msg, Number, Initiator, MessageItem}
-use Rattle.grammar.specs.Stands.{Stands, ObjectiveIs}
+use Rattle.grammar.specs.Stands.{ObjectiveIs}
 use Rattle.grammar.proofs.Bridge.{text-token}
 use Rattle.message.specs.declared.Message.{Message}
 use Rattle.message.specs.declared.Message.the-variants as M
-use Rattle.message.specs.declared.Reading.{Reading}
-use Rattle.message.specs.Read.{mostBytes, readOf}
-use Rattle.exact.specs.Accepted.{Accepted}
+use Rattle.message.specs.Read.{mostBytes}
 use Rattle.exact.specs.Describes.{InitiatorIs, Describes}
 use Rattle.exact.proofs.Exact.{accepted-exactly, accepted-described}
 use Rattle.roundtrip.specs.Lower.{Lowers}

@@ -1,9 +1,8 @@
 // One node call.
 ghost use mathlib.Core.Path.{_≡_};
-ghost use Prim.Native.Nat.{_≤_, _<_};
+ghost use Prim.Native.Nat.{_<_};
 ghost use lib.ListN.{length};
 ghost use mathlib.Core.Bool.{true, false};
-ghost use Rattle.message.specs.Read.{readOf};
 ghost use Rattle.node.specs.Call.{callOf, afterOf, replies, barred, nodeCall, taken, Passed};
 ghost use Rattle.node.specs.Record.{recordBad, arrivalBad, clocked};
 ghost use Rattle.node.specs.declared.Reply.the-variants.{Given};

@@ -1,6 +1,6 @@
 // The key of a message's row: tag and session, and the initiator in two numbers.
 ghost use mathlib.Core.Path.{_≡_};
-ghost use Prim.Native.Nat.{_+_, _≤_, _<_, _^_};
+ghost use Prim.Native.Nat.{_+_, _≤_};
 ghost use lib.ListN.{length, drop};
 ghost use Rattle.base.specs.BigEndian.{bigEndian};
 ghost use Rattle.node.specs.Role.{Within, tagOf, keyIn};

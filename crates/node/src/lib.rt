@@ -11,6 +11,7 @@ mod table;
 
 // A node's record. Bit i of `links` is set when interface i is up; `clock` is the last accepted clock in ms; `tally` is the rules' own term: the
 // copies of all relays.
+#[repr(C)]
 pub struct Record {
     pub address: [u8; 16],
     pub port: u16,
@@ -69,13 +70,7 @@ impl Record {
     pub const MOST_TALLY: u64 = 9_223_372_036_854_775_808;
 
     // A fresh record: 12 where the interfaces aren't 1 to 8 or a link bit is at or above their number, with all zeros for the record.
-    pub fn fresh(
-        address: [u8; 16],
-        port: u16,
-        ttl: u32,
-        interfaces: u64,
-        mask: u64,
-    ) -> Kept
+    pub fn fresh(address: [u8; 16], port: u16, ttl: u32, interfaces: u64, mask: u64) -> Kept
         ensures { λ r. ⌜ r ≡ fresh address port ttl interfaces mask ⌝ }
     {
         if links::are_bad(interfaces, mask) {

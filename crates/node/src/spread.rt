@@ -174,8 +174,9 @@ fn relayed(node: Record, flood: bool, mask: u8, length: usize) -> Called
     requires { ⌜ node .tally ≤ 2 ^ 63 ⌝ }
     ensures { λ r. ⌜ r ≡ replies (Given Relay flood mask length) (tallied node (ones mask)) ⌝ }
 {
+    let copies = u8::count_ones(mask);
     let mut next = node;
-    next.tally = node.tally + u8::count_ones(mask) as u64;
+    next.tally = node.tally + copies as u64;
     Called {
         reply: Reply::Given {
             verdict: Verdict::Relay,

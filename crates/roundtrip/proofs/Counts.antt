@@ -1,24 +1,22 @@
 -- Where the count that a relay lowers stands in a message, and that the message with another count is one too.
 -- Assumes nothing.
-use mathlib.Core.Path.{_≡_, sym, ap, _∙_}
+use mathlib.Core.Path.{_≡_}
 use mathlib.Core.List.{List, [], _∷_, _++_, append-assoc, append-nil}
 use mathlib.Core.Option.{Option}
 use Prim.Native.Nat.{ℕ, suc, _+_, _-_, _≤_}
 use native.Mathlib.Omega.{arith}
-use native.Mathlib.Nat.{zero-add}
 use lib.ListN.{length, length-append}
-use lib.Seq.{drop-length}
 use Rattle.cbor.specs.Item.{mostLevels}
 use Rattle.cbor.specs.Tree.{Item, Items, Right, Sized, headBytes, count, encode, encodes, depth, Good}
 use Rattle.options.specs.declared.Span.{Span}
 use Rattle.options.specs.declared.objective.Objective.{Objective}
 use Rattle.grammar.specs.Cddl.{uint, text, array, Number, Initiator, Loc, Obj, ObjectiveItem, PairItem, PairItems, Msg, MessageItem}
-use Rattle.grammar.specs.Stands.{Stands, StandAll, ArrayHead, ObjectiveIs}
+use Rattle.grammar.specs.Stands.{Stands, ArrayHead, ObjectiveIs}
 use Rattle.grammar.proofs.Bridge.{split, only}
 use Rattle.message.specs.declared.Message.{Message}
 use Rattle.exact.specs.Describes.{KindIs, NumberIs, InitiatorIs, Describes}
 use Rattle.roundtrip.specs.Lower.{withCount, lowerObj, lowerMsg, Lowers}
-use Rattle.roundtrip.proofs.Places.{past-head, past-item}
+use Rattle.roundtrip.proofs.Places.{past-head, past-item, stands-whole, opened-place}
 
 -- s is a message msg, whose count n has its head from `at` to `end`; its item, of no more levels than allowed, with any other head there
 pub record Hole (s : List ℕ) (at end n : ℕ) (msg : Msg) : Type 0 where
@@ -91,32 +89,9 @@ count-place {a = a} {name = name} {flags} {vs} x o =
     (omega (arith, length-front a name flags vs), e₃)
 
 -- ---- the messages
--- an item stands in its own encoding
-stands-whole : {s : List ℕ} {x : Item} → Good x → encode x ≡ s → Stands s 0 (length s) x
-stands-whole {s} {x} g e =
-    record {
-      good = g;
-      is = sym e ∙ sym (append-nil (encode x)) ∙ ap (λ (t : List ℕ). encode x ++ t) (sym (drop-length s));
-      end = ap length (sym e) ∙ sym (zero-add (length (encode x)));
-      within = omega arith;
-    }
-
 -- one less is within the limit
 one-less : {n : ℕ} → n ≤ 255 → n - 1 ≤ 255
 one-less h = omega arith
-
--- what stands before a message's third item, and the items from there on
-opened-place : {s : List ℕ} {w k kind p q r session : ℕ} {i : Span} {from : List ℕ} {y z : Item} {xs : Items}
-    → Stands s 0 (length s) (Item.array w (Items.more (uint k kind) (Items.more y (Items.more z xs))))
-    → KindIs s kind p → NumberIs s p q session → InitiatorIs s q r i from
-    → StandAll s r (length s) xs × (r ≡ length (headBytes 4 w (suc (suc (suc (count xs))))) + length (encode (uint k kind)) + length (encode y) + length (encode z))
-unfolding encode count
-opened-place a kind number initiator =
-    let (b₀, e₀) = past-head a (kind .opened) in
-    let (b₁, e₁) = past-item b₀ (kind .stands) in
-    let (b₂, e₂) = past-item b₁ (number .stands) in
-    let (b₃, e₃) = past-item b₂ (initiator .stands) in
-    (b₃, omega arith)
 
 -- a Discovery's count
 discovery-hole : {s : List ℕ} {w k p q r session : ℕ} {i : Span} {from : List ℕ} {y z x : Item} {o : Objective} {obj : Obj}

@@ -12,16 +12,16 @@ use Rattle.base.proofs.Picks.{both}
 use Rattle.cbor.specs.Put.{head}
 use Rattle.cbor.specs.Tree.{infoOf, shortest, headBytes}
 use Rattle.options.specs.declared.Span.{Span}
-use Rattle.writer.specs.declared.objective.Entry.{Entry}
-use Rattle.writer.specs.declared.locator.Place.{Place}
-use Rattle.writer.specs.declared.Extra.{Extra}
-use Rattle.writer.specs.declared.Extra.the-variants as X
-use Rattle.writer.specs.declared.Ending.{Ending}
-use Rattle.writer.specs.declared.Ending.the-variants as E
-use Rattle.writer.specs.declared.Description.{Description}
-use Rattle.writer.specs.declared.Description.the-variants as D
-use Rattle.writer.specs.Grasp.{Maybe, Loc, Pair, string, numberOrNull, reached, fixed, encodeLoc, encodeLocs, encodeObj, maybeObj, locOrEmpty, encodePair, encodePairs, encodeTargets, reason, opening, encodeMsg}
-use Rattle.writer.specs.Describe.{placeRow, pairRow, entryRow, cut, entryOf, objOf, orNull, locOf, placeAt, entryAt, rowLoc, locsOf, targetsOf, extraOf, locOrNone, rowPair, pairsOf, endOf, msgOf}
+use Rattle.description.specs.declared.rows.Entry.{Entry}
+use Rattle.description.specs.declared.rows.Place.{Place}
+use Rattle.description.specs.declared.Extra.{Extra}
+use Rattle.description.specs.declared.Extra.the-variants as X
+use Rattle.description.specs.declared.Ending.{Ending}
+use Rattle.description.specs.declared.Ending.the-variants as E
+use Rattle.description.specs.declared.Description.{Description}
+use Rattle.description.specs.declared.Description.the-variants as D
+use Rattle.description.specs.Grasp.{Maybe, Loc, Pair, string, numberOrNull, reached, fixed, encodeLoc, encodeLocs, encodeObj, maybeObj, locOrEmpty, encodePair, encodePairs, encodeTargets, reason, opening, encodeMsg}
+use Rattle.description.specs.Describe.{placeRow, pairRow, entryRow, cut, entryOf, objOf, orNull, locOf, placeAt, entryAt, rowLoc, locsOf, targetsOf, extraOf, locOrNone, rowPair, pairsOf, endOf, msgOf}
 use Rattle.roundtrip.proofs.Bytes.{bytes-append, bytes-more, bytes-none, bytes-of}
 use Rattle.roundtrip.proofs.Script.{info-least}
 use Rattle.roundtrip.proofs.Once.{Told}

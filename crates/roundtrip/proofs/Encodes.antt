@@ -15,7 +15,7 @@ use Rattle.cbor.specs.Tree.{Item, Items, Right, Sized, shortest, infoOf, headBy
 use Rattle.cbor.proofs.HeadExact.{shortest-case}
 use Rattle.base.specs.BigEndian.{bytesOf}
 use Rattle.grammar.specs.Cddl as G
-use Rattle.writer.specs.Grasp as W
+use Rattle.description.specs.Grasp as W
 use Rattle.roundtrip.specs.Plain.{plainMaybe, plainAll, plainItem, plainObj, plainNumber, plainLoc, plainPair, plainAim, plainEnd, plain}
 
 -- ---- heads

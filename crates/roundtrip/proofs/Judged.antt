@@ -24,16 +24,16 @@ use Rattle.cbor.specs.Tree.{encode}
 use Rattle.cbor.proofs.Accepts.{item-accepts}
 use Rattle.cbor.proofs.Exact.{item-exact}
 use Rattle.options.specs.declared.Span.{Span}
-use Rattle.writer.specs.declared.objective.Entry.{Entry}
-use Rattle.writer.specs.declared.locator.Place.{Place}
-use Rattle.writer.specs.declared.Extra.{Extra}
-use Rattle.writer.specs.declared.Extra.the-variants as X
-use Rattle.writer.specs.declared.Ending.{Ending}
-use Rattle.writer.specs.declared.Ending.the-variants as E
-use Rattle.writer.specs.declared.Description.{Description}
-use Rattle.writer.specs.declared.Description.the-variants as D
-use Rattle.writer.specs.Describe.{placeRow, pairRow, entryRow, upTo, cut, entryOf, objOf, placeAt, entryAt, rowPair, pairsOf, extraOf, endOf, msgOf}
-use Rattle.writer.specs.Judge.{okDiscovery, okResponse, okFlood, okParts, hasList, okList, okDescribed, alone, whole, inside, okValue, okItem, okEntry, okPlace, blank, okNoneOr, allFrom, okRow, okRows, okPair, okPairs, okExtra, okEnding}
+use Rattle.description.specs.declared.rows.Entry.{Entry}
+use Rattle.description.specs.declared.rows.Place.{Place}
+use Rattle.description.specs.declared.Extra.{Extra}
+use Rattle.description.specs.declared.Extra.the-variants as X
+use Rattle.description.specs.declared.Ending.{Ending}
+use Rattle.description.specs.declared.Ending.the-variants as E
+use Rattle.description.specs.declared.Description.{Description}
+use Rattle.description.specs.declared.Description.the-variants as D
+use Rattle.description.specs.Describe.{placeRow, pairRow, entryRow, upTo, cut, entryOf, objOf, placeAt, entryAt, rowPair, pairsOf, extraOf, endOf, msgOf}
+use Rattle.description.specs.Judge.{okDiscovery, okResponse, okFlood, okParts, hasList, okList, okDescribed, alone, whole, inside, okValue, okItem, okEntry, okPlace, blank, okNoneOr, allFrom, okRow, okRows, okPair, okPairs, okExtra, okEnding}
 use Rattle.roundtrip.specs.Says.{Inside, EntrySays, PlaceSays, Blank, PairSays, Rows, ExtraSays, EndingSays, PartsSay}
 use Rattle.roundtrip.proofs.Script.{Valued}
 use Rattle.roundtrip.proofs.Once.{Each, ValuedObj, ValuedPair, ValuedMsg}

@@ -10,7 +10,7 @@ use Rattle.base.specs.Lists.{Every}
 use Rattle.cbor.specs.Put.{head}
 use Rattle.cbor.specs.Tree.{headBytes}
 use Rattle.message.specs.Read.{mostBytes}
-use Rattle.writer.specs.Grasp.{Maybe, Loc, Obj, Pair, Targets, Msg, string, numberOrNull, reached, fixed, encodeLoc, encodeLocs, oneMore, encodeObj, maybeObj, howMany, locOrEmpty, encodePair, encodePairs, targetItems, encodeTargets, reason, opening, encodeMsg}
+use Rattle.description.specs.Grasp.{Maybe, Loc, Obj, Pair, Targets, Msg, string, numberOrNull, reached, fixed, encodeLoc, encodeLocs, oneMore, encodeObj, maybeObj, howMany, locOrEmpty, encodePair, encodePairs, targetItems, encodeTargets, reason, opening, encodeMsg}
 use Rattle.roundtrip.proofs.Script.{Small, Piece, spell, spells, Like, Valued, array-next, number-next, string-next, text-number, number-text, perhaps, SmallMaybe, perhaps-next, value-next}
 
 -- what holds of what is there

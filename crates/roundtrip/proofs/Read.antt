@@ -5,9 +5,9 @@ use mathlib.Core.List.{List}
 use Prim.Native.Nat.{ℕ}
 use Rattle.base.specs.BigEndian.{Bytes}
 use Rattle.exact.specs.Accepted.{Accepted}
-use Rattle.writer.specs.declared.Description.{Description}
-use Rattle.writer.specs.Grasp.{encodeMsg}
-use Rattle.writer.specs.Describe.{msgOf}
+use Rattle.description.specs.declared.Description.{Description}
+use Rattle.description.specs.Grasp.{encodeMsg}
+use Rattle.description.specs.Describe.{msgOf}
 use Rattle.writer.specs.Write.{draftOf}
 use Rattle.roundtrip.specs.Plain.{plain}
 use Rattle.roundtrip.proofs.Encodes.{plain-encodes}

@@ -31,7 +31,7 @@ use Rattle.message.specs.Read.{mostBytes, readOf}
 use Rattle.exact.specs.Accepted.{Accepted}
 use Rattle.exact.specs.Describes.{InitiatorIs, Describes}
 use Rattle.exact.proofs.Exact.{accepted-exactly, accepted-described}
-use Rattle.writer.specs.Grasp.{encodeMsg}
+use Rattle.description.specs.Grasp.{encodeMsg}
 use Rattle.writer.specs.declared.Written.{Written}
 use Rattle.writer.specs.Write.{lowered, passes, passAnswer, passOut, okLower, lowerAnswer, lowerOut}
 use Rattle.roundtrip.specs.Plain.{plain}

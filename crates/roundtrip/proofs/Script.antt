@@ -19,7 +19,7 @@ use Rattle.cbor.proofs.HeadExact.{shortest-case}
 use Rattle.cbor.proofs.PutExact.{head-reads-back}
 use Rattle.cbor.proofs.Unique.{unique}
 use Rattle.message.specs.Read.{mostBytes}
-use Rattle.writer.specs.Grasp as W
+use Rattle.description.specs.Grasp as W
 use Rattle.roundtrip.proofs.Encodes.{has-bytes}
 
 -- ---- heads

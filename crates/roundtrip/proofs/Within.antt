@@ -9,7 +9,7 @@ use Rattle.base.specs.Lists.{Every}
 use Rattle.cbor.specs.Item.{mostLevels}
 use Rattle.cbor.specs.Tree.{Item, Items, depth, depths, Good, Goods}
 use Rattle.grammar.specs.Cddl.{joined, Protocol, Port, OrNull, Loc, LocatorItem, Obj, ObjectiveItem, LocatorItems, PairItem, PairItems, Aim, Ending, Msg, Number, OptionalItems, AimItems, EndingItem, MessageItem}
-use Rattle.writer.specs.Grasp as W
+use Rattle.description.specs.Grasp as W
 use Rattle.roundtrip.specs.Plain.{plainMaybe, plainAll, plainItem, plainObj, plainNumber, plainLoc, plainPair, plainAim, plainEnd, plain}
 use Rattle.roundtrip.proofs.Script.{Small, SmallMaybe, Valued}
 use Rattle.roundtrip.proofs.Once.{Each, SmallObj, ValuedObj, SmallLoc, SmallPair, ValuedPair, SmallTargets, Told, SmallMsg, ValuedMsg}

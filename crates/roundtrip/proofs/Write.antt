@@ -18,11 +18,11 @@ use Rattle.message.specs.declared.Reading.{Reading}
 use Rattle.message.specs.Read.{mostBytes, readOf}
 use Rattle.exact.specs.Accepted.{Accepted}
 use Rattle.exact.proofs.Exact.{accepted-exactly}
-use Rattle.writer.specs.declared.Description.{Description}
+use Rattle.description.specs.declared.Description.{Description}
 use Rattle.writer.specs.declared.Written.{Written}
-use Rattle.writer.specs.Describe.{msgOf}
-use Rattle.writer.specs.Judge.{accepted, accepts, okDescribed}
-use Rattle.writer.specs.Write.{handAnswer, handOut, passes, passAnswer, passOut, draftOf, writeAnswer, writeOut}
+use Rattle.description.specs.Describe.{msgOf}
+use Rattle.description.specs.Judge.{okDescribed}
+use Rattle.writer.specs.Write.{accepted, accepts, handAnswer, handOut, passes, passAnswer, passOut, draftOf, writeAnswer, writeOut}
 use Rattle.roundtrip.specs.Plain.{plain}
 use Rattle.roundtrip.specs.Says.{Says, ReadsBack}
 use Rattle.roundtrip.proofs.Hand.{hand-not-18, handed, hand-length, hand-19}

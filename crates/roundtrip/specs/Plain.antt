@@ -4,7 +4,7 @@ use mathlib.Core.List.{List, [], _∷_}
 use mathlib.Core.Option.{Option, none, some}
 use Rattle.cbor.specs.Tree.{Item, encode}
 use Rattle.grammar.specs.Cddl as G
-use Rattle.writer.specs.Grasp as W
+use Rattle.description.specs.Grasp as W
 
 -- what may be left out
 unfoldable pub plainMaybe : {A B : Type 0} → (A → B) → Option A → W.Maybe B

@@ -10,16 +10,16 @@ use Rattle.message.specs.declared.Message.{Message}
 use Rattle.message.specs.declared.Reading.{Reading}
 use Rattle.message.specs.Read.{readOf}
 use Rattle.exact.specs.Accepted.{Accepted}
-use Rattle.writer.specs.declared.objective.Entry.{Entry}
-use Rattle.writer.specs.declared.locator.Place.{Place}
-use Rattle.writer.specs.declared.Extra.{Extra}
-use Rattle.writer.specs.declared.Extra.the-variants as X
-use Rattle.writer.specs.declared.Ending.{Ending}
-use Rattle.writer.specs.declared.Ending.the-variants as E
-use Rattle.writer.specs.declared.Description.{Description}
-use Rattle.writer.specs.declared.Description.the-variants as D
-use Rattle.writer.specs.Grasp.{Msg}
-use Rattle.writer.specs.Describe.{placeRow, pairRow, entryRow, entryOf, placeAt, entryAt, msgOf}
+use Rattle.description.specs.declared.rows.Entry.{Entry}
+use Rattle.description.specs.declared.rows.Place.{Place}
+use Rattle.description.specs.declared.Extra.{Extra}
+use Rattle.description.specs.declared.Extra.the-variants as X
+use Rattle.description.specs.declared.Ending.{Ending}
+use Rattle.description.specs.declared.Ending.the-variants as E
+use Rattle.description.specs.declared.Description.{Description}
+use Rattle.description.specs.declared.Description.the-variants as D
+use Rattle.description.specs.Grasp.{Msg}
+use Rattle.description.specs.Describe.{placeRow, pairRow, entryRow, entryOf, placeAt, entryAt, msgOf}
 use Rattle.writer.specs.Write.{draftOf}
 use Rattle.roundtrip.specs.Plain.{plain}
 

@@ -24,14 +24,14 @@ use Rattle.message.specs.Shape.{noopAt, discovered, discoveryAt, exchangeOf, ex
 use Rattle.message.specs.Response.{responseBy, responseAt, targetsAt, locatedAt, locatedOf, restAt}
 use Rattle.message.specs.Flood.{floodedBy, floodedOf, floodedAt, floodBy, floodAt}
 use Rattle.message.specs.Read.{byKind, judged, shaped, framed, examined, placeless, readOf}
-use Rattle.writer.specs.Grasp.{string, numberOrNull, reached, fixed, encodeLoc, encodeLocs, oneMore, encodeObj, maybeObj, howMany, locOrEmpty, encodePair, encodePairs, targetItems, encodeTargets, reason, opening, encodeMsg}
-use Rattle.writer.specs.Describe.{upTo, cut, entryOf, objOf, orNull, locOf, placeAt, rowLoc, locsOf, targetsOf, extraOf, entryAt, locOrNone, rowPair, pairsOf, endOf, msgOf}
-use Rattle.writer.specs.Judge.{alone, whole, accepted, accepts, inside, okValue, okItem, okEntry, okPlace, blank, okNoneOr, allFrom, okRow, okRows, okPair, okPairs, okExtra, okEnding, okDiscovery, okResponse, okFlood, okParts, hasList, okList, okDescribed}
-use Rattle.writer.specs.Write.{handAnswer, handOut, passes, passAnswer, passOut, draftOf, writeAnswer, writeOut, lowered, okLower, lowerAnswer, lowerOut, answerOf}
-use Rattle.writer.specs.declared.Description.{Description}
-use Rattle.writer.specs.declared.Description.the-variants as D
-use Rattle.writer.specs.declared.Extra.the-variants as X
-use Rattle.writer.specs.declared.Ending.the-variants as E
+use Rattle.description.specs.Grasp.{string, numberOrNull, reached, fixed, encodeLoc, encodeLocs, oneMore, encodeObj, maybeObj, howMany, locOrEmpty, encodePair, encodePairs, targetItems, encodeTargets, reason, opening, encodeMsg}
+use Rattle.description.specs.Describe.{upTo, cut, entryOf, objOf, orNull, locOf, placeAt, rowLoc, locsOf, targetsOf, extraOf, entryAt, locOrNone, rowPair, pairsOf, endOf, msgOf}
+use Rattle.description.specs.Judge.{alone, whole, inside, okValue, okItem, okEntry, okPlace, blank, okNoneOr, allFrom, okRow, okRows, okPair, okPairs, okExtra, okEnding, okDiscovery, okResponse, okFlood, okParts, hasList, okList, okDescribed}
+use Rattle.writer.specs.Write.{accepted, accepts, handAnswer, handOut, passes, passAnswer, passOut, draftOf, writeAnswer, writeOut, lowered, okLower, lowerAnswer, lowerOut, answerOf}
+use Rattle.description.specs.declared.Description.{Description}
+use Rattle.description.specs.declared.Description.the-variants as D
+use Rattle.description.specs.declared.Extra.the-variants as X
+use Rattle.description.specs.declared.Ending.the-variants as E
 use Rattle.writer.specs.declared.Written.{Written}
 
 -- 2001:db8::1, 192.0.2.1 and "EX1", one after the other

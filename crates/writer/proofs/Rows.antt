@@ -1,24 +1,20 @@
 -- Locators and pairs, row by row.
 -- Assumes nothing.
-use Prim.Native.Nat.{ℕ, zero, suc, _+_, _/_, _≤_}
+use Prim.Native.Nat.{ℕ, _+_, _/_, _≤_}
 use mathlib.Core.Path.{_≡_, refl, sym, ap, _∙_}
 use mathlib.Core.Bool.{Bool, true, false}
 use mathlib.Core.List.{List, [], _∷_, _++_, append-assoc, append-nil}
 use native.Mathlib.Numerals.{add-one}
 use native.Mathlib.Nat.{le-antisymm}
 use native.Mathlib.Omega.{arith}
-use lib.ListN.{length, length-append}
+use lib.ListN.{length}
 use Rattle.writer.specs.Put.{Wrote}
-use Rattle.writer.specs.Grasp.{Loc, Pair, encodeLoc, encodeLocs, encodePair, encodePairs, targetItems, howMany}
-use Rattle.writer.specs.declared.Extra.{Extra}
-use Rattle.writer.specs.declared.Extra.the-variants as X
-use Rattle.writer.specs.Describe.{placeRow, pairRow, upTo, rowLoc, locsOf, rowPair, pairsOf, targetsOf, extraOf}
+use Rattle.description.specs.Grasp.{Loc, Pair, encodeLoc, encodeLocs, encodePair, encodePairs, targetItems, howMany}
+use Rattle.description.specs.declared.Extra.{Extra}
+use Rattle.description.specs.declared.Extra.the-variants as X
+use Rattle.description.specs.Describe.{placeRow, pairRow, upTo, rowLoc, locsOf, rowPair, pairsOf, targetsOf, extraOf}
+use Rattle.description.proofs.Items.{length-up}
 use Rattle.writer.proofs.Puts.{then, still}
-
-pub length-up : {A : Type 0} (f : ℕ → A) (n : ℕ) → length (upTo f n) ≡ n
-unfolding upTo
-length-up f zero = refl
-length-up f (suc n) = length-append (upTo f n) (f n ∷ []) ∙ ap (λ (k : ℕ). k + 1) (length-up f n) ∙ omega arith
 
 pub locs-more : (xs : List Loc) (x : Loc) → encodeLocs (xs ++ (x ∷ [])) ≡ encodeLocs xs ++ encodeLoc x
 unfolding encodeLocs
@@ -52,10 +48,6 @@ pub targets-many : (source list : List ℕ) (d : Bool) → targetItems (targetsO
 unfolding targetsOf targetItems locsOf
 targets-many source list true = refl
 targets-many source list false = length-up _ _ ∙ sym (length-up _ _)
-
-pub rows-many : (list : List ℕ) → length list / placeRow ≡ targetItems (targetsOf [] list false)
-unfolding targetsOf targetItems locsOf
-rows-many list = sym (length-up _ _)
 
 pub targets-le : (source list : List ℕ) (d : Bool) → targetItems (targetsOf source list d) ≤ 1 + length list
 unfolding targetsOf targetItems locsOf

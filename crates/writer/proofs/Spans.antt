@@ -1,37 +1,18 @@
--- The bytes that a span covers.
+-- The bytes of a slice and of a span, put.
 -- Assumes nothing.
 use Prim.Native.Nat.{ℕ, _+_, _-_, _≤_, _<_}
-use mathlib.Core.Path.{_≡_, refl, sym, ap, _∙_}
 use mathlib.Core.List.{List, [], _∷_}
-use native.Mathlib.Nat.{add-sub-cancel-left, le-of-lt}
+use native.Mathlib.Nat.{add-sub-cancel-left}
 use native.Mathlib.Omega.{arith}
-use lib.ListN.{length, take, drop, getD, length-take, length-drop, drop-of-length-le}
-use lib.Seq.{take-all, take-nil, take-suc}
+use lib.ListN.{length, take, drop, getD}
+use lib.Seq.{take-all, take-suc}
 use native.Mathlib.Numerals.{add-one}
 use Rattle.options.specs.declared.Span.{Span}
 use Rattle.writer.specs.Put.{Wrote}
-use Rattle.writer.specs.Grasp.{oneMore}
-use Rattle.writer.specs.Describe.{cut}
+use Rattle.description.specs.Grasp.{oneMore}
+use Rattle.description.specs.Describe.{cut}
+use Rattle.description.proofs.Cuts.{cut-none, cut-rest, cut-part}
 use Rattle.writer.proofs.Puts.{then, still}
-
-module _ (source : List ℕ) (s : Span) where
-  pub cut-none : length source < s .at → cut source s ≡ []
-  unfolding cut
-  cut-none h = ap (take (s .len)) (drop-of-length-le source (le-of-lt h)) ∙ take-nil (s .len)
-
-  pub cut-rest : length source - s .at < s .len → cut source s ≡ drop (s .at) source
-  unfolding cut
-  cut-rest h = take-all (s .len) (drop (s .at) source) (omega (arith, length-drop (s .at) source))
-
-  pub length-cut : length source - s .at < s .len → length source - s .at ≡ length (cut source s)
-  length-cut h = sym (ap length (cut-rest h) ∙ length-drop (s .at) source)
-
-  pub length-cut-in : s .len ≤ length source - s .at → s .len ≡ length (cut source s)
-  unfolding cut
-  length-cut-in h = simp (length-take, length-drop) (omega arith)
-
-  pub cut-part : take (length source - s .at) (drop (s .at) source) ≡ drop (s .at) source
-  cut-part = take-all (length source - s .at) (drop (s .at) source) (omega (arith, length-drop (s .at) source))
 
 -- one byte more of s
 pub byte-more : {l l′ l″ : List ℕ} {at m r : ℕ} (s : List ℕ) (i : ℕ) → i < length s → Wrote l l′ at (take i s) m → Wrote l′ l″ m (getD s i 0 ∷ []) r
@@ -40,16 +21,6 @@ byte-more s i h v w = rw (add-one i, take-suc s i 0 h) (then v w)
 
 pub all-done : {l l′ : List ℕ} {at r : ℕ} (s : List ℕ) (i : ℕ) → length s ≤ i → Wrote l l′ at (take i s) r → Wrote l l′ at s r
 all-done s i h v = rw (take-all i s h) at v
-
-pub more-none : (bs : List ℕ) (n : ℕ) → n ≡ length bs → n ≡ 0 → 0 ≡ oneMore bs
-unfolding oneMore
-more-none [] n e h = refl
-more-none (x ∷ bs) n e h = absurd (omega (arith, e, h))
-
-pub more-one : (bs : List ℕ) (n : ℕ) → n ≡ length bs → (n ≡ 0 → ⊥) → 1 ≡ oneMore bs
-unfolding oneMore
-more-one [] n e h = absurd (h e)
-more-one (x ∷ bs) n e h = refl
 
 pub more-le : (bs : List ℕ) → oneMore bs ≤ 1
 unfolding oneMore

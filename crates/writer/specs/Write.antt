@@ -7,12 +7,13 @@ use lib.ListN.{length, take, drop}
 use lib.Dec.{ltb, eqb}
 use Rattle.base.specs.Pick.{pick}
 use Rattle.cbor.specs.Put.{head}
-use Rattle.message.specs.Read.{mostBytes}
-use Rattle.writer.specs.declared.Description.{Description}
+use Rattle.message.specs.declared.Reading.{Reading}
+use Rattle.message.specs.Read.{mostBytes, readOf}
+use Rattle.description.specs.declared.Description.{Description}
 use Rattle.writer.specs.declared.Written.{Written}
-use Rattle.writer.specs.Grasp.{Maybe, Loc, Targets, Msg, encodeMsg}
-use Rattle.writer.specs.Describe.{msgOf}
-use Rattle.writer.specs.Judge.{accepts, okDescribed}
+use Rattle.description.specs.Grasp.{Maybe, Loc, Targets, Msg, encodeMsg}
+use Rattle.description.specs.Describe.{msgOf}
+use Rattle.description.specs.Judge.{okDescribed}
 
 -- bytes handed over: 19 where the output is shorter than they are
 unfoldable pub handAnswer : List ℕ → List ℕ → Written
@@ -30,6 +31,14 @@ passAnswer test bs out = pick (passes test bs) (handAnswer bs out) (Written.Refu
 
 unfoldable pub passOut : Bool → List ℕ → List ℕ → List ℕ
 passOut test bs out = pick (passes test bs) (handOut bs out) out
+
+-- the reader accepts the bytes
+unfoldable pub accepted : Reading → Bool
+accepted (Reading.Refused number) = false
+accepted (Reading.Read m) = true
+
+unfoldable pub accepts : List ℕ → Bool
+accepts bs = accepted (readOf bs)
 
 -- ---- `write`: the description by itself, at most 2,048 bytes, and the reader accepts them
 unfoldable pub draftOf : List ℕ → List ℕ → Description → List ℕ

@@ -1,19 +1,19 @@
 // The eleven kinds put (RFC 8990, section 2.8), each from the front of the buffer.
-ghost use mathlib.Core.Path.{_≡_};
-ghost use mathlib.Core.List.{[]};
 ghost use Rattle.writer.specs.Put.{Wrote};
-ghost use Rattle.writer.specs.Grasp.{Maybe, Msg, opening, encodeMsg, encodeObj, encodeTargets, targetItems, maybeObj, howMany};
-ghost use Rattle.writer.specs.Describe.{cut, entryOf, objOf, targetsOf, pairsOf, extraOf, endOf, msgOf};
-use crate::Description;
-use crate::Ending;
-use crate::Extra;
-use crate::Goal;
+ghost use Rattle.description.specs.Grasp.{Maybe, Msg, opening, encodeMsg, encodeObj, encodeTargets, maybeObj};
+ghost use Rattle.description.specs.Describe.{cut, entryOf, objOf, targetsOf, pairsOf, extraOf, endOf, msgOf};
 use crate::locator;
-use crate::locator::PLACE_ROW;
 use crate::objective;
 use crate::pair;
-use crate::pair::PAIR_ROW;
 use crate::put;
+use description::Description;
+use description::Ending;
+use description::Extra;
+use description::Goal;
+use description::counts;
+use description::rows;
+use description::rows::PAIR_ROW;
+use description::rows::PLACE_ROW;
 use options::Span;
 
 // The message of a description.
@@ -76,7 +76,7 @@ pub(crate) fn put_noop(out: &mut [u8]) -> usize
 pub(crate) fn put_goal(out: &mut [u8], at: usize, source: &[u8], o: Goal) -> usize
     ensures { λ r. ⌜ Wrote (now (out .entry)) (now (out .exit)) at (encodeObj (objOf (now (source .entry)) (entryOf o))) r ⌝ }
 {
-    let entry = objective::entry_of(o);
+    let entry = rows::entry_of(o);
     objective::put_entry(out, at, source, entry)
 }
 
@@ -106,23 +106,13 @@ pub(crate) fn put_response(
 ) -> usize
     ensures { λ r. ⌜ Wrote (now (out .entry)) (now (out .exit)) 0 (encodeMsg (Msg.response session (cut (now (source .entry)) initiator) ttl (targetsOf (now (source .entry)) (now (list .entry)) divert) (extraOf (now (source .entry)) extra))) r ⌝ }
 {
-    let targets = target_items(list, divert);
-    let more = how_many(extra);
+    let targets = counts::target_items(list, divert);
+    let more = counts::how_many(extra);
     let a = put_opening(out, 4 + (targets + more), 2, session);
     let b = put::part_string(out, a, 2, source, initiator);
     let c = put::head(out, b, 0, ttl as u64);
     let d = put_targets(out, c, source, list, divert);
     put_extra(out, d, source, extra)
-}
-
-// How many items of a Response its locators are, or its divert is.
-pub(crate) fn target_items(list: &[u64], divert: bool) -> u64
-    ensures { λ r. ⌜ r ≡ targetItems (targetsOf [] (now (list .entry)) divert) ⌝ }
-{
-    if divert {
-        return 1;
-    }
-    (list.len() / PLACE_ROW) as u64
 }
 
 pub(crate) fn put_targets(
@@ -141,15 +131,6 @@ pub(crate) fn put_targets(
         return locator::put_rows(out, b, source, list);
     }
     locator::put_rows(out, at, source, list)
-}
-
-pub(crate) fn how_many(extra: Extra) -> u64
-    ensures { λ r. ⌜ r ≡ howMany (extraOf [] extra) ⌝ }
-{
-    match extra {
-        Extra::Without => 0,
-        Extra::With(_) => 1,
-    }
 }
 
 pub(crate) fn put_extra(out: &mut [u8], at: usize, source: &[u8], extra: Extra) -> usize
@@ -231,7 +212,7 @@ pub(crate) fn put_flood(
 pub(crate) fn put_invalid(out: &mut [u8], source: &[u8], session: u32, item: Span) -> usize
     ensures { λ r. ⌜ Wrote (now (out .entry)) (now (out .exit)) 0 (encodeMsg (Msg.invalid session (cut (now (source .entry)) item))) r ⌝ }
 {
-    let more = objective::one_more(source, item);
+    let more = counts::one_more(source, item);
     let a = put_opening(out, 2 + more, 99, session);
     put::part(out, a, source, item)
 }

@@ -2,94 +2,21 @@
 // What is written goes to the front of the output and the bytes after it stay; on a refusal all of the output stays.
 ghost use mathlib.Core.Path.{_≡_};
 ghost use Rattle.writer.specs.Put.{Wrote};
-ghost use Rattle.writer.specs.Grasp.{fixed};
+ghost use Rattle.description.specs.Grasp.{fixed};
 ghost use mathlib.Core.Bool.{true};
 ghost use Prim.Native.Nat.{_<_, _≤_};
 ghost use lib.ListN.{length};
-ghost use Rattle.writer.specs.Write.{writeAnswer, writeOut, lowered, lowerAnswer, lowerOut, answerOf, passAnswer, passOut};
+ghost use Rattle.writer.specs.Write.{accepts, writeAnswer, writeOut, lowered, lowerAnswer, lowerOut, answerOf, passAnswer, passOut};
+use description::Description;
+use description::judge;
 use message::MOST_BYTES;
-use options::Span;
+use message::Reading;
 
-mod judge;
 mod kinds;
 mod locator;
 mod objective;
 mod pair;
 mod put;
-
-// An objective: its name and value are bytes of the source, and a value of 0 bytes is none.
-pub struct Goal {
-    pub name: Span,
-    pub flags: u8,
-    pub count: u8,
-    pub value: Span,
-}
-
-// An objective that may be left out.
-pub enum Extra {
-    Without,
-    With(Goal),
-}
-
-// How a negotiation ends: accepted, declined, or declined with a reason.
-pub enum Ending {
-    Accept,
-    Decline,
-    Reason(Span),
-}
-
-// A message to be written. Spans are bytes of the source. The locators of a Response, or of its divert, and the pairs of a Flood are the rows of
-// the list. A locator's row is five numbers: kind (103 to 106), place and length of its address or text, protocol, port; for 106 protocol 0 and
-// port 65,536 stand for null. A pair's row is twelve: place and length of the name, flags, count, 0, place and length of the value, then the
-// locator's five, or five zeros for none. An item of 0 bytes is none.
-pub enum Description {
-    Noop,
-    Discovery {
-        session: u32,
-        initiator: Span,
-        objective: Goal,
-    },
-    Response {
-        session: u32,
-        initiator: Span,
-        ttl: u32,
-        divert: bool,
-        extra: Extra,
-    },
-    RequestNegotiation {
-        session: u32,
-        objective: Goal,
-    },
-    RequestSynchronization {
-        session: u32,
-        objective: Goal,
-    },
-    Negotiate {
-        session: u32,
-        objective: Goal,
-    },
-    End {
-        session: u32,
-        ending: Ending,
-    },
-    Wait {
-        session: u32,
-        time: u32,
-    },
-    Synch {
-        session: u32,
-        objective: Goal,
-    },
-    Flood {
-        session: u32,
-        initiator: Span,
-        ttl: u32,
-    },
-    Invalid {
-        session: u32,
-        item: Span,
-    },
-}
 
 // How many bytes were written, or the number of the refusal.
 pub enum Written {
@@ -110,7 +37,7 @@ pub fn write(source: &[u8], list: &[u64], m: Description, out: &mut [u8]) -> Wri
     if MOST_BYTES < len {
         return Written::Refused(18);
     }
-    if !judge::accepts(&draft[..len]) {
+    if !accepts(&draft[..len]) {
         return Written::Refused(18);
     }
     put::hand(&draft[..len], out)
@@ -156,6 +83,17 @@ pub fn answer(
         return Written::Refused(18);
     }
     put::hand(&draft[..len], out)
+}
+
+// Whether the reader accepts these bytes.
+fn accepts(s: &[u8]) -> bool
+    ensures { λ r. ⌜ r ≡ accepts (now (s .entry)) ⌝ }
+{
+    let reading = message::read(s);
+    match reading {
+        Reading::Refused(_) => false,
+        Reading::Read(_) => true,
+    }
 }
 
 fn put_lowered(out: &mut [u8], message: &[u8], at: usize, end: usize, count: u8) -> usize

@@ -1,23 +1,14 @@
 // Locators put (RFC 8990, section 2.9.5), from rows of five numbers.
-ghost use mathlib.Core.Path.{_≡_};
 ghost use Prim.Native.Nat.{_+_, _*_, _<_, _≤_};
 ghost use lib.ListN.{length};
 ghost use Rattle.writer.specs.Put.{Wrote};
-ghost use Rattle.writer.specs.Grasp.{numberOrNull, reached, fixed, encodeLoc, encodeLocs};
-ghost use Rattle.writer.specs.Describe.{placeRow, cut, orNull, locOf, placeAt, rowLoc, locsOf};
+ghost use Rattle.description.specs.Grasp.{numberOrNull, reached, fixed, encodeLoc, encodeLocs};
+ghost use Rattle.description.specs.Describe.{placeRow, cut, orNull, locOf, rowLoc, locsOf};
 use crate::put;
+use description::rows;
+use description::rows::PLACE_ROW;
+use description::rows::Place;
 use options::Span;
-
-// How many numbers a locator's row has.
-pub const PLACE_ROW: usize = 5;
-
-// A locator: 103 to 106, its address or text, protocol and port; for 106 protocol 0 and port 65,536 stand for null.
-pub struct Place {
-    pub kind: u64,
-    pub content: Span,
-    pub protocol: u64,
-    pub port: u64,
-}
 
 // The locators of the list.
 pub(crate) fn put_rows(out: &mut [u8], at: usize, source: &[u8], list: &[u64]) -> usize
@@ -37,23 +28,8 @@ pub(crate) fn put_row(out: &mut [u8], at: usize, source: &[u8], list: &[u64], i:
     requires { ⌜ placeRow * i + placeRow ≤ length (now list) ⌝ }
     ensures { λ r. ⌜ Wrote (now (out .entry)) (now (out .exit)) at (encodeLoc (rowLoc (now (source .entry)) (now (list .entry)) i)) r ⌝ }
 {
-    let p = place_at(list, PLACE_ROW * i);
+    let p = rows::place_at(list, PLACE_ROW * i);
     put_place(out, at, source, p)
-}
-
-// The locator of the five numbers from place k on.
-pub(crate) fn place_at(list: &[u64], k: usize) -> Place
-    requires { ⌜ k + placeRow ≤ length (now list) ⌝ }
-    ensures { λ r. ⌜ r ≡ placeAt (now (list .entry)) k ⌝ }
-{
-    let at = list[k + 1] as usize;
-    let len = list[k + 2] as usize;
-    Place {
-        kind: list[k],
-        content: Span { at, len },
-        protocol: list[k + 3],
-        port: list[k + 4],
-    }
 }
 
 pub(crate) fn put_place(out: &mut [u8], at: usize, source: &[u8], p: Place) -> usize

@@ -2,17 +2,15 @@
 ghost use Prim.Native.Nat.{_+_, _*_, _≤_};
 ghost use lib.ListN.{length};
 ghost use Rattle.writer.specs.Put.{Wrote};
-ghost use Rattle.writer.specs.Grasp.{locOrEmpty, encodePair, encodePairs};
-ghost use Rattle.writer.specs.Describe.{pairRow, locOrNone, rowPair, pairsOf};
+ghost use Rattle.description.specs.Grasp.{locOrEmpty, encodePair, encodePairs};
+ghost use Rattle.description.specs.Describe.{pairRow, locOrNone, rowPair, pairsOf};
 use crate::locator;
-use crate::locator::Place;
 use crate::objective;
 use crate::put;
-
-// How many numbers a pair's row has, and how many of them stand before its locator.
-pub const PAIR_ROW: usize = 12;
-
-pub const ENTRY_ROW: usize = 7;
+use description::rows;
+use description::rows::ENTRY_ROW;
+use description::rows::PAIR_ROW;
+use description::rows::Place;
 
 // The pairs of the list.
 pub(crate) fn put_pairs(out: &mut [u8], at: usize, source: &[u8], list: &[u64]) -> usize
@@ -32,8 +30,8 @@ pub(crate) fn put_pair(out: &mut [u8], at: usize, source: &[u8], list: &[u64], i
     requires { ⌜ pairRow * i + pairRow ≤ length (now list) ⌝ }
     ensures { λ r. ⌜ Wrote (now (out .entry)) (now (out .exit)) at (encodePair (rowPair (now (source .entry)) (now (list .entry)) i)) r ⌝ }
 {
-    let o = objective::entry_at(list, PAIR_ROW * i);
-    let p = locator::place_at(list, PAIR_ROW * i + ENTRY_ROW);
+    let o = rows::entry_at(list, PAIR_ROW * i);
+    let p = rows::place_at(list, PAIR_ROW * i + ENTRY_ROW);
     let a = put::head(out, at, 4, 2);
     let b = objective::put_entry(out, a, source, o);
     put_place_or_empty(out, b, source, p)

@@ -3,13 +3,13 @@
 ghost use mathlib.Core.Path.{_≡_};
 ghost use mathlib.Core.List.{[], _∷_};
 ghost use Prim.Native.Nat.{_<_};
-ghost use lib.ListN.{length};
 ghost use Rattle.cbor.specs.Put.{head};
 ghost use Rattle.writer.specs.Put.{Wrote};
-ghost use Rattle.writer.specs.Grasp.{string};
-ghost use Rattle.writer.specs.Describe.{cut};
+ghost use Rattle.description.specs.Grasp.{string};
+ghost use Rattle.description.specs.Describe.{cut};
 ghost use Rattle.writer.specs.Write.{handAnswer, handOut};
 use crate::Written;
+use description::spans;
 use options::Span;
 
 // The shortest head of a major type with this argument.
@@ -53,21 +53,6 @@ pub(crate) fn string(out: &mut [u8], at: usize, major: u8, s: &[u8]) -> usize
     all(out, next, s)
 }
 
-// How many bytes of the source a span covers.
-pub(crate) fn covered(source: &[u8], s: Span) -> usize
-    ensures { λ r. ⌜ r ≡ length (cut (now (source .entry)) s) ⌝ }
-{
-    let from = s.at;
-    if source.len() < from {
-        return 0;
-    }
-    let room = source.len() - from;
-    if room < s.len {
-        return room;
-    }
-    s.len
-}
-
 // The bytes of a span.
 pub(crate) fn part(out: &mut [u8], at: usize, source: &[u8], s: Span) -> usize
     ensures { λ r. ⌜ Wrote (now (out .entry)) (now (out .exit)) at (cut (now (source .entry)) s) r ⌝ }
@@ -90,7 +75,7 @@ pub(crate) fn part_string(out: &mut [u8], at: usize, major: u8, source: &[u8], s
     requires { ⌜ major < 7 ⌝ }
     ensures { λ r. ⌜ Wrote (now (out .entry)) (now (out .exit)) at (string major (cut (now (source .entry)) s)) r ⌝ }
 {
-    let n = covered(source, s);
+    let n = spans::covered(source, s);
     let next = head(out, at, major, n as u64);
     part(out, next, source, s)
 }

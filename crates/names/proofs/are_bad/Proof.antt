@@ -1,4 +1,6 @@
-use mathlib.Core.Path.{refl, sym, ap, _∙_}
+-- `names::are_bad` meets its contract.
+-- Assumes nothing.
+use mathlib.Core.Path.{refl, sym, _∙_}
 use borrow.Author.Tests.{eq-eqb, ne-eqb, lt-ltb, le-ltb}
 use Rattle.base.specs.Pick.{pick}
 use Rattle.names.specs.Names.{namesBad, framedBad}

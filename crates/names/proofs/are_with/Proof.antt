@@ -1,3 +1,5 @@
+-- `names::are_with` meets its contract. The loop's invariant: the name is one of those from here on exactly if it is one of all.
+-- Assumes nothing.
 use mathlib.Core.Bool.{false}
 use mathlib.Core.Path.{_≡_, refl, sym, _∙_}
 use native.Mathlib.Omega.{arith}

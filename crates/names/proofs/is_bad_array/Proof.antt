@@ -1,3 +1,5 @@
+-- `names::is_bad_array` meets its contract. The loop's invariant: the names from here on are good exactly if all are.
+-- Assumes nothing.
 use mathlib.Core.Bool.{true}
 use mathlib.Core.Path.{_≡_, refl, sym, _∙_}
 use native.Mathlib.Omega.{arith}

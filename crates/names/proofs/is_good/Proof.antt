@@ -1,4 +1,7 @@
+-- `names::is_good` meets its contract.
+-- Assumes nothing.
 use mathlib.Core.Path.{refl}
+use native.Mathlib.Omega.{arith}
 use borrow.Author.Tests.{eq-eqb, ne-eqb, lt-leb, le-leb}
 use Rattle.names.specs.Names.{goodName, contentOf}
 use borrow.Author.Needs.{needs}
@@ -16,7 +19,7 @@ returns c = rw (ne-eqb _ 3 (c .if1 .taken)) refl
 -- src/lib.rt:74:9
 returns-2 : tie.Need-returns-2
 unfolding goodName contentOf
-returns-2 c = rw (eq-eqb _ 3 (c .before .before .if1 .left), lt-leb _ 64 (c .if2 .taken)) refl
+returns-2 c = rw (eq-eqb _ 3 (c .before .before .if1 .left), lt-leb (c .before .before .before .before .before .args .t .arg) 64 (omega (arith, c .if2 .taken))) refl
 
 -- src/lib.rt:76:5
 is-utf8-in-requires : tie.Need-is-utf8-in-requires

@@ -12,27 +12,27 @@ use Rattle.writer.proofs.put.head.Reads as head-reads
 use Rattle.writer.proofs.put.string.Reads as string-reads
 use Rattle.writer.proofs.put_home.Reads as put-home-reads
 
--- src/lib.rt:173:9
+-- src/lib.rt:111:9
 put-opening-requires : tie.Need-put-opening-requires
 put-opening-requires c κs = search needs
 
--- src/lib.rt:174:9
+-- src/lib.rt:112:9
 string-requires : tie.Need-string-requires
 string-requires c κs = search needs
 
--- src/lib.rt:175:9
+-- src/lib.rt:113:9
 head-requires : tie.Need-head-requires
 head-requires c κs = search needs
 
--- src/lib.rt:176:5
+-- src/lib.rt:114:5
 put-home-requires : tie.Need-put-home-requires
 put-home-requires c κs = search needs
 
--- src/lib.rt:170:1
+-- src/lib.rt:108:1
 same-length : tie.Need-same-length
 same-length c = search needs
 
--- src/lib.rt:170:1
+-- src/lib.rt:108:1
 returns : tie.Need-returns
 returns c = rw answer-is (then (then (then (c .before .before .before .before .before .before .before .before .before .before .before .before .before .before .put-opening .ensures) (c .before .before .before .before .before .before .before .before .before .before .string .ensures)) (c .before .before .before .before .before .before .head .ensures)) (c .before .before .put-home .ensures))
 

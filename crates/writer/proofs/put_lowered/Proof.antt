@@ -14,47 +14,47 @@ use Rattle.writer.proofs.put_lowered.Lts as lts
 use Rattle.writer.proofs.put.all.Reads as all-reads
 use Rattle.writer.proofs.put.head.Reads as head-reads
 
--- src/lib.rt:165:30
+-- src/lib.rt:103:30
 slice-aggregate-all : tie.Need-slice-aggregate-all
 slice-aggregate-all c = sym (length-take-le _ _ (omega arith))
 
--- src/lib.rt:165:9
+-- src/lib.rt:103:9
 all-requires : tie.Need-all-requires
 all-requires c κs = search needs
 
--- src/lib.rt:166:35
+-- src/lib.rt:104:35
 sub-head : tie.Need-sub-head
 sub-head c = search needs
 
--- src/lib.rt:166:34
+-- src/lib.rt:104:34
 cast-head : tie.Need-cast-head
 cast-head c = search needs
 
--- src/lib.rt:166:9
+-- src/lib.rt:104:9
 head-requires : tie.Need-head-requires
 head-requires c κs = search needs
 
--- src/lib.rt:167:22
+-- src/lib.rt:105:22
 sub-all : tie.Need-sub-all
 sub-all c = search needs
 
--- src/lib.rt:167:22
+-- src/lib.rt:105:22
 part-all-start : tie.Need-part-all-start
 part-all-start c = search needs
 
--- src/lib.rt:167:22
+-- src/lib.rt:105:22
 part-all-end : tie.Need-part-all-end
 part-all-end c = search needs
 
--- src/lib.rt:167:5
+-- src/lib.rt:105:5
 all-requires-2 : tie.Need-all-requires-2
 all-requires-2 c κs = search needs
 
--- src/lib.rt:161:1
+-- src/lib.rt:99:1
 same-length : tie.Need-same-length
 same-length c = search needs
 
--- src/lib.rt:161:1
+-- src/lib.rt:99:1
 returns : tie.Need-returns
 unfolding lowered
 returns c = then (then (c .before .before .before .before .before .before .before .before .before .before .before .all .ensures) (c .before .before .before .before .before .before .before .head .ensures)) (rw rest-is at (c .before .before .all2 .ensures))

@@ -1,3 +1,5 @@
+-- `node::Record::fresh` meets its contract.
+-- Assumes nothing.
 use mathlib.Core.Path.{refl, sym, _∙_}
 use Rattle.base.specs.Pick.{pick}
 use native.Mathlib.Omega.{arith}

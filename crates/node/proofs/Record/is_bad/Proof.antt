@@ -1,3 +1,5 @@
+-- `node::Record::is_bad` meets its contract.
+-- Assumes nothing.
 use mathlib.Core.Path.{refl, sym, _∙_}
 use Rattle.node.specs.Record.{recordBad}
 use borrow.Author.Needs.{needs}

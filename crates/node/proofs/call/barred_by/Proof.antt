@@ -1,3 +1,9 @@
+-- `node::call::barred_by` meets its contract.
+-- Assumes nothing.
+use mathlib.Core.Path.{refl, sym, _∙_}
+use borrow.Author.Tests.{lt-ltb, le-ltb}
+use Rattle.base.specs.Pick.{pick}
+use Rattle.node.specs.Call.{barred}
 use borrow.Author.Needs.{needs}
 use Rattle.node.proofs.call.barred_by.Statement.{statement}
 use Rattle.node.proofs.call.barred_by.Tie as tie
@@ -14,19 +20,22 @@ is-bad-requires c κs = search needs
 
 -- src/call.rt:75:9
 returns : tie.Need-returns
-returns c = ?
+unfolding barred pick
+returns c = rw (sym (c .before .is-bad .ensures) ∙ c .if1 .taken) refl
 
 -- src/call.rt:77:8
 is-bad-arrival-requires : tie.Need-is-bad-arrival-requires
-is-bad-arrival-requires c κs = ?
+is-bad-arrival-requires c κs = sym (c .before .is-bad .ensures) ∙ c .if1 .left
 
 -- src/call.rt:78:9
 returns-2 : tie.Need-returns-2
-returns-2 c = ?
+unfolding barred pick
+returns-2 c = rw (sym (c .before .before .before .is-bad .ensures) ∙ c .before .before .if1 .left, sym (c .before .is-bad-arrival .ensures) ∙ c .if2 .taken) refl
 
 -- src/call.rt:81:9
 returns-3 : tie.Need-returns-3
-returns-3 c = ?
+unfolding barred pick
+returns-3 c = rw (sym (c .before .before .before .before .before .is-bad .ensures) ∙ c .before .before .before .before .if1 .left, sym (c .before .before .before .is-bad-arrival .ensures) ∙ c .before .before .if2 .left, lt-ltb _ _ (c .if3 .taken)) refl
 
 -- src/call.rt:83:8
 is-bad-requires-2 : tie.Need-is-bad-requires-2
@@ -34,7 +43,8 @@ is-bad-requires-2 c κs = search needs
 
 -- src/call.rt:84:9
 returns-4 : tie.Need-returns-4
-returns-4 c = ?
+unfolding barred pick
+returns-4 c = rw (sym (c .before .before .before .before .before .before .before .is-bad .ensures) ∙ c .before .before .before .before .before .before .if1 .left, sym (c .before .before .before .before .before .is-bad-arrival .ensures) ∙ c .before .before .before .before .if2 .left, le-ltb _ _ (c .before .before .if3 .left), sym (c .before .is-bad2 .ensures) ∙ c .if4 .taken) refl
 
 -- src/call.rt:86:8
 are-bad-requires : tie.Need-are-bad-requires
@@ -42,15 +52,18 @@ are-bad-requires c κs = search needs
 
 -- src/call.rt:87:9
 returns-5 : tie.Need-returns-5
-returns-5 c = ?
+unfolding barred pick
+returns-5 c = rw (sym (c .before .before .before .before .before .before .before .before .before .is-bad .ensures) ∙ c .before .before .before .before .before .before .before .before .if1 .left, sym (c .before .before .before .before .before .before .before .is-bad-arrival .ensures) ∙ c .before .before .before .before .before .before .if2 .left, le-ltb _ _ (c .before .before .before .before .if3 .left), sym (c .before .before .before .is-bad2 .ensures) ∙ c .before .before .if4 .left, sym (c .before .are-bad .ensures) ∙ c .if5 .taken) refl
 
 -- src/call.rt:90:9
 returns-6 : tie.Need-returns-6
-returns-6 c = ?
+unfolding barred pick
+returns-6 c = rw (sym (c .before .before .before .before .before .before .before .before .before .before .is-bad .ensures) ∙ c .before .before .before .before .before .before .before .before .before .if1 .left, sym (c .before .before .before .before .before .before .before .before .is-bad-arrival .ensures) ∙ c .before .before .before .before .before .before .before .if2 .left, le-ltb _ _ (c .before .before .before .before .before .if3 .left), sym (c .before .before .before .before .is-bad2 .ensures) ∙ c .before .before .before .if4 .left, sym (c .before .before .are-bad .ensures) ∙ c .before .if5 .left, lt-ltb _ _ (c .if6 .taken)) refl
 
 -- src/call.rt:64:1
 returns-7 : tie.Need-returns-7
-returns-7 c = ?
+unfolding barred pick
+returns-7 c = rw (sym (c .before .before .before .before .before .before .before .before .before .before .is-bad .ensures) ∙ c .before .before .before .before .before .before .before .before .before .if1 .left, sym (c .before .before .before .before .before .before .before .before .is-bad-arrival .ensures) ∙ c .before .before .before .before .before .before .before .if2 .left, le-ltb _ _ (c .before .before .before .before .before .if3 .left), sym (c .before .before .before .before .is-bad2 .ensures) ∙ c .before .before .before .if4 .left, sym (c .before .before .are-bad .ensures) ∙ c .before .if5 .left, le-ltb _ _ (c .if6 .left)) refl
 
 pub barred-by-spec : {M : Type 1} → statement M
 barred-by-spec =

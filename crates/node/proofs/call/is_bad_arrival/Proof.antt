@@ -1,3 +1,10 @@
+-- `node::call::is_bad_arrival` meets its contract.
+-- Assumes nothing.
+use mathlib.Core.Path.{refl, sym}
+use native.Mathlib.Omega.{arith}
+use borrow.Author.Tests.{le-leb, lt-leb}
+use Rattle.node.specs.Record.{arrivalBad}
+use Rattle.node.proofs.Masks.{record-links}
 use borrow.Author.Needs.{needs}
 use Rattle.node.proofs.call.is_bad_arrival.Statement.{statement}
 use Rattle.node.proofs.call.is_bad_arrival.Tie as tie
@@ -11,7 +18,8 @@ cast-if1 c = search needs
 
 -- src/call.rt:101:9
 returns : tie.Need-returns
-returns c = ?
+unfolding arrivalBad
+returns c = rw (le-leb _ _ (c .if1 .taken)) refl
 
 -- src/call.rt:103:31
 cast-is-up : tie.Need-cast-is-up
@@ -19,11 +27,12 @@ cast-is-up c = search needs
 
 -- src/call.rt:103:6
 is-up-requires : tie.Need-is-up-requires
-is-up-requires c κs = ?
+is-up-requires c κs = omega (arith, record-links (c .before .before .args .node) (c .before .before .pre) .most, c .if1 .left)
 
 -- src/call.rt:96:1
 returns-2 : tie.Need-returns-2
-returns-2 c = ?
+unfolding arrivalBad
+returns-2 c = rw (lt-leb _ _ (c .before .if1 .left), sym (c .is-up .ensures)) refl
 
 pub is-bad-arrival-spec : {M : Type 1} → statement M
 is-bad-arrival-spec = tie.close (tie.spec cast-if1 returns cast-is-up is-up-requires returns-2)

@@ -1,3 +1,10 @@
+-- `node::call::node_call` meets its contract.
+-- Assumes nothing.
+use lib.ListN.{length}
+use mathlib.Core.Path.{refl, sym, _∙_}
+use native.Mathlib.Omega.{arith}
+use Rattle.node.specs.Call.{callOf}
+use Rattle.node.proofs.Outcomes.{passed, arrives, barred-outcome, refused-outcome, taken-outcome}
 use borrow.Author.Needs.{needs}
 use Rattle.node.proofs.call.node_call.Statement.{statement}
 use Rattle.node.proofs.call.node_call.Tie as tie
@@ -18,7 +25,7 @@ same-length c = search needs
 
 -- src/call.rt:39:9
 returns : tie.Need-returns
-returns c = ?
+returns c = barred-outcome (c .before .before .before .before .before .before .before .args .node) (c .before .before .before .before .before .before .before .args .table .now) (callOf (c .before .before .before .before .before .before .before .args .clock) (c .before .before .before .before .before .before .before .args .interface) (c .before .before .before .before .before .before .before .args .names .now) (c .before .before .before .before .before .before .before .args .message .now) (c .before .before .before .before .before .before .before .args .out .now)) _ _ (c .before .barred-by .ensures) (c .if1 .taken) refl
 
 -- src/call.rt:44:9
 read-requires : tie.Need-read-requires
@@ -34,7 +41,7 @@ enum-known-read-2 c = search needs
 
 -- src/call.rt:54:13
 cast-take : tie.Need-cast-take
-cast-take c = ?
+cast-take c = let p = passed (c .before .before .before .before .before .before .before .before .before .before .before .before .args .node) (c .before .before .before .before .before .before .before .before .before .before .before .before .args .table .now) (c .before .before .before .before .before .before .before .before .before .before .before .before .args .clock) (c .before .before .before .before .before .before .before .before .before .before .before .before .args .interface) (c .before .before .before .before .before .before .before .before .before .before .before .before .args .names .now) (length (c .before .before .before .before .before .before .before .before .before .before .before .before .args .out .now)) (sym (c .before .before .before .before .before .before .barred-by .ensures) ∙ c .before .before .before .before .before .if1 .left) in omega (arith, arrives (c .before .before .before .before .before .before .before .before .before .before .before .before .args .node) (c .before .before .before .before .before .before .before .before .before .before .before .before .args .interface) (p .good) (p .arrives) .small)
 
 -- src/call.rt:57:13
 role-of-requires : tie.Need-role-of-requires
@@ -42,7 +49,10 @@ role-of-requires c κs = search needs
 
 -- src/call.rt:50:29
 take-requires : tie.Need-take-requires
-take-requires c κs = ?
+take-requires c κs = (
+  passed (c .before .before .before .before .before .before .before .before .before .before .before .before .before .before .args .node) (c .before .before .before .before .before .before .before .before .before .before .before .before .before .before .args .table .now) (c .before .before .before .before .before .before .before .before .before .before .before .before .before .before .args .clock) (c .before .before .before .before .before .before .before .before .before .before .before .before .before .before .args .interface) (c .before .before .before .before .before .before .before .before .before .before .before .before .before .before .args .names .now) (length (c .before .before .before .before .before .before .before .before .before .before .before .before .before .before .args .out .now)) (sym (c .before .before .before .before .before .before .before .before .barred-by .ensures) ∙ c .before .before .before .before .before .before .before .if1 .left),
+  record { is = _; read = sym (c .before .before .before .before .before .before .read .ensures) ∙ c .before .before .before .before .read3 .given .1; plays = sym (c .before .role-of .ensures) },
+)
 
 -- src/call.rt:26:1
 same-length-2 : tie.Need-same-length-2
@@ -50,7 +60,7 @@ same-length-2 c = search needs
 
 -- src/call.rt:26:1
 returns-2 : tie.Need-returns-2
-returns-2 c = ?
+returns-2 c = refused-outcome (c .before .before .before .before .before .before .before .before .before .before .before .args .node) (c .before .before .before .before .before .before .before .before .before .before .before .args .table .now) (callOf (c .before .before .before .before .before .before .before .before .before .before .before .args .clock) (c .before .before .before .before .before .before .before .before .before .before .before .args .interface) (c .before .before .before .before .before .before .before .before .before .before .before .args .names .now) (c .before .before .before .before .before .before .before .before .before .before .before .args .message .now) (c .before .before .before .before .before .before .before .before .before .before .before .args .out .now)) _ (c .before .before .before .before .before .barred-by .ensures) (c .before .before .before .before .if1 .left) _ _ refl (sym (c .before .before .before .read .ensures) ∙ c .before .read2 .given .1)
 
 -- src/call.rt:26:1
 same-length-3 : tie.Need-same-length-3
@@ -62,7 +72,9 @@ same-length-4 c = search needs
 
 -- src/call.rt:26:1
 returns-3 : tie.Need-returns-3
-returns-3 c = ?
+returns-3 c =
+    taken-outcome (c .before .before .before .before .before .before .before .before .before .before .before .before .before .before .before .before .before .before .before .args .node) (c .before .before .before .before .before .before .before .before .before .before .before .before .before .before .before .before .before .before .before .args .table .now) (callOf (c .before .before .before .before .before .before .before .before .before .before .before .before .before .before .before .before .before .before .before .args .clock) (c .before .before .before .before .before .before .before .before .before .before .before .before .before .before .before .before .before .before .before .args .interface) (c .before .before .before .before .before .before .before .before .before .before .before .before .before .before .before .before .before .before .before .args .names .now) (c .before .before .before .before .before .before .before .before .before .before .before .before .before .before .before .before .before .before .before .args .message .now) (c .before .before .before .before .before .before .before .before .before .before .before .before .before .before .before .before .before .before .before .args .out .now)) _ (c .before .before .before .before .before .before .before .before .before .before .before .before .before .barred-by .ensures) (c .before .before .before .before .before .before .before .before .before .before .before .before .if1 .left) _ _ (sym (c .before .before .before .before .before .before .before .before .before .before .before .read .ensures) ∙ c .before .before .before .before .before .before .before .before .before .read3 .given .1)
+    (rw (← (c .before .before .before .before .before .before .role-of .ensures)) (c .before .before .before .before .take .ensures))
 
 pub node-call-spec : {M : Type 1} → statement M
 node-call-spec =

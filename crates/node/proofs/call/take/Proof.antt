@@ -1,3 +1,14 @@
+-- `node::call::take` meets its contract.
+-- Assumes nothing.
+use mathlib.Core.List.{List}
+use Prim.Native.Nat.{ℕ}
+use lib.ListN.{length}
+use Rattle.node.specs.Role.{RoleIn}
+use Rattle.node.specs.Call.{Ready}
+use mathlib.Core.Path.{refl, sym, subst}
+use Rattle.node.specs.Record.{clocked}
+use Rattle.node.specs.Call.{quiet, taken}
+use Rattle.node.proofs.Outcomes.{readied}
 use borrow.Author.Needs.{needs}
 use Rattle.node.proofs.call.take.Statement.{statement}
 use Rattle.node.proofs.call.take.Tie as tie
@@ -33,7 +44,12 @@ enum-known-role c = search needs
 
 -- src/call.rt:127:29
 judge-requires : tie.Need-judge-requires
-judge-requires c κs = ?
+unfolding clocked
+judge-requires c κs = (
+  subst (λ (t : List ℕ). Ready (clocked (c .before .before .before .before .before .before .before .before .before .before .before .before .before .args .node) (c .before .before .before .before .before .before .before .before .before .before .before .before .before .args .clock)) t (c .before .before .before .before .before .before .before .before .before .before .before .before .before .args .interface) (length (c .before .before .before .before .before .before .before .before .before .before .before .before .before .args .out .now))) (sym (c .before .before .before .before .before .before .before .free-dead .ensures))
+      (readied (c .before .before .before .before .before .before .before .before .before .before .before .before .before .args .node) (c .before .before .before .before .before .before .before .before .before .before .before .before .before .args .table .now) (c .before .before .before .before .before .before .before .before .before .before .before .before .before .args .clock) (c .before .before .before .before .before .before .before .before .before .before .before .before .before .args .interface) (length (c .before .before .before .before .before .before .before .before .before .before .before .before .before .args .out .now)) (c .before .before .before .before .before .before .before .before .before .before .before .before .before .pre .0)),
+  subst (RoleIn (c .before .before .before .before .before .before .before .before .before .before .before .before .before .args .message .now)) (c .before .before .before .role .given .1) (c .before .before .before .before .before .before .before .before .before .before .before .before .before .pre .1),
+)
 
 -- src/call.rt:107:1
 same-length : tie.Need-same-length
@@ -41,7 +57,8 @@ same-length c = search needs
 
 -- src/call.rt:107:1
 returns : tie.Need-returns
-returns c = ?
+unfolding taken quiet clocked
+returns c = rw (c .before .enum-told .given .1, c .quiet .ensures, c .before .before .before .before .before .free-dead .ensures) refl
 
 -- src/call.rt:107:1
 same-length-2 : tie.Need-same-length-2
@@ -49,7 +66,8 @@ same-length-2 c = search needs
 
 -- src/call.rt:107:1
 returns-2 : tie.Need-returns-2
-returns-2 c = ?
+unfolding taken quiet clocked
+returns-2 c = rw (c .before .enum-told2 .given .1, c .quiet2 .ensures, c .before .before .before .before .before .free-dead .ensures) refl
 
 -- src/call.rt:107:1
 same-length-3 : tie.Need-same-length-3
@@ -61,7 +79,8 @@ same-length-4 c = search needs
 
 -- src/call.rt:107:1
 returns-3 : tie.Need-returns-3
-returns-3 c = ?
+unfolding taken quiet clocked
+returns-3 c = rw (c .before .before .before .before .before .before .before .before .role .given .1, ← (c .before .before .before .before .before .before .before .before .before .before .before .before .free-dead .ensures)) (c .before .before .before .before .judge .ensures)
 
 pub take-spec : {M : Type 1} → statement M
 take-spec =

@@ -1,3 +1,5 @@
+-- `node::links::are_bad` meets its contract.
+-- Assumes nothing.
 use mathlib.Core.Path.{refl}
 use borrow.Author.Tests.{lt-ltb, le-ltb, eq-eqb, ne-eqb}
 use Rattle.node.specs.Record.{linksBad}

@@ -1,3 +1,5 @@
+-- `node::links::is_up` meets its contract.
+-- Assumes nothing.
 use mathlib.Core.Path.{refl}
 use Rattle.node.specs.Record.{isUp}
 use borrow.Author.Needs.{needs}

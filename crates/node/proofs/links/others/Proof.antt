@@ -1,4 +1,5 @@
-use native.Mathlib.Omega.{arith}
+-- `node::links::others` meets its contract.
+-- Assumes nothing.
 use mathlib.Core.Path.{refl}
 use Rattle.node.proofs.Masks.{one-bit, up-le}
 use borrow.Author.Needs.{needs}

@@ -1,3 +1,7 @@
+-- `node::role::role_of` meets its contract.
+-- Assumes nothing.
+use mathlib.Core.Path.{refl}
+use Rattle.node.specs.Role.{roleOf}
 use borrow.Author.Needs.{needs}
 use Rattle.node.proofs.role.role_of.Statement.{statement}
 use Rattle.node.proofs.role.role_of.Tie as tie
@@ -50,47 +54,58 @@ enum-told-9 c = search needs
 
 -- src/role.rt:22:1
 returns : tie.Need-returns
-returns c = ?
+unfolding roleOf
+returns c = rw (c .enum-told .given .1) refl
 
 -- src/role.rt:22:1
 returns-2 : tie.Need-returns-2
-returns-2 c = ?
+unfolding roleOf
+returns-2 c = rw (c .before .m .given .1) refl
 
 -- src/role.rt:22:1
 returns-3 : tie.Need-returns-3
-returns-3 c = ?
+unfolding roleOf
+returns-3 c = rw (c .enum-told2 .given .1) refl
 
 -- src/role.rt:22:1
 returns-4 : tie.Need-returns-4
-returns-4 c = ?
+unfolding roleOf
+returns-4 c = rw (c .enum-told3 .given .1) refl
 
 -- src/role.rt:22:1
 returns-5 : tie.Need-returns-5
-returns-5 c = ?
+unfolding roleOf
+returns-5 c = rw (c .enum-told4 .given .1) refl
 
 -- src/role.rt:22:1
 returns-6 : tie.Need-returns-6
-returns-6 c = ?
+unfolding roleOf
+returns-6 c = rw (c .enum-told5 .given .1) refl
 
 -- src/role.rt:22:1
 returns-7 : tie.Need-returns-7
-returns-7 c = ?
+unfolding roleOf
+returns-7 c = rw (c .enum-told6 .given .1) refl
 
 -- src/role.rt:22:1
 returns-8 : tie.Need-returns-8
-returns-8 c = ?
+unfolding roleOf
+returns-8 c = rw (c .enum-told7 .given .1) refl
 
 -- src/role.rt:22:1
 returns-9 : tie.Need-returns-9
-returns-9 c = ?
+unfolding roleOf
+returns-9 c = rw (c .enum-told8 .given .1) refl
 
 -- src/role.rt:22:1
 returns-10 : tie.Need-returns-10
-returns-10 c = ?
+unfolding roleOf
+returns-10 c = rw (c .before .m2 .given .1) refl
 
 -- src/role.rt:22:1
 returns-11 : tie.Need-returns-11
-returns-11 c = ?
+unfolding roleOf
+returns-11 c = rw (c .enum-told9 .given .1) refl
 
 pub role-of-spec : {M : Type 1} → statement M
 role-of-spec =

@@ -1,3 +1,7 @@
+-- `node::spread::answer` meets its contract.
+-- Assumes nothing.
+use mathlib.Core.Path.{refl}
+use Rattle.node.proofs.Masks.{one-bit}
 use borrow.Author.Needs.{needs}
 use Rattle.node.proofs.spread.answer.Statement.{statement}
 use Rattle.node.proofs.spread.answer.Tie as tie
@@ -19,7 +23,7 @@ same-length c = search needs
 
 -- src/spread.rt:82:1
 returns : tie.Need-returns
-returns c = ?
+returns c = (rw (one-bit 8 (c .before .before .before .before .before .before .args .interface) (c .before .before .before .before .before .before .pre .0), c .before .before .put-response .ensures .0) refl, c .before .before .put-response .ensures .1)
 
 pub answer-spec : {M : Type 1} → statement M
 answer-spec = tie.close (tie.spec put-response-requires shl-t10 same-length returns)

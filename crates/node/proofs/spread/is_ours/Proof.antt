@@ -1,3 +1,8 @@
+-- `node::spread::is_ours` meets its contract.
+-- Assumes nothing.
+use mathlib.Core.Path.{ap, _∙_}
+use Rattle.names.specs.Names.{isOwn}
+use Rattle.node.proofs.Sends.{part-held}
 use borrow.Author.Needs.{needs}
 use Rattle.node.proofs.spread.is_ours.Statement.{statement}
 use Rattle.node.proofs.spread.is_ours.Tie as tie
@@ -31,7 +36,7 @@ are-with-requires c κs = search needs
 
 -- src/spread.rt:69:1
 returns-2 : tie.Need-returns-2
-returns-2 c = ?
+returns-2 c = rw (c .before .before .before .if1 .left) (c .are-with .ensures ∙ ap (isOwn (c .before .before .before .before .before .before .args .names .now)) (part-held (c .before .before .before .before .before .before .args .message .now) (c .before .before .before .before .before .before .args .s .objective .name)))
 
 pub is-ours-spec : {M : Type 1} → statement M
 is-ours-spec =

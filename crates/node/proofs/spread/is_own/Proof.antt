@@ -1,3 +1,10 @@
+-- `node::spread::is_own` meets its contract.
+-- Assumes nothing.
+use mathlib.Core.Path.{ap, _∙_}
+use mathlib.Core.List.{List}
+use Prim.Native.Nat.{ℕ}
+use Rattle.names.specs.Names.{sameBytes}
+use Rattle.node.proofs.Sends.{part-held}
 use borrow.Author.Needs.{needs}
 use Rattle.node.proofs.spread.is_own.Statement.{statement}
 use Rattle.node.proofs.spread.is_own.Tie as tie
@@ -31,7 +38,7 @@ are-same-requires c κs = search needs
 
 -- src/spread.rt:58:1
 returns : tie.Need-returns
-returns c = ?
+returns c = c .are-same .ensures ∙ ap (λ (z : List ℕ). sameBytes z (c .before .before .before .before .before .before .args .node .address)) (part-held (c .before .before .before .before .before .before .args .message .now) (c .before .before .before .before .before .before .args .s .initiator))
 
 pub is-own-spec : {M : Type 1} → statement M
 is-own-spec =

@@ -1,3 +1,11 @@
+-- `node::spread::judge` meets its contract.
+-- Assumes nothing.
+use mathlib.Core.Path.{sym, _∙_, ap}
+use mathlib.Core.List.{[]}
+use Rattle.node.specs.Call.{callOf, laterVerdict}
+use Rattle.node.proofs.Spreads.{role-spreading}
+use Rattle.node.proofs.Outcomes.{own-outcome, answer-outcome, duplicate-outcome, later-outcome, names-apart}
+use Rattle.node.specs.Table.{isKnown}
 use borrow.Author.Needs.{needs}
 use Rattle.node.proofs.spread.judge.Statement.{statement}
 use Rattle.node.proofs.spread.judge.Tie as tie
@@ -13,7 +21,7 @@ use Rattle.node.proofs.table.knows.Reads as knows-reads
 
 -- src/spread.rt:44:8
 is-own-requires : tie.Need-is-own-requires
-is-own-requires c κs = ?
+is-own-requires c κs = role-spreading (c .before .before .before .before .args .message .now) (c .before .before .before .before .args .s) (λ i. c .before .shared-slice-known2 .given i .fits) (c .before .before .before .before .pre .1) .within
 
 -- src/spread.rt:45:9
 quiet-requires : tie.Need-quiet-requires
@@ -21,15 +29,15 @@ quiet-requires c κs = search needs
 
 -- src/spread.rt:45:9
 returns : tie.Need-returns
-returns c = ?
+returns c = own-outcome (c .before .before .before .before .before .before .before .args .node) (c .before .before .before .before .before .before .before .args .table .now) (callOf (c .before .before .before .before .before .before .before .args .node .clock) (c .before .before .before .before .before .before .before .args .interface) (c .before .before .before .before .before .before .before .args .names .now) (c .before .before .before .before .before .before .before .args .message .now) (c .before .before .before .before .before .before .before .args .out .now)) (c .before .before .before .before .before .before .before .args .s) _ (c .quiet .ensures) (sym (c .before .before .is-own .ensures) ∙ c .before .if1 .taken)
 
 -- src/spread.rt:47:8
 is-ours-requires : tie.Need-is-ours-requires
-is-ours-requires c κs = ?
+is-ours-requires c κs = role-spreading (c .before .before .before .before .before .before .args .message .now) (c .before .before .before .before .before .before .args .s) (λ i. c .before .before .before .shared-slice-known2 .given i .fits) (c .before .before .before .before .before .before .pre .1) .within
 
 -- src/spread.rt:48:9
 answer-requires : tie.Need-answer-requires
-answer-requires c κs = ?
+answer-requires c κs = (c .before .before .before .before .before .before .before .before .before .pre .0 .small, (c .before .before .before .before .before .before .before .before .before .pre .0 .fits, role-spreading (c .before .before .before .before .before .before .before .before .before .args .message .now) (c .before .before .before .before .before .before .before .before .before .args .s) (λ i. c .before .before .before .before .before .before .shared-slice-known2 .given i .fits) (c .before .before .before .before .before .before .before .before .before .pre .1) .within))
 
 -- src/spread.rt:48:9
 same-length : tie.Need-same-length
@@ -37,11 +45,11 @@ same-length c = search needs
 
 -- src/spread.rt:48:9
 returns-2 : tie.Need-returns-2
-returns-2 c = ?
+returns-2 c = answer-outcome (c .before .before .before .before .before .before .before .before .before .before .before .before .args .node) (c .before .before .before .before .before .before .before .before .before .before .before .before .args .table .now) (callOf (c .before .before .before .before .before .before .before .before .before .before .before .before .args .node .clock) (c .before .before .before .before .before .before .before .before .before .before .before .before .args .interface) (c .before .before .before .before .before .before .before .before .before .before .before .before .args .names .now) (c .before .before .before .before .before .before .before .before .before .before .before .before .args .message .now) (c .before .before .before .before .before .before .before .before .before .before .before .before .args .out .now)) (c .before .before .before .before .before .before .before .before .before .before .before .before .args .s) (sym (c .before .before .before .before .before .before .before .is-own .ensures) ∙ c .before .before .before .before .before .before .if1 .left) _ _ (c .before .before .answer .ensures .0) (c .before .before .answer .ensures .1) (sym (c .before .before .before .before .before .is-ours .ensures) ∙ c .before .before .before .before .if2 .taken)
 
 -- src/spread.rt:50:9
 key-of-requires : tie.Need-key-of-requires
-key-of-requires c κs = ?
+key-of-requires c κs = role-spreading (c .before .before .before .before .before .before .before .before .args .message .now) (c .before .before .before .before .before .before .before .before .args .s) (λ i. c .before .before .before .before .before .shared-slice-known2 .given i .fits) (c .before .before .before .before .before .before .before .before .pre .1) .within
 
 -- src/spread.rt:51:8
 knows-requires : tie.Need-knows-requires
@@ -57,7 +65,7 @@ same-length-2 c = search needs
 
 -- src/spread.rt:52:9
 returns-3 : tie.Need-returns-3
-returns-3 c = ?
+returns-3 c = duplicate-outcome (c .before .before .before .before .before .before .before .before .before .before .before .before .before .args .node) (c .before .before .before .before .before .before .before .before .before .before .before .before .before .args .table .now) (callOf (c .before .before .before .before .before .before .before .before .before .before .before .before .before .args .node .clock) (c .before .before .before .before .before .before .before .before .before .before .before .before .before .args .interface) (c .before .before .before .before .before .before .before .before .before .before .before .before .before .args .names .now) (c .before .before .before .before .before .before .before .before .before .before .before .before .before .args .message .now) (c .before .before .before .before .before .before .before .before .before .before .before .before .before .args .out .now)) (c .before .before .before .before .before .before .before .before .before .before .before .before .before .args .s) (sym (c .before .before .before .before .before .before .before .before .is-own .ensures) ∙ c .before .before .before .before .before .before .before .if1 .left) (sym (c .before .before .before .before .before .before .is-ours .ensures) ∙ c .before .before .before .before .before .if2 .left) _ (c .quiet2 .ensures) (ap (λ k. isKnown k (c .before .before .before .before .before .before .before .before .before .before .before .before .before .args .table .now)) (sym (c .before .before .before .before .key-of .ensures)) ∙ sym (c .before .before .knows .ensures) ∙ c .before .if3 .taken)
 
 -- src/spread.rt:54:5
 relay-or-end-requires : tie.Need-relay-or-end-requires
@@ -73,7 +81,8 @@ same-length-4 c = search needs
 
 -- src/spread.rt:31:1
 returns-4 : tie.Need-returns-4
-returns-4 c = ?
+unfolding laterVerdict
+returns-4 c = later-outcome (c .before .before .before .before .before .before .before .before .before .before .before .before .before .before .before .before .before .before .before .args .node) (c .before .before .before .before .before .before .before .before .before .before .before .before .before .before .before .before .before .before .before .args .table .now) (callOf (c .before .before .before .before .before .before .before .before .before .before .before .before .before .before .before .before .before .before .before .args .node .clock) (c .before .before .before .before .before .before .before .before .before .before .before .before .before .before .before .before .before .before .before .args .interface) (c .before .before .before .before .before .before .before .before .before .before .before .before .before .before .before .before .before .before .before .args .names .now) (c .before .before .before .before .before .before .before .before .before .before .before .before .before .before .before .before .before .before .before .args .message .now) (c .before .before .before .before .before .before .before .before .before .before .before .before .before .before .before .before .before .before .before .args .out .now)) (c .before .before .before .before .before .before .before .before .before .before .before .before .before .before .before .before .before .before .before .args .s) (sym (c .before .before .before .before .before .before .before .before .before .before .before .before .before .before .is-own .ensures) ∙ c .before .before .before .before .before .before .before .before .before .before .before .before .before .if1 .left) (sym (c .before .before .before .before .before .before .before .before .before .before .before .before .is-ours .ensures) ∙ c .before .before .before .before .before .before .before .before .before .before .before .if2 .left) _ (ap (λ k. isKnown k (c .before .before .before .before .before .before .before .before .before .before .before .before .before .before .before .before .before .before .before .args .table .now)) (sym (c .before .before .before .before .before .before .before .before .before .before .key-of .ensures)) ∙ sym (c .before .before .before .before .before .before .before .before .knows .ensures) ∙ c .before .before .before .before .before .before .before .if3 .left) (c .before .before .before .before .relay-or-end .ensures ∙ names-apart (c .before .before .before .before .before .before .before .before .before .before .before .before .before .before .before .before .before .before .before .args .node) (c .before .before .before .before .before .before .before .before .before .before .before .before .before .before .before .before .before .before .before .args .table .now) (c .before .before .before .before .before .before .before .before .before .before .before .before .before .before .before .before .before .before .before .args .node .clock) (c .before .before .before .before .before .before .before .before .before .before .before .before .before .before .before .before .before .before .before .args .interface) [] (c .before .before .before .before .before .before .before .before .before .before .before .before .before .before .before .before .before .before .before .args .names .now) (c .before .before .before .before .before .before .before .before .before .before .before .before .before .before .before .before .before .before .before .args .message .now) (c .before .before .before .before .before .before .before .before .before .before .before .before .before .before .before .before .before .before .before .args .out .now) (c .before .before .before .before .before .before .before .before .before .before .before .before .before .before .before .before .before .before .before .args .s) (laterVerdict (c .before .before .before .before .before .before .before .before .before .before .before .before .before .before .before .before .before .before .before .args .node) (c .before .before .before .before .before .before .before .before .before .before .before .before .before .before .before .before .before .before .before .args .table .now) (callOf (c .before .before .before .before .before .before .before .before .before .before .before .before .before .before .before .before .before .before .before .args .node .clock) (c .before .before .before .before .before .before .before .before .before .before .before .before .before .before .before .before .before .before .before .args .interface) [] (c .before .before .before .before .before .before .before .before .before .before .before .before .before .before .before .before .before .before .before .args .message .now) (c .before .before .before .before .before .before .before .before .before .before .before .before .before .before .before .before .before .before .before .args .out .now)) (c .before .before .before .before .before .before .before .before .before .before .before .before .before .before .before .before .before .before .before .args .s)))
 
 pub judge-spec : {M : Type 1} → statement M
 judge-spec =

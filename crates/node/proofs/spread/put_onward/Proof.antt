@@ -1,3 +1,8 @@
+-- `node::spread::put_onward` meets its contract.
+-- Assumes nothing.
+use Rattle.node.specs.Call.{onward}
+use Rattle.node.proofs.Sends.{onward-given}
+use Rattle.node.proofs.Outcomes.{sent-length, sent-never}
 use borrow.Author.Needs.{needs}
 use Rattle.node.proofs.spread.put_onward.Statement.{statement}
 use Rattle.node.proofs.spread.put_onward.Tie as tie
@@ -23,7 +28,7 @@ same-length c = search needs
 
 -- src/spread.rt:157:1
 returns : tie.Need-returns
-returns c = ?
+returns c = sent-length _ _ (onward (c .before .before .before .before .before .before .before .before .before .before .args .message .now) (c .before .before .before .before .before .before .before .before .before .before .args .s .objective)) (c .before .before .before .before .before .before .before .before .before .before .args .out .now) (c .before .before .before .before .before .lower .ensures .0) (c .before .before .before .before .before .lower .ensures .1) (onward-given (c .before .before .before .before .before .before .before .before .before .before .args .message .now) (c .before .before .before .before .before .before .before .before .before .before .args .out .now) (c .before .before .before .before .before .before .before .before .before .before .args .s) (λ i. c .before .before .before .before .before .before .before .before .before .shared-slice-known .given i .fits) (c .before .before .before .before .before .before .before .before .before .before .pre .1 .1) (c .before .before .before .before .before .before .before .before .before .before .pre .0) (c .before .before .before .before .before .before .before .before .before .before .pre .1 .0)) _ (c .before .sent .given .1)
 
 -- src/spread.rt:157:1
 same-length-2 : tie.Need-same-length-2
@@ -31,7 +36,7 @@ same-length-2 c = search needs
 
 -- src/spread.rt:157:1
 returns-2 : tie.Need-returns-2
-returns-2 c = ?
+returns-2 c = sent-never _ _ (onward (c .before .before .before .before .before .before .before .before .before .args .message .now) (c .before .before .before .before .before .before .before .before .before .args .s .objective)) (c .before .before .before .before .before .before .before .before .before .args .out .now) (c .before .before .before .before .lower .ensures .0) (c .before .before .before .before .lower .ensures .1) (onward-given (c .before .before .before .before .before .before .before .before .before .args .message .now) (c .before .before .before .before .before .before .before .before .before .args .out .now) (c .before .before .before .before .before .before .before .before .before .args .s) (λ i. c .before .before .before .before .before .before .before .before .shared-slice-known .given i .fits) (c .before .before .before .before .before .before .before .before .before .pre .1 .1) (c .before .before .before .before .before .before .before .before .before .pre .0) (c .before .before .before .before .before .before .before .before .before .pre .1 .0)) _ (c .enum-told .given .1)
 
 pub put-onward-spec : {M : Type 1} → statement M
 put-onward-spec =

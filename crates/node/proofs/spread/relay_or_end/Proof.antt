@@ -1,3 +1,11 @@
+-- `node::spread::relay_or_end` meets its contract.
+-- Assumes nothing.
+use mathlib.Core.Path.{refl, sym, _∙_}
+use mathlib.Core.List.{[]}
+use native.Mathlib.Omega.{arith}
+use Rattle.node.specs.Record.{others}
+use Rattle.node.specs.Call.{callOf}
+use Rattle.node.proofs.Outcomes.{last-outcome, nowhere-outcome, norow-outcome, relay-outcome}
 use borrow.Author.Needs.{needs}
 use Rattle.node.proofs.spread.relay_or_end.Statement.{statement}
 use Rattle.node.proofs.spread.relay_or_end.Tie as tie
@@ -16,7 +24,7 @@ quiet-requires c κs = search needs
 
 -- src/spread.rt:141:9
 returns : tie.Need-returns
-returns c = ?
+returns c = last-outcome (c .before .before .before .before .before .before .args .node) (c .before .before .before .before .before .before .args .table .now) (callOf (c .before .before .before .before .before .before .args .node .clock) (c .before .before .before .before .before .before .args .interface) [] (c .before .before .before .before .before .before .args .message .now) (c .before .before .before .before .before .before .args .out .now)) (c .before .before .before .before .before .before .args .s) _ (c .quiet .ensures) (c .before .if1 .taken)
 
 -- src/spread.rt:143:9
 others-requires : tie.Need-others-requires
@@ -28,7 +36,8 @@ quiet-requires-2 c κs = search needs
 
 -- src/spread.rt:145:9
 returns-2 : tie.Need-returns-2
-returns-2 c = ?
+unfolding others
+returns-2 c = nowhere-outcome (c .before .before .before .before .before .before .before .before .args .node) (c .before .before .before .before .before .before .before .before .args .table .now) (callOf (c .before .before .before .before .before .before .before .before .args .node .clock) (c .before .before .before .before .before .before .before .before .args .interface) [] (c .before .before .before .before .before .before .before .before .args .message .now) (c .before .before .before .before .before .before .before .before .args .out .now)) (c .before .before .before .before .before .before .before .before .args .s) (c .before .before .before .if1 .left) _ (c .quiet2 .ensures) (sym (c .before .before .others .ensures) ∙ c .before .if2 .taken)
 
 -- src/spread.rt:147:9
 lowest-free-requires : tie.Need-lowest-free-requires
@@ -44,7 +53,8 @@ same-length c = search needs
 
 -- src/spread.rt:149:9
 returns-3 : tie.Need-returns-3
-returns-3 c = ?
+unfolding others
+returns-3 c = norow-outcome (c .before .before .before .before .before .before .before .before .before .before .before .args .node) (c .before .before .before .before .before .before .before .before .before .before .before .args .table .now) (callOf (c .before .before .before .before .before .before .before .before .before .before .before .args .node .clock) (c .before .before .before .before .before .before .before .before .before .before .before .args .interface) [] (c .before .before .before .before .before .before .before .before .before .before .before .args .message .now) (c .before .before .before .before .before .before .before .before .before .before .before .args .out .now)) (c .before .before .before .before .before .before .before .before .before .before .before .args .s) (c .before .before .before .before .before .before .if1 .left) (λ e. c .before .before .before .before .if2 .left (c .before .before .before .before .before .others .ensures ∙ e)) _ (c .quiet3 .ensures) (omega (arith, c .before .before .lowest-free .ensures, c .before .if3 .taken))
 
 -- src/spread.rt:151:5
 put-row-requires : tie.Need-put-row-requires
@@ -68,7 +78,8 @@ same-length-3 c = search needs
 
 -- src/spread.rt:126:1
 returns-4 : tie.Need-returns-4
-returns-4 c = ?
+unfolding others
+returns-4 c = relay-outcome (c .before .before .before .before .before .before .before .before .before .before .before .before .before .before .before .before .before .before .before .args .node) (c .before .before .before .before .before .before .before .before .before .before .before .before .before .before .before .before .before .before .before .args .table .now) (callOf (c .before .before .before .before .before .before .before .before .before .before .before .before .before .before .before .before .before .before .before .args .node .clock) (c .before .before .before .before .before .before .before .before .before .before .before .before .before .before .before .before .before .before .before .args .interface) [] (c .before .before .before .before .before .before .before .before .before .before .before .before .before .before .before .before .before .before .before .args .message .now) (c .before .before .before .before .before .before .before .before .before .before .before .before .before .before .before .before .before .before .before .args .out .now)) (c .before .before .before .before .before .before .before .before .before .before .before .before .before .before .before .before .before .before .before .args .s) (c .before .before .before .before .before .before .before .before .before .before .before .before .before .before .if1 .left) (λ e. c .before .before .before .before .before .before .before .before .before .before .before .before .if2 .left (c .before .before .before .before .before .before .before .before .before .before .before .before .before .others .ensures ∙ e)) _ _ _ (rw (← (c .before .before .before .before .before .before .before .before .before .before .before .before .before .others .ensures), ← (c .before .before .before .put-onward .ensures .0)) (c .relayed .ensures)) (c .before .before .before .before .before .before .before .put-row .ensures ∙ rw (← (c .before .before .before .before .before .before .before .before .before .before .lowest-free .ensures), ← (c .before .before .before .before .before .before .before .before .before .before .before .before .before .before .before .before .before .before .before .pre .1 .1)) refl) (c .before .before .before .put-onward .ensures .1) (omega (arith, c .before .before .before .before .before .before .before .before .before .before .lowest-free .ensures, c .before .before .before .before .before .before .before .before .before .if3 .left))
 
 pub relay-or-end-spec : {M : Type 1} → statement M
 relay-or-end-spec =

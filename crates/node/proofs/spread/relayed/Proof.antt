@@ -1,3 +1,9 @@
+-- `node::spread::relayed` meets its contract.
+-- Assumes nothing.
+use mathlib.Core.Path.{refl}
+use native.Mathlib.Omega.{arith}
+use lib.Count.{ones-le}
+use Rattle.node.specs.Record.{tallied}
 use Rattle.node.proofs.spread.relayed.Statement.{statement}
 use Rattle.node.proofs.spread.relayed.Tie as tie
 use Rattle.node.proofs.spread.relayed.Reads as reads
@@ -5,15 +11,16 @@ use Rattle.node.proofs.spread.relayed.Lts as lts
 
 -- src/spread.rt:178:31
 cast-next : tie.Need-cast-next
-cast-next c = ?
+cast-next c = omega (arith, ones-le 8 (c .args .mask) (c .fits .mask .fits))
 
 -- src/spread.rt:178:18
 add-next : tie.Need-add-next
-add-next c = ?
+add-next c = omega (arith, ones-le 8 (c .before .args .mask) (c .before .fits .mask .fits), c .before .pre)
 
 -- src/spread.rt:173:1
 returns : tie.Need-returns
-returns c = ?
+unfolding tallied
+returns c = refl
 
 pub relayed-spec : {M : Type 1} → statement M
 relayed-spec = tie.close (tie.spec cast-next add-next returns)

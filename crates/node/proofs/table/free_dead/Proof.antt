@@ -1,3 +1,5 @@
+-- `node::table::free_dead` meets its contract. The loop's invariant: the rows passed are freed where they were dead.
+-- Assumes nothing.
 use mathlib.Core.Path.{_≡_, refl, sym, ap, _∙_}
 use mathlib.Core.Logic.{⊎-elim}
 use Prim.Native.Nat.{_-_, _≤_}

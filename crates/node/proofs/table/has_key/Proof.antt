@@ -1,3 +1,5 @@
+-- `node::table::has_key` meets its contract.
+-- Assumes nothing.
 use mathlib.Core.Path.{refl}
 use borrow.Author.Tests.{eq-eqb, ne-eqb}
 use Rattle.node.specs.Table.{cell, rowMatches}

@@ -1,3 +1,5 @@
+-- `node::table::is_bad` meets its contract. The loop's invariant: the search from here on finds what the whole search finds.
+-- Assumes nothing.
 use mathlib.Core.Path.{_≡_, refl, sym, _∙_}
 use Prim.Native.Nat.{_-_, _≤_}
 use native.Mathlib.Omega.{arith}

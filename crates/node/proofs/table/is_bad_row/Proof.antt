@@ -1,3 +1,5 @@
+-- `node::table::is_bad_row` meets its contract.
+-- Assumes nothing.
 use mathlib.Core.Path.{refl, sym, _∙_}
 use Rattle.node.specs.Table.{rowBad, rowUsed, cell}
 use Rattle.node.proofs.Rows.{later-bad}

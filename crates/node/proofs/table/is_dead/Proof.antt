@@ -1,3 +1,5 @@
+-- `node::table::is_dead` meets its contract.
+-- Assumes nothing.
 use mathlib.Core.Path.{refl, sym}
 use native.Mathlib.Omega.{arith}
 use Rattle.node.specs.Table.{cell, rowDead}

@@ -1,3 +1,5 @@
+-- `node::table::is_free` meets its contract.
+-- Assumes nothing.
 use mathlib.Core.Path.{refl}
 use borrow.Author.Tests.{eq-eqb, ne-eqb}
 use Rattle.node.specs.Table.{cell, rowFree}

@@ -1,3 +1,5 @@
+-- `node::table::tag_of` meets its contract.
+-- Assumes nothing.
 use mathlib.Core.Path.{refl}
 use Rattle.node.specs.Table.{tagIn}
 use Rattle.node.proofs.table.tag_of.Statement.{statement}

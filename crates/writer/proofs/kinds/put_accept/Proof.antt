@@ -1,6 +1,6 @@
 -- `writer::kinds::put_accept` meets its contract.
 -- Assumes nothing.
-use Rattle.writer.specs.Grasp.{encodeMsg}
+use Rattle.description.specs.Grasp.{encodeMsg}
 use Rattle.writer.proofs.Puts.{then}
 use borrow.Author.Needs.{needs}
 use Rattle.writer.proofs.kinds.put_accept.Statement.{statement}
@@ -10,23 +10,23 @@ use Rattle.writer.proofs.kinds.put_accept.Lts as lts
 use Rattle.writer.proofs.kinds.put_opening.Reads as put-opening-reads
 use Rattle.writer.proofs.put.head.Reads as head-reads
 
--- src/kinds.rt:151:9
+-- src/kinds.rt:132:9
 put-opening-requires : tie.Need-put-opening-requires
 put-opening-requires c κs = search needs
 
--- src/kinds.rt:152:9
+-- src/kinds.rt:133:9
 head-requires : tie.Need-head-requires
 head-requires c κs = search needs
 
--- src/kinds.rt:153:5
+-- src/kinds.rt:134:5
 head-requires-2 : tie.Need-head-requires-2
 head-requires-2 c κs = search needs
 
--- src/kinds.rt:148:1
+-- src/kinds.rt:129:1
 same-length : tie.Need-same-length
 same-length c = search needs
 
--- src/kinds.rt:148:1
+-- src/kinds.rt:129:1
 returns : tie.Need-returns
 unfolding encodeMsg
 returns c = then (then (c .before .before .before .before .before .before .before .before .before .before .put-opening .ensures) (c .before .before .before .before .before .before .head .ensures)) (c .before .before .head2 .ensures)

@@ -1,7 +1,7 @@
 -- `writer::kinds::put_extra` meets its contract.
 -- Assumes nothing.
-use Rattle.writer.specs.Grasp.{maybeObj}
-use Rattle.writer.specs.Describe.{extraOf}
+use Rattle.description.specs.Grasp.{maybeObj}
+use Rattle.description.specs.Describe.{extraOf}
 use Rattle.writer.proofs.Puts.{still}
 use borrow.Author.Needs.{needs}
 use Rattle.writer.proofs.kinds.put_extra.Statement.{statement}
@@ -10,28 +10,28 @@ use Rattle.writer.proofs.kinds.put_extra.Reads as reads
 use Rattle.writer.proofs.kinds.put_extra.Lts as lts
 use Rattle.writer.proofs.kinds.put_goal.Reads as put-goal-reads
 
--- src/kinds.rt:125:27
+-- src/kinds.rt:106:27
 enum-told : tie.Need-enum-told
 enum-told c = search needs
 
--- src/kinds.rt:126:21
+-- src/kinds.rt:107:21
 enum-known-extra : tie.Need-enum-known-extra
 enum-known-extra c = search needs
 
--- src/kinds.rt:126:27
+-- src/kinds.rt:107:27
 put-goal-requires : tie.Need-put-goal-requires
 put-goal-requires c κs = search needs
 
--- src/kinds.rt:121:1
+-- src/kinds.rt:102:1
 returns : tie.Need-returns
 unfolding maybeObj extraOf
 returns c = rw (c .enum-told .given .1) (still _ _)
 
--- src/kinds.rt:121:1
+-- src/kinds.rt:102:1
 same-length : tie.Need-same-length
 same-length c = search needs
 
--- src/kinds.rt:121:1
+-- src/kinds.rt:102:1
 returns-2 : tie.Need-returns-2
 unfolding maybeObj extraOf
 returns-2 c = rw (c .before .before .before .before .before .extra .given .1) (c .before .before .put-goal .ensures)

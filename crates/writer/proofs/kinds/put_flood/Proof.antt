@@ -1,6 +1,6 @@
 -- `writer::kinds::put_flood` meets its contract.
 -- Assumes nothing.
-use Rattle.writer.specs.Grasp.{encodeMsg}
+use Rattle.description.specs.Grasp.{encodeMsg}
 use Rattle.writer.proofs.Puts.{then}
 use Rattle.writer.proofs.Rows.{length-pairs}
 use borrow.Author.Needs.{needs}
@@ -13,31 +13,31 @@ use Rattle.writer.proofs.pair.put_pairs.Reads as put-pairs-reads
 use Rattle.writer.proofs.put.head.Reads as head-reads
 use Rattle.writer.proofs.put.part_string.Reads as part-string-reads
 
--- src/kinds.rt:191:30
+-- src/kinds.rt:172:30
 add-put-opening : tie.Need-add-put-opening
 add-put-opening c = search needs
 
--- src/kinds.rt:191:9
+-- src/kinds.rt:172:9
 put-opening-requires : tie.Need-put-opening-requires
 put-opening-requires c κs = search needs
 
--- src/kinds.rt:192:9
+-- src/kinds.rt:173:9
 part-string-requires : tie.Need-part-string-requires
 part-string-requires c κs = search needs
 
--- src/kinds.rt:193:9
+-- src/kinds.rt:174:9
 head-requires : tie.Need-head-requires
 head-requires c κs = search needs
 
--- src/kinds.rt:194:5
+-- src/kinds.rt:175:5
 put-pairs-requires : tie.Need-put-pairs-requires
 put-pairs-requires c κs = search needs
 
--- src/kinds.rt:180:1
+-- src/kinds.rt:161:1
 same-length : tie.Need-same-length
 same-length c = search needs
 
--- src/kinds.rt:180:1
+-- src/kinds.rt:161:1
 returns : tie.Need-returns
 unfolding encodeMsg
 returns c = rw (length-pairs) (then (then (then (c .before .before .before .before .before .before .before .before .before .before .before .before .before .before .put-opening .ensures) (c .before .before .before .before .before .before .before .before .before .before .part-string .ensures)) (c .before .before .before .before .before .before .head .ensures)) (c .before .before .put-pairs .ensures))

@@ -5,7 +5,7 @@ use Rattle.writer.proofs.kinds.put_goal.Statement.{statement}
 use Rattle.writer.proofs.kinds.put_goal.Tie as tie
 use Rattle.writer.proofs.kinds.put_goal.Reads as reads
 use Rattle.writer.proofs.kinds.put_goal.Lts as lts
-use Rattle.writer.proofs.objective.entry_of.Reads as entry-of-reads
+use Rattle.description.proofs.rows.entry_of.Reads as entry-of-reads
 use Rattle.writer.proofs.objective.put_entry.Reads as put-entry-reads
 
 -- src/kinds.rt:57:9

@@ -1,6 +1,6 @@
 -- `writer::kinds::put_message` meets its contract.
 -- Assumes nothing.
-use Rattle.writer.specs.Describe.{msgOf}
+use Rattle.description.specs.Describe.{msgOf}
 use borrow.Author.Needs.{needs}
 use Rattle.writer.proofs.kinds.put_message.Statement.{statement}
 use Rattle.writer.proofs.kinds.put_message.Tie as tie

@@ -1,6 +1,6 @@
 -- `writer::kinds::put_noop` meets its contract.
 -- Assumes nothing.
-use Rattle.writer.specs.Grasp.{encodeMsg}
+use Rattle.description.specs.Grasp.{encodeMsg}
 use Rattle.writer.proofs.Puts.{then}
 use borrow.Author.Needs.{needs}
 use Rattle.writer.proofs.kinds.put_noop.Statement.{statement}

@@ -1,6 +1,6 @@
 -- `writer::kinds::put_opening` meets its contract.
 -- Assumes nothing.
-use Rattle.writer.specs.Grasp.{opening}
+use Rattle.description.specs.Grasp.{opening}
 use Rattle.writer.proofs.Puts.{then}
 use borrow.Author.Needs.{needs}
 use Rattle.writer.proofs.kinds.put_opening.Statement.{statement}

@@ -1,6 +1,6 @@
 -- `writer::kinds::put_reason` meets its contract.
 -- Assumes nothing.
-use Rattle.writer.specs.Grasp.{encodeMsg, howMany, reason}
+use Rattle.description.specs.Grasp.{encodeMsg, howMany, reason}
 use Rattle.writer.proofs.Puts.{then}
 use borrow.Author.Needs.{needs}
 use Rattle.writer.proofs.kinds.put_reason.Statement.{statement}
@@ -11,27 +11,27 @@ use Rattle.writer.proofs.kinds.put_opening.Reads as put-opening-reads
 use Rattle.writer.proofs.put.head.Reads as head-reads
 use Rattle.writer.proofs.put.part_string.Reads as part-string-reads
 
--- src/kinds.rt:167:9
+-- src/kinds.rt:148:9
 put-opening-requires : tie.Need-put-opening-requires
 put-opening-requires c κs = search needs
 
--- src/kinds.rt:168:9
+-- src/kinds.rt:149:9
 head-requires : tie.Need-head-requires
 head-requires c κs = search needs
 
--- src/kinds.rt:169:9
+-- src/kinds.rt:150:9
 head-requires-2 : tie.Need-head-requires-2
 head-requires-2 c κs = search needs
 
--- src/kinds.rt:170:5
+-- src/kinds.rt:151:5
 part-string-requires : tie.Need-part-string-requires
 part-string-requires c κs = search needs
 
--- src/kinds.rt:164:1
+-- src/kinds.rt:145:1
 same-length : tie.Need-same-length
 same-length c = search needs
 
--- src/kinds.rt:164:1
+-- src/kinds.rt:145:1
 returns : tie.Need-returns
 unfolding encodeMsg howMany reason
 returns c = then (then (then (c .before .before .before .before .before .before .before .before .before .before .before .before .before .before .put-opening .ensures) (c .before .before .before .before .before .before .before .before .before .before .head .ensures)) (c .before .before .before .before .before .before .head2 .ensures)) (c .before .before .part-string .ensures)

@@ -1,6 +1,6 @@
 -- `writer::kinds::put_response` meets its contract.
 -- Assumes nothing.
-use Rattle.writer.specs.Grasp.{encodeMsg}
+use Rattle.description.specs.Grasp.{encodeMsg}
 use Rattle.writer.proofs.Puts.{then}
 use Rattle.writer.proofs.Rows.{targets-few, extra-few, targets-many, extra-many}
 use native.Mathlib.Omega.{arith}
@@ -9,11 +9,11 @@ use Rattle.writer.proofs.kinds.put_response.Statement.{statement}
 use Rattle.writer.proofs.kinds.put_response.Tie as tie
 use Rattle.writer.proofs.kinds.put_response.Reads as reads
 use Rattle.writer.proofs.kinds.put_response.Lts as lts
-use Rattle.writer.proofs.kinds.how_many.Reads as how-many-reads
+use Rattle.description.proofs.counts.how_many.Reads as how-many-reads
 use Rattle.writer.proofs.kinds.put_extra.Reads as put-extra-reads
 use Rattle.writer.proofs.kinds.put_opening.Reads as put-opening-reads
 use Rattle.writer.proofs.kinds.put_targets.Reads as put-targets-reads
-use Rattle.writer.proofs.kinds.target_items.Reads as target-items-reads
+use Rattle.description.proofs.counts.target_items.Reads as target-items-reads
 use Rattle.writer.proofs.put.head.Reads as head-reads
 use Rattle.writer.proofs.put.part_string.Reads as part-string-reads
 

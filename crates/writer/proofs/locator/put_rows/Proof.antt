@@ -5,7 +5,7 @@ use Prim.Native.Nat.{_≤_, _-_, _/_}
 use mathlib.Core.Path.{_≡_, refl}
 use lib.ListN.{length}
 use Rattle.writer.specs.Put.{Wrote}
-use Rattle.writer.specs.Describe.{placeRow}
+use Rattle.description.specs.Describe.{placeRow}
 use Rattle.writer.proofs.Rows.{firstLocs, locs-none, locs-turn, locs-done}
 use borrow.Author.Needs.{needs}
 use Rattle.writer.proofs.locator.put_rows.Statement.{statement}
@@ -20,31 +20,31 @@ Inv-loop out₀ at source list rows end₀ i₀ out end i = (i ≤ length list /
 abbrev μ-loop : tie.MeasureT-loop
 μ-loop out₀ at source list rows end₀ i₀ out end i = length list / placeRow - i
 
--- src/locator.rt:29:5
+-- src/locator.rt:20:5
 loop-holds : tie.Need-loop-holds Inv-loop μ-loop
 loop-holds c = (omega arith, refl, locs-none _ _ _ _)
 
--- src/locator.rt:30:9
+-- src/locator.rt:21:9
 put-row-requires : tie.Need-put-row-requires Inv-loop μ-loop
 put-row-requires c κs = omega arith
 
--- src/locator.rt:31:9
+-- src/locator.rt:22:9
 add-i : tie.Need-add-i Inv-loop μ-loop
 add-i c = omega arith
 
--- src/locator.rt:29:5
+-- src/locator.rt:20:5
 loop-less : tie.Need-loop-less Inv-loop μ-loop
 loop-less c = omega arith
 
--- src/locator.rt:29:5
+-- src/locator.rt:20:5
 loop-again : tie.Need-loop-again Inv-loop μ-loop
 loop-again c = (omega arith, search needs, locs-turn _ _ _ (c .before .before .before .before .before .loop .inv .2) (c .before .before .put-row .ensures))
 
--- src/locator.rt:23:1
+-- src/locator.rt:14:1
 same-length : tie.Need-same-length Inv-loop μ-loop
 same-length c = (c .before .loop .inv .1)
 
--- src/locator.rt:23:1
+-- src/locator.rt:14:1
 returns : tie.Need-returns Inv-loop μ-loop
 returns c = locs-done _ _ _ (c .before .loop .inv .0) (c .loop-test .left) (c .before .loop .inv .2)
 

@@ -5,7 +5,7 @@ use Prim.Native.Nat.{_≤_, _-_, _/_}
 use mathlib.Core.Path.{_≡_, refl}
 use lib.ListN.{length}
 use Rattle.writer.specs.Put.{Wrote}
-use Rattle.writer.specs.Describe.{pairRow}
+use Rattle.description.specs.Describe.{pairRow}
 use Rattle.writer.proofs.Rows.{firstPairs, pairs-none, pairs-turn, pairs-done}
 use borrow.Author.Needs.{needs}
 use Rattle.writer.proofs.pair.put_pairs.Statement.{statement}
@@ -20,31 +20,31 @@ Inv-loop out₀ at source list rows end₀ i₀ out end i = (i ≤ length list /
 abbrev μ-loop : tie.MeasureT-loop
 μ-loop out₀ at source list rows end₀ i₀ out end i = length list / pairRow - i
 
--- src/pair.rt:24:5
+-- src/pair.rt:22:5
 loop-holds : tie.Need-loop-holds Inv-loop μ-loop
 loop-holds c = (omega arith, refl, pairs-none _ _ _ _)
 
--- src/pair.rt:25:9
+-- src/pair.rt:23:9
 put-pair-requires : tie.Need-put-pair-requires Inv-loop μ-loop
 put-pair-requires c κs = omega arith
 
--- src/pair.rt:26:9
+-- src/pair.rt:24:9
 add-i : tie.Need-add-i Inv-loop μ-loop
 add-i c = omega arith
 
--- src/pair.rt:24:5
+-- src/pair.rt:22:5
 loop-less : tie.Need-loop-less Inv-loop μ-loop
 loop-less c = omega arith
 
--- src/pair.rt:24:5
+-- src/pair.rt:22:5
 loop-again : tie.Need-loop-again Inv-loop μ-loop
 loop-again c = (omega arith, search needs, pairs-turn _ _ _ (c .before .before .before .before .before .loop .inv .2) (c .before .before .put-pair .ensures))
 
--- src/pair.rt:18:1
+-- src/pair.rt:16:1
 same-length : tie.Need-same-length Inv-loop μ-loop
 same-length c = (c .before .loop .inv .1)
 
--- src/pair.rt:18:1
+-- src/pair.rt:16:1
 returns : tie.Need-returns Inv-loop μ-loop
 returns c = pairs-done _ _ _ (c .before .loop .inv .0) (c .loop-test .left) (c .before .loop .inv .2)
 

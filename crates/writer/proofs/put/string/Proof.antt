@@ -1,6 +1,6 @@
 -- `writer::put::string` meets its contract.
 -- Assumes nothing.
-use Rattle.writer.specs.Grasp.{string}
+use Rattle.description.specs.Grasp.{string}
 use Rattle.writer.proofs.Puts.{then}
 use borrow.Author.Needs.{needs}
 use Rattle.writer.proofs.put.string.Statement.{statement}

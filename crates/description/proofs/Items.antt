@@ -1,0 +1,29 @@
+-- How many items the parts of a description are.
+-- Assumes nothing.
+use Prim.Native.Nat.{ℕ, zero, suc, _+_, _/_}
+use mathlib.Core.Path.{_≡_, refl, sym, ap, _∙_}
+use mathlib.Core.Bool.{false}
+use mathlib.Core.List.{List, [], _∷_}
+use native.Mathlib.Omega.{arith}
+use lib.ListN.{length, length-append}
+use Rattle.description.specs.Grasp.{oneMore, targetItems}
+use Rattle.description.specs.Describe.{placeRow, upTo, locsOf, targetsOf}
+
+pub length-up : {A : Type 0} (f : ℕ → A) (n : ℕ) → length (upTo f n) ≡ n
+unfolding upTo
+length-up f zero = refl
+length-up f (suc n) = length-append (upTo f n) (f n ∷ []) ∙ ap (λ (k : ℕ). k + 1) (length-up f n) ∙ omega arith
+
+pub rows-many : (list : List ℕ) → length list / placeRow ≡ targetItems (targetsOf [] list false)
+unfolding targetsOf targetItems locsOf
+rows-many list = sym (length-up _ _)
+
+pub more-none : (bs : List ℕ) (n : ℕ) → n ≡ length bs → n ≡ 0 → 0 ≡ oneMore bs
+unfolding oneMore
+more-none [] n e h = refl
+more-none (x ∷ bs) n e h = absurd (omega (arith, e, h))
+
+pub more-one : (bs : List ℕ) (n : ℕ) → n ≡ length bs → (n ≡ 0 → ⊥) → 1 ≡ oneMore bs
+unfolding oneMore
+more-one [] n e h = absurd (h e)
+more-one (x ∷ bs) n e h = refl

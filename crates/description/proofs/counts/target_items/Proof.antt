@@ -1,0 +1,22 @@
+-- `description::counts::target_items` meets its contract.
+-- Assumes nothing.
+use Rattle.description.specs.Grasp.{targetItems}
+use Rattle.description.specs.Describe.{targetsOf}
+use Rattle.description.proofs.Items.{rows-many}
+use mathlib.Core.Path.{refl}
+use Rattle.description.proofs.counts.target_items.Statement.{statement}
+use Rattle.description.proofs.counts.target_items.Tie as tie
+use Rattle.description.proofs.counts.target_items.Reads as reads
+use Rattle.description.proofs.counts.target_items.Lts as lts
+
+-- src/counts.rt:-12:9
+returns : tie.Need-returns
+unfolding targetItems targetsOf
+returns c = rw (c .if1 .taken) refl
+
+-- src/counts.rt:-16:1
+returns-2 : tie.Need-returns-2
+returns-2 c = rw (c .if1 .left) (rows-many _)
+
+pub target-items-spec : {M : Type 1} → statement M
+target-items-spec = tie.close (tie.spec returns returns-2)

@@ -1,0 +1,21 @@
+-- `description::judge::is_inside` meets its contract.
+-- Assumes nothing.
+use Rattle.description.specs.Judge.{inside}
+use borrow.Author.Needs.{needs}
+use Rattle.description.proofs.judge.is_inside.Statement.{statement}
+use Rattle.description.proofs.judge.is_inside.Tie as tie
+use Rattle.description.proofs.judge.is_inside.Reads as reads
+use Rattle.description.proofs.judge.is_inside.Lts as lts
+use Rattle.description.proofs.spans.covered.Reads as covered-reads
+
+-- src/judge.rt:251:5
+covered-requires : tie.Need-covered-requires
+covered-requires c κs = search needs
+
+-- src/judge.rt:248:1
+returns : tie.Need-returns
+unfolding inside
+returns c = rw (c .before .covered .ensures)
+
+pub is-inside-spec : {M : Type 1} → statement M
+is-inside-spec = tie.close (tie.spec covered-requires returns)

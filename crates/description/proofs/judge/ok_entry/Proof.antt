@@ -1,0 +1,32 @@
+-- `description::judge::ok_entry` meets its contract.
+-- Assumes nothing.
+use Rattle.description.specs.Judge.{okEntry}
+use Rattle.base.specs.Pick.{pick}
+use borrow.Author.Needs.{needs}
+use Rattle.description.proofs.judge.ok_entry.Statement.{statement}
+use Rattle.description.proofs.judge.ok_entry.Tie as tie
+use Rattle.description.proofs.judge.ok_entry.Reads as reads
+use Rattle.description.proofs.judge.ok_entry.Lts as lts
+use Rattle.description.proofs.judge.is_inside.Reads as is-inside-reads
+use Rattle.description.proofs.judge.ok_item.Reads as ok-item-reads
+
+-- src/judge.rt:232:8
+is-inside-requires : tie.Need-is-inside-requires
+is-inside-requires c κs = search needs
+
+-- src/judge.rt:233:9
+ok-item-requires : tie.Need-ok-item-requires
+ok-item-requires c κs = search needs
+
+-- src/judge.rt:233:9
+returns : tie.Need-returns
+unfolding okEntry pick
+returns c = rw (← (c .before .before .is-inside .ensures), (c .before .if1 .taken)) (c .ok-item .ensures)
+
+-- src/judge.rt:229:1
+returns-2 : tie.Need-returns-2
+unfolding okEntry pick
+returns-2 c = rw (← (c .before .is-inside .ensures), (c .if1 .left))
+
+pub ok-entry-spec : {M : Type 1} → statement M
+ok-entry-spec = tie.close (tie.spec is-inside-requires ok-item-requires returns returns-2)

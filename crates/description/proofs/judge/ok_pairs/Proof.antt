@@ -1,0 +1,68 @@
+-- `description::judge::ok_pairs` meets its contract.
+-- Assumes nothing.
+use native.Mathlib.Omega.{arith}
+use Prim.Native.Nat.{_≤_, _-_, _/_}
+use mathlib.Core.Path.{_≡_, sym, _∙_}
+use lib.ListN.{length}
+use borrow.Author.Tests.{not-true, not-false}
+use Rattle.description.specs.Describe.{pairRow}
+use Rattle.description.specs.Judge.{allFrom, okPair, okPairs}
+use Rattle.description.proofs.Verdicts.{all-step, all-stop, all-end, pairs-start, pairs-bad}
+use Rattle.description.proofs.judge.ok_pairs.Statement.{statement}
+use Rattle.description.proofs.judge.ok_pairs.Tie as tie
+use Rattle.description.proofs.judge.ok_pairs.Reads as reads
+use Rattle.description.proofs.judge.ok_pairs.Lts as lts
+use Rattle.description.proofs.judge.ok_pair.Reads as ok-pair-reads
+
+abbrev Inv-loop : tie.InvT-loop
+Inv-loop source list rows i₀ i = (i ≤ length list / pairRow) × (allFrom (okPair source list) (length list / pairRow - i) i ≡ okPairs source list)
+
+abbrev μ-loop : tie.MeasureT-loop
+μ-loop source list rows i₀ i = length list / pairRow - i
+
+-- src/judge.rt:155:9
+returns : tie.Need-returns Inv-loop μ-loop
+returns c = pairs-bad _ _ (c .if1 .taken)
+
+-- src/judge.rt:159:5
+loop-holds : tie.Need-loop-holds Inv-loop μ-loop
+loop-holds c = (omega arith, pairs-start _ _ (c .if1 .left))
+
+-- src/judge.rt:160:13
+ok-pair-requires : tie.Need-ok-pair-requires Inv-loop μ-loop
+ok-pair-requires c κs = omega arith
+
+-- src/judge.rt:161:13
+returns-2 : tie.Need-returns-2 Inv-loop μ-loop
+returns-2 c = sym (all-stop _ _ _ (c .before .before .loop-test .taken) (sym (c .before .ok-pair .ensures) ∙ not-true _ (c .if2 .taken))) ∙ (c .before .before .before .loop .inv .1)
+
+-- src/judge.rt:163:9
+add-i : tie.Need-add-i Inv-loop μ-loop
+add-i c = omega arith
+
+-- src/judge.rt:159:5
+loop-less : tie.Need-loop-less Inv-loop μ-loop
+loop-less c = omega arith
+
+-- src/judge.rt:159:5
+loop-again : tie.Need-loop-again Inv-loop μ-loop
+loop-again c = (omega arith, sym (all-step _ _ _ (c .before .before .loop-test .taken) (sym (c .before .ok-pair .ensures) ∙ not-false _ (c .if2 .left))) ∙ (c .before .before .before .loop .inv .1))
+
+-- src/judge.rt:151:1
+returns-3 : tie.Need-returns-3 Inv-loop μ-loop
+returns-3 c = sym (all-end _ _ _ (c .loop-test .left)) ∙ (c .before .loop .inv .1)
+
+pub ok-pairs-spec : {M : Type 1} → statement M
+ok-pairs-spec =
+    tie.close
+    (tie.spec
+    Inv-loop
+    μ-loop
+    returns
+    loop-holds
+    ok-pair-requires
+    returns-2
+    add-i
+    loop-less
+    loop-again
+    returns-3)

@@ -1,0 +1,120 @@
+-- Which message a description over a source and a list of rows speaks of. Total: what lies outside the source is left out; the judge
+-- (`specs/Judge.antt`) refuses such descriptions.
+use Prim.Native.Nat.{ℕ, zero, suc, _+_, _*_, _/_}
+use mathlib.Core.Bool.{Bool, true, false}
+use mathlib.Core.List.{List, [], _∷_, _++_}
+use lib.ListN.{length, take, drop, getD}
+use lib.Dec.{eqb}
+use Rattle.base.specs.Pick.{pick}
+use Rattle.options.specs.declared.Span.{Span}
+use Rattle.description.specs.declared.Goal.{Goal}
+use Rattle.description.specs.declared.rows.Entry.{Entry}
+use Rattle.description.specs.declared.rows.Place.{Place}
+use Rattle.description.specs.declared.Extra.{Extra}
+use Rattle.description.specs.declared.Extra.the-variants as X
+use Rattle.description.specs.declared.Ending.{Ending}
+use Rattle.description.specs.declared.Ending.the-variants as E
+use Rattle.description.specs.declared.Description.{Description}
+use Rattle.description.specs.declared.Description.the-variants as D
+use Rattle.description.specs.Grasp.{Maybe, Loc, Obj, Pair, Targets, Msg}
+
+-- how many numbers a row has: a locator's, a pair's, and a pair's before its locator
+abbrev pub placeRow : ℕ
+placeRow = 5
+
+abbrev pub pairRow : ℕ
+pairRow = 12
+
+abbrev pub entryRow : ℕ
+entryRow = 7
+
+-- the first n of f 0, f 1, ..
+unfoldable pub upTo : {A : Type 0} → (ℕ → A) → ℕ → List A
+upTo f zero = []
+upTo f (suc n) = upTo f n ++ (f n ∷ [])
+
+-- the bytes of the source that a span covers
+unfoldable pub cut : List ℕ → Span → List ℕ
+cut source s = take (s .len) (drop (s .at) source)
+
+-- an objective in the numbers of a row
+unfoldable pub entryOf : Goal → Entry
+entryOf o = record { name = o .name; flags = o .flags; count = o .count; value = o .value }
+
+unfoldable pub objOf : List ℕ → Entry → Obj
+objOf source o = record { name = cut source (o .name); flags = o .flags; count = o .count; value = cut source (o .value) }
+
+-- a number, or null where it is the one that stands for null
+unfoldable pub orNull : ℕ → ℕ → Maybe ℕ
+orNull null n = pick (eqb n null) Maybe.none (Maybe.some n)
+
+-- protocol 0 and port 65,536 stand for null in a URI
+unfoldable pub locOf : List ℕ → Place → Loc
+locOf source p =
+    pick (eqb (p .kind) 103) (Loc.v6 (cut source (p .content)) (p .protocol) (p .port))
+    (pick (eqb (p .kind) 104) (Loc.v4 (cut source (p .content)) (p .protocol) (p .port))
+    (pick (eqb (p .kind) 105) (Loc.domain (cut source (p .content)) (p .protocol) (p .port))
+    (Loc.uri (cut source (p .content)) (orNull 0 (p .protocol)) (orNull 65536 (p .port)))))
+
+-- a locator in five numbers, from place k on: kind, place and length of its address or text, protocol, port
+unfoldable pub placeAt : List ℕ → ℕ → Place
+placeAt list k =
+    record {
+      kind = getD list k 0;
+      content = record { at = getD list (k + 1) 0; len = getD list (k + 2) 0 };
+      protocol = getD list (k + 3) 0;
+      port = getD list (k + 4) 0;
+    }
+
+unfoldable pub rowLoc : List ℕ → List ℕ → ℕ → Loc
+rowLoc source list i = locOf source (placeAt list (placeRow * i))
+
+unfoldable pub locsOf : List ℕ → List ℕ → List Loc
+locsOf source list = upTo (rowLoc source list) (length list / placeRow)
+
+unfoldable pub targetsOf : List ℕ → List ℕ → Bool → Targets
+targetsOf source list true = Targets.divert (locsOf source list)
+targetsOf source list false = Targets.locators (locsOf source list)
+
+unfoldable pub extraOf : List ℕ → Extra → Maybe Obj
+extraOf source X.Without = Maybe.none
+extraOf source (X.With o) = Maybe.some (objOf source (entryOf o))
+
+-- an objective in seven numbers, from place k on: place and length of its name, flags, count, 0, place and length of its value
+unfoldable pub entryAt : List ℕ → ℕ → Entry
+entryAt list k =
+    record {
+      name = record { at = getD list k 0; len = getD list (k + 1) 0 };
+      flags = getD list (k + 2) 0;
+      count = getD list (k + 3) 0;
+      value = record { at = getD list (k + 5) 0; len = getD list (k + 6) 0 };
+    }
+
+-- no locator where its kind is 0
+unfoldable pub locOrNone : List ℕ → Place → Maybe Loc
+locOrNone source p = pick (eqb (p .kind) 0) Maybe.none (Maybe.some (locOf source p))
+
+unfoldable pub rowPair : List ℕ → List ℕ → ℕ → Pair
+rowPair source list i =
+    record { objective = objOf source (entryAt list (pairRow * i)); locator = locOrNone source (placeAt list (pairRow * i + entryRow)) }
+
+unfoldable pub pairsOf : List ℕ → List ℕ → List Pair
+pairsOf source list = upTo (rowPair source list) (length list / pairRow)
+
+unfoldable pub endOf : List ℕ → ℕ → Ending → Msg
+endOf source session E.Accept = Msg.accept session
+endOf source session E.Decline = Msg.decline session Maybe.none
+endOf source session (E.Reason t) = Msg.decline session (Maybe.some (cut source t))
+
+unfoldable pub msgOf : List ℕ → List ℕ → Description → Msg
+msgOf source list D.Noop = Msg.noop
+msgOf source list (D.Discovery s i o) = Msg.discovery s (cut source i) (objOf source (entryOf o))
+msgOf source list (D.Response s i t d o) = Msg.response s (cut source i) t (targetsOf source list d) (extraOf source o)
+msgOf source list (D.RequestNegotiation s o) = Msg.exchange 3 s (objOf source (entryOf o))
+msgOf source list (D.RequestSynchronization s o) = Msg.exchange 4 s (objOf source (entryOf o))
+msgOf source list (D.Negotiate s o) = Msg.exchange 5 s (objOf source (entryOf o))
+msgOf source list (D.End s e) = endOf source s e
+msgOf source list (D.Wait s t) = Msg.wait s t
+msgOf source list (D.Synch s o) = Msg.exchange 8 s (objOf source (entryOf o))
+msgOf source list (D.Flood s i t) = Msg.flood s (cut source i) t (pairsOf source list)
+msgOf source list (D.Invalid s v) = Msg.invalid s (cut source v)

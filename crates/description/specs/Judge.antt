@@ -1,0 +1,126 @@
+-- Which descriptions speak of a message: every span lies in the source, rows are whole and of known kinds, each value is one item by
+-- itself, and a list is given only where the kind has one. All else is for the reader to judge.
+use Prim.Native.Nat.{ℕ, zero, suc, _+_, _*_, _/_, _%_}
+use mathlib.Core.Bool.{Bool, true, false}
+use mathlib.Core.List.{List}
+use lib.ListN.{length, getD}
+use lib.Dec.{ltb, eqb}
+use Rattle.base.specs.Pick.{pick}
+use Rattle.cbor.specs.declared.item.ItemRead.{ItemRead}
+use Rattle.cbor.specs.Item.{firstItem}
+use Rattle.options.specs.declared.Span.{Span}
+use Rattle.description.specs.declared.rows.Entry.{Entry}
+use Rattle.description.specs.declared.rows.Place.{Place}
+use Rattle.description.specs.declared.Extra.{Extra}
+use Rattle.description.specs.declared.Extra.the-variants as X
+use Rattle.description.specs.declared.Ending.{Ending}
+use Rattle.description.specs.declared.Ending.the-variants as E
+use Rattle.description.specs.declared.Description.{Description}
+use Rattle.description.specs.declared.Description.the-variants as D
+use Rattle.description.specs.Describe.{placeRow, pairRow, entryRow, cut, entryOf, placeAt, entryAt}
+
+-- the bytes are one item and nothing else
+unfoldable pub alone : ℕ → ItemRead → Bool
+alone n (ItemRead.Refused number place) = false
+alone n (ItemRead.Ends end) = eqb end n
+
+unfoldable pub whole : List ℕ → Bool
+whole bs = alone (length bs) (firstItem 0 bs)
+
+unfoldable pub inside : List ℕ → Span → Bool
+inside source s = eqb (length (cut source s)) (s .len)
+
+-- no bytes, or one item
+unfoldable pub okValue : List ℕ → Bool
+okValue bs = pick (eqb (length bs) 0) true (whole bs)
+
+unfoldable pub okItem : List ℕ → Span → Bool
+okItem source v = pick (inside source v) (okValue (cut source v)) false
+
+unfoldable pub okEntry : List ℕ → Entry → Bool
+okEntry source o = pick (inside source (o .name)) (okItem source (o .value)) false
+
+unfoldable pub okPlace : List ℕ → Place → Bool
+okPlace source p = pick (ltb (p .kind) 103) false (pick (ltb 106 (p .kind)) false (inside source (p .content)))
+
+-- five zeros, where the first is one
+unfoldable pub blank : Place → Bool
+blank p =
+    pick (eqb (p .content .at) 0) (pick (eqb (p .content .len) 0) (pick (eqb (p .protocol) 0) (eqb (p .port) 0) false) false) false
+
+unfoldable pub okNoneOr : List ℕ → Place → Bool
+okNoneOr source p = pick (eqb (p .kind) 0) (blank p) (okPlace source p)
+
+-- p of i, i + 1, .., n of them
+unfoldable pub allFrom : (ℕ → Bool) → ℕ → ℕ → Bool
+allFrom p zero i = true
+allFrom p (suc n) i = pick (p i) (allFrom p n (suc i)) false
+
+unfoldable pub okRow : List ℕ → List ℕ → ℕ → Bool
+okRow source list i = okPlace source (placeAt list (placeRow * i))
+
+unfoldable pub okRows : List ℕ → List ℕ → Bool
+okRows source list = pick (eqb (length list % placeRow) 0) (allFrom (okRow source list) (length list / placeRow) 0) false
+
+-- the number between the count and the value is kept for later, and 0
+unfoldable pub okPair : List ℕ → List ℕ → ℕ → Bool
+okPair source list i =
+    pick (eqb (getD list (pairRow * i + 4) 0) 0)
+    (pick (okEntry source (entryAt list (pairRow * i))) (okNoneOr source (placeAt list (pairRow * i + entryRow))) false)
+    false
+
+unfoldable pub okPairs : List ℕ → List ℕ → Bool
+okPairs source list = pick (eqb (length list % pairRow) 0) (allFrom (okPair source list) (length list / pairRow) 0) false
+
+unfoldable pub okExtra : List ℕ → Extra → Bool
+okExtra source X.Without = true
+okExtra source (X.With o) = okEntry source (entryOf o)
+
+unfoldable pub okEnding : List ℕ → Ending → Bool
+okEnding source E.Accept = true
+okEnding source E.Decline = true
+okEnding source (E.Reason t) = inside source t
+
+unfoldable pub okDiscovery : List ℕ → Span → Entry → Bool
+okDiscovery source i o = pick (inside source i) (okEntry source o) false
+
+unfoldable pub okResponse : List ℕ → List ℕ → Span → Extra → Bool
+okResponse source list i o = pick (inside source i) (pick (okRows source list) (okExtra source o) false) false
+
+unfoldable pub okFlood : List ℕ → List ℕ → Span → Bool
+okFlood source list i = pick (inside source i) (okPairs source list) false
+
+-- what the description holds
+unfoldable pub okParts : List ℕ → List ℕ → Description → Bool
+okParts source list D.Noop = true
+okParts source list (D.Discovery s i o) = okDiscovery source i (entryOf o)
+okParts source list (D.Response s i t d o) = okResponse source list i o
+okParts source list (D.RequestNegotiation s o) = okEntry source (entryOf o)
+okParts source list (D.RequestSynchronization s o) = okEntry source (entryOf o)
+okParts source list (D.Negotiate s o) = okEntry source (entryOf o)
+okParts source list (D.End s e) = okEnding source e
+okParts source list (D.Wait s t) = true
+okParts source list (D.Synch s o) = okEntry source (entryOf o)
+okParts source list (D.Flood s i t) = okFlood source list i
+okParts source list (D.Invalid s v) = okItem source v
+
+-- whether the kind has a list
+unfoldable pub hasList : Description → Bool
+hasList D.Noop = false
+hasList (D.Discovery s i o) = false
+hasList (D.Response s i t d o) = true
+hasList (D.RequestNegotiation s o) = false
+hasList (D.RequestSynchronization s o) = false
+hasList (D.Negotiate s o) = false
+hasList (D.End s e) = false
+hasList (D.Wait s t) = false
+hasList (D.Synch s o) = false
+hasList (D.Flood s i t) = true
+hasList (D.Invalid s v) = false
+
+unfoldable pub okList : List ℕ → Description → Bool
+okList list m = pick (hasList m) true (eqb (length list) 0)
+
+-- the description by itself
+unfoldable pub okDescribed : List ℕ → List ℕ → Description → Bool
+okDescribed source list m = pick (okList list m) (okParts source list m) false

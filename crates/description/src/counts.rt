@@ -1,0 +1,39 @@
+// How many items of an array the parts of a description are.
+ghost use mathlib.Core.Path.{_≡_};
+ghost use mathlib.Core.List.{[]};
+ghost use Rattle.description.specs.Grasp.{oneMore, howMany, targetItems};
+ghost use Rattle.description.specs.Describe.{cut, targetsOf, extraOf};
+use crate::Extra;
+use crate::rows::PLACE_ROW;
+use crate::spans;
+use options::Span;
+
+// How many items of a Response its locators are, or its divert is.
+pub fn target_items(list: &[u64], divert: bool) -> u64
+    ensures { λ r. ⌜ r ≡ targetItems (targetsOf [] (now (list .entry)) divert) ⌝ }
+{
+    if divert {
+        return 1;
+    }
+    (list.len() / PLACE_ROW) as u64
+}
+
+// 1 for an objective that is there, else 0.
+pub fn how_many(extra: Extra) -> u64
+    ensures { λ r. ⌜ r ≡ howMany (extraOf [] extra) ⌝ }
+{
+    match extra {
+        Extra::Without => 0,
+        Extra::With(_) => 1,
+    }
+}
+
+// 1 for a span that covers something, else 0.
+pub fn one_more(source: &[u8], s: Span) -> u64
+    ensures { λ r. ⌜ r ≡ oneMore (cut (now (source .entry)) s) ⌝ }
+{
+    if spans::covered(source, s) == 0 {
+        return 0;
+    }
+    1
+}

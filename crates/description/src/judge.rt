@@ -1,0 +1,296 @@
+// The description judged by itself.
+ghost use mathlib.Core.Path.{_≡_};
+ghost use Prim.Native.Nat.{_+_, _*_, _≤_};
+ghost use lib.ListN.{length};
+ghost use Rattle.description.specs.Describe.{placeRow, pairRow, cut, entryOf};
+ghost use Rattle.description.specs.Judge.{whole, inside, okValue, okItem, okEntry, okPlace, blank, okNoneOr, okRow, okRows, okPair, okPairs, okExtra, okEnding, okDiscovery, okResponse, okFlood, okParts, hasList, okList, okDescribed};
+use crate::Description;
+use crate::Ending;
+use crate::Extra;
+use crate::Goal;
+use crate::rows;
+use crate::rows::ENTRY_ROW;
+use crate::rows::Entry;
+use crate::rows::PAIR_ROW;
+use crate::rows::PLACE_ROW;
+use crate::rows::Place;
+use crate::spans;
+use cbor::item;
+use cbor::item::ItemRead;
+use options::Span;
+
+// Whether the description speaks of a message: a list only where the kind has one, and all its parts in order.
+pub fn ok_described(source: &[u8], list: &[u64], m: Description) -> bool
+    ensures { λ r. ⌜ r ≡ okDescribed (now (source .entry)) (now (list .entry)) m ⌝ }
+{
+    if ok_list(list, m) {
+        return ok_parts(source, list, m);
+    }
+    false
+}
+
+fn ok_list(list: &[u64], m: Description) -> bool
+    ensures { λ r. ⌜ r ≡ okList (now (list .entry)) m ⌝ }
+{
+    if has_list(m) {
+        return true;
+    }
+    list.len() == 0
+}
+
+fn has_list(m: Description) -> bool
+    ensures { λ r. ⌜ r ≡ hasList m ⌝ }
+{
+    match m {
+        Description::Noop => false,
+        Description::Discovery { .. } => false,
+        Description::Response { .. } => true,
+        Description::RequestNegotiation { .. } => false,
+        Description::RequestSynchronization { .. } => false,
+        Description::Negotiate { .. } => false,
+        Description::End { .. } => false,
+        Description::Wait { .. } => false,
+        Description::Synch { .. } => false,
+        Description::Flood { .. } => true,
+        Description::Invalid { .. } => false,
+    }
+}
+
+fn ok_parts(source: &[u8], list: &[u64], m: Description) -> bool
+    ensures { λ r. ⌜ r ≡ okParts (now (source .entry)) (now (list .entry)) m ⌝ }
+{
+    match m {
+        Description::Noop => true,
+        Description::Discovery {
+            initiator,
+            objective,
+            ..
+        } => ok_discovery(source, initiator, objective),
+        Description::Response {
+            initiator,
+            extra,
+            ..
+        } => ok_response(source, list, initiator, extra),
+        Description::RequestNegotiation { objective, .. } => ok_goal(source, objective),
+        Description::RequestSynchronization { objective, .. } => ok_goal(source, objective),
+        Description::Negotiate { objective, .. } => ok_goal(source, objective),
+        Description::End { ending, .. } => ok_ending(source, ending),
+        Description::Wait { .. } => true,
+        Description::Synch { objective, .. } => ok_goal(source, objective),
+        Description::Flood { initiator, .. } => ok_flood(source, list, initiator),
+        Description::Invalid { item, .. } => ok_item(source, item),
+    }
+}
+
+fn ok_discovery(source: &[u8], initiator: Span, o: Goal) -> bool
+    ensures { λ r. ⌜ r ≡ okDiscovery (now (source .entry)) initiator (entryOf o) ⌝ }
+{
+    if is_inside(source, initiator) {
+        return ok_goal(source, o);
+    }
+    false
+}
+
+fn ok_response(source: &[u8], list: &[u64], initiator: Span, extra: Extra) -> bool
+    ensures { λ r. ⌜ r ≡ okResponse (now (source .entry)) (now (list .entry)) initiator extra ⌝ }
+{
+    if is_inside(source, initiator) {
+        if ok_rows(source, list) {
+            return ok_extra(source, extra);
+        }
+        return false;
+    }
+    false
+}
+
+fn ok_extra(source: &[u8], extra: Extra) -> bool
+    ensures { λ r. ⌜ r ≡ okExtra (now (source .entry)) extra ⌝ }
+{
+    match extra {
+        Extra::Without => true,
+        Extra::With(o) => ok_goal(source, o),
+    }
+}
+
+fn ok_ending(source: &[u8], ending: Ending) -> bool
+    ensures { λ r. ⌜ r ≡ okEnding (now (source .entry)) ending ⌝ }
+{
+    match ending {
+        Ending::Accept => true,
+        Ending::Decline => true,
+        Ending::Reason(text) => is_inside(source, text),
+    }
+}
+
+fn ok_flood(source: &[u8], list: &[u64], initiator: Span) -> bool
+    ensures { λ r. ⌜ r ≡ okFlood (now (source .entry)) (now (list .entry)) initiator ⌝ }
+{
+    if is_inside(source, initiator) {
+        return ok_pairs(source, list);
+    }
+    false
+}
+
+fn ok_rows(source: &[u8], list: &[u64]) -> bool
+    ensures { λ r. ⌜ r ≡ okRows (now (source .entry)) (now (list .entry)) ⌝ }
+{
+    if list.len() % PLACE_ROW != 0 {
+        return false;
+    }
+    let rows = list.len() / PLACE_ROW;
+    let mut i: usize = 0;
+    while i < rows {
+        if !ok_row(source, list, i) {
+            return false;
+        }
+        i += 1;
+    }
+    true
+}
+
+fn ok_row(source: &[u8], list: &[u64], i: usize) -> bool
+    requires { ⌜ placeRow * i + placeRow ≤ length (now list) ⌝ }
+    ensures { λ r. ⌜ r ≡ okRow (now (source .entry)) (now (list .entry)) i ⌝ }
+{
+    let p = rows::place_at(list, PLACE_ROW * i);
+    ok_place(source, p)
+}
+
+fn ok_pairs(source: &[u8], list: &[u64]) -> bool
+    ensures { λ r. ⌜ r ≡ okPairs (now (source .entry)) (now (list .entry)) ⌝ }
+{
+    if list.len() % PAIR_ROW != 0 {
+        return false;
+    }
+    let rows = list.len() / PAIR_ROW;
+    let mut i: usize = 0;
+    while i < rows {
+        if !ok_pair(source, list, i) {
+            return false;
+        }
+        i += 1;
+    }
+    true
+}
+
+fn ok_pair(source: &[u8], list: &[u64], i: usize) -> bool
+    requires { ⌜ pairRow * i + pairRow ≤ length (now list) ⌝ }
+    ensures { λ r. ⌜ r ≡ okPair (now (source .entry)) (now (list .entry)) i ⌝ }
+{
+    if list[PAIR_ROW * i + 4] != 0 {
+        return false;
+    }
+    let o = rows::entry_at(list, PAIR_ROW * i);
+    let p = rows::place_at(list, PAIR_ROW * i + ENTRY_ROW);
+    if ok_entry(source, o) {
+        return ok_none_or(source, p);
+    }
+    false
+}
+
+// A pair's locator: none, which is five zeros, or one of a known kind.
+fn ok_none_or(source: &[u8], p: Place) -> bool
+    ensures { λ r. ⌜ r ≡ okNoneOr (now (source .entry)) p ⌝ }
+{
+    let kind = p.kind;
+    if kind == 0 {
+        return is_blank(p);
+    }
+    ok_place(source, p)
+}
+
+fn is_blank(p: Place) -> bool
+    ensures { λ r. ⌜ r ≡ blank p ⌝ }
+{
+    if p.content.at != 0 {
+        return false;
+    }
+    if p.content.len != 0 {
+        return false;
+    }
+    if p.protocol != 0 {
+        return false;
+    }
+    p.port == 0
+}
+
+fn ok_place(source: &[u8], p: Place) -> bool
+    ensures { λ r. ⌜ r ≡ okPlace (now (source .entry)) p ⌝ }
+{
+    let kind = p.kind;
+    if kind < 103 {
+        return false;
+    }
+    if 106 < kind {
+        return false;
+    }
+    is_inside(source, p.content)
+}
+
+fn ok_goal(source: &[u8], o: Goal) -> bool
+    ensures { λ r. ⌜ r ≡ okEntry (now (source .entry)) (entryOf o) ⌝ }
+{
+    let entry = rows::entry_of(o);
+    ok_entry(source, entry)
+}
+
+fn ok_entry(source: &[u8], o: Entry) -> bool
+    ensures { λ r. ⌜ r ≡ okEntry (now (source .entry)) o ⌝ }
+{
+    if is_inside(source, o.name) {
+        return ok_item(source, o.value);
+    }
+    false
+}
+
+// A value, or Invalid's item: inside the source, and one item by itself, or no bytes.
+fn ok_item(source: &[u8], s: Span) -> bool
+    ensures { λ r. ⌜ r ≡ okItem (now (source .entry)) s ⌝ }
+{
+    if is_inside(source, s) {
+        return ok_value(source, s);
+    }
+    false
+}
+
+fn is_inside(source: &[u8], s: Span) -> bool
+    ensures { λ r. ⌜ r ≡ inside (now (source .entry)) s ⌝ }
+{
+    spans::covered(source, s) == s.len
+}
+
+fn ok_value(source: &[u8], s: Span) -> bool
+    ensures { λ r. ⌜ r ≡ okValue (cut (now (source .entry)) s) ⌝ }
+{
+    let from = s.at;
+    let len = s.len;
+    if source.len() < from {
+        return true;
+    }
+    let room = source.len() - from;
+    if room < len {
+        return ok_bytes(&source[from..]);
+    }
+    let end = from + len;
+    ok_bytes(&source[from..end])
+}
+
+fn ok_bytes(s: &[u8]) -> bool
+    ensures { λ r. ⌜ r ≡ okValue (now (s .entry)) ⌝ }
+{
+    if s.len() == 0 {
+        return true;
+    }
+    is_whole(s)
+}
+
+// Whether the bytes are one item and nothing else.
+fn is_whole(s: &[u8]) -> bool
+    ensures { λ r. ⌜ r ≡ whole (now (s .entry)) ⌝ }
+{
+    let read = item::first(0, s);
+    match read {
+        ItemRead::Refused { .. } => false,
+        ItemRead::Ends(end) => end == s.len(),
+    }
+}

@@ -1,0 +1,60 @@
+-- What is read of a Discovery or a Flood that is relayed, and of the message that goes out.
+-- Assumes nothing.
+use mathlib.Core.Path.{_≡_, refl, ap, _∙_}
+use mathlib.Core.Bool.{true, false}
+use mathlib.Core.List.{List}
+use Prim.Native.Nat.{ℕ, _-_}
+use native.Mathlib.Omega.{arith}
+use Rattle.base.specs.Pick.{pick}
+use Rattle.base.specs.BigEndian.{Bytes}
+use Rattle.options.specs.declared.objective.Objective.{Objective}
+use Rattle.grammar.specs.Stands.{held}
+use Rattle.message.specs.declared.Message.{Message}
+use Rattle.message.specs.declared.Message.the-variants as M
+use Rattle.message.specs.declared.Reading.{Reading}
+use Rattle.message.specs.Fields.{kindOf, sessionOf, initiatorOf, objectiveOf}
+use Rattle.roundtrip.specs.Lower.{Lowers}
+use Rattle.roundtrip.proofs.Relay.{lowered-reads}
+use Rattle.node.specs.declared.role.Spread.{Spread}
+use Rattle.node.specs.declared.role.Role.{Role}
+use Rattle.node.specs.Role.{spreadOf, roleOf, RoleIn}
+use Rattle.node.specs.Call.{onward}
+use Rattle.node.specs.History.{Told, numberIn, countIn, toldBy, told}
+use Rattle.node.proofs.Spreads.{role-spreading}
+
+-- what is told of it
+abbrev pub spread-told : List ℕ → Spread → Told
+spread-told message s =
+    record { kind = pick (s .flood) 9 1; session = s .session; initiator = held message (s .initiator); count = s .objective .count }
+
+-- by the message that was read
+told-by : (message : List ℕ) (m : Message) (s : Spread) → roleOf m ≡ Role.Spreads s → toldBy message (Reading.Read m) ≡ spread-told message s
+unfolding roleOf toldBy numberIn countIn kindOf sessionOf initiatorOf objectiveOf pick
+told-by message (M.Discovery session i o) s e = let same : spreadOf false session i o ≡ s = cc in rw (← same) refl
+told-by message (M.Flood session i ttl o series) s e = let same : spreadOf true session i o ≡ s = cc in rw (← same) refl
+told-by message M.Noop s e = absurd (let z : _≡_ {A = ℕ} 0 1 = cc in omega arith)
+told-by message (M.Response session i ttl targets extra) s e = absurd (let z : _≡_ {A = ℕ} 0 1 = cc in omega arith)
+told-by message (M.RequestNegotiation session o) s e = absurd (let z : _≡_ {A = ℕ} 0 1 = cc in omega arith)
+told-by message (M.RequestSynchronization session o) s e = absurd (let z : _≡_ {A = ℕ} 0 1 = cc in omega arith)
+told-by message (M.Negotiate session o) s e = absurd (let z : _≡_ {A = ℕ} 0 1 = cc in omega arith)
+told-by message (M.End session outcome) s e = absurd (let z : _≡_ {A = ℕ} 0 1 = cc in omega arith)
+told-by message (M.Wait session time) s e = absurd (let z : _≡_ {A = ℕ} 0 1 = cc in omega arith)
+told-by message (M.Synch session o) s e = absurd (let z : _≡_ {A = ℕ} 0 1 = cc in omega arith)
+told-by message (M.Invalid session item) s e = absurd (let z : _≡_ {A = ℕ} 0 1 = cc in omega arith)
+
+pub told-spread : (message : List ℕ) (s : Spread) → RoleIn message (Role.Spreads s) → told message ≡ spread-told message s
+unfolding told
+told-spread message s r = ap (toldBy message) (r .read) ∙ told-by message (r .is) s (r .plays)
+
+-- the count that a relay lowers
+count-of : (m : Message) (o : Objective) → Lowers m o → countIn (objectiveOf m) ≡ o .count
+unfolding countIn objectiveOf
+count-of m o Lowers.discovery = refl
+count-of m o Lowers.flood = refl
+
+-- the message that goes out has it one lower
+pub onward-count : (message : List ℕ) (s : Spread) → Bytes message → RoleIn message (Role.Spreads s) → told (onward message (s .objective)) .count ≡ s .objective .count - 1
+unfolding told toldBy onward
+onward-count message s b r =
+    let (m′, read, relays) = lowered-reads message (r .is) (s .objective) b (r .read) (role-spreading message s b r .lowers) in
+    ap (λ (x : Reading). toldBy (onward message (s .objective)) x .count) read ∙ count-of m′ (relays .objective) (relays .lowers) ∙ relays .lower

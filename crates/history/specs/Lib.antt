@@ -1,0 +1,1 @@
+-- Demand 3 is stated in `node`, as `Demand3` of its specs.

@@ -1,0 +1,174 @@
+-- The outcome of a node call by the way that its code takes.
+-- Assumes nothing.
+use mathlib.Core.Path.{_≡_, refl, sym, _∙_}
+use mathlib.Core.Bool.{true, false, not, _&&_}
+use mathlib.Core.List.{List}
+use Prim.Native.Nat.{ℕ, _^_, _≤_, _<_}
+use native.Mathlib.Omega.{arith}
+use lib.Count.{ones}
+use lib.Dec.{leb}
+use lib.ListN.{length}
+use borrow.Author.Tests.{eq-eqb, ne-eqb, le-leb, lt-leb, ltb-false, leb-false, not-false}
+use Rattle.base.specs.Pick.{pick}
+use Rattle.base.proofs.Picks.{pick-case}
+use Rattle.base.proofs.Bools.{or-left, or-right}
+use Rattle.grammar.specs.Stands.{held}
+use Rattle.message.specs.declared.Message.{Message}
+use Rattle.message.specs.declared.Reading.{Reading}
+use Rattle.message.specs.Read.{mostBytes, readOf}
+use Rattle.names.specs.Names.{sameBytes, isOwn}
+use Rattle.writer.specs.declared.Written.{Written}
+use Rattle.node.specs.declared.Record.{Record}
+use Rattle.node.specs.declared.Called.{Called}
+use Rattle.node.specs.declared.Reply.the-variants.{Refused, Given}
+use Rattle.node.specs.declared.Verdict.{Verdict}
+use Rattle.node.specs.declared.Verdict.the-variants.{Own, Answer, Duplicate, Last, Nowhere, NoRow, Relay, Noop, Hand}
+use Rattle.node.specs.declared.role.Spread.{Spread}
+use Rattle.node.specs.Record.{recordBad, arrivalBad, isUp, others, clocked, tallied}
+use Rattle.node.specs.Table.{freed, putRow, lowestFree, isKnown}
+use Rattle.node.specs.Role.{roleOf, keyIn}
+use Rattle.node.specs.Call.{Call, callOf, After, afterOf, barred, replies, refuse, quiet, written, onward, response, laterVerdict, verdictOn, answered, relayed, carriedOut, taken, judged, nodeCall, Passed, Ready}
+use Rattle.node.proofs.Masks.{record-links, record-tally}
+use Rattle.node.proofs.Rows.{length-free, table-sized}
+
+-- ---- what was written
+
+module _ {answer : Written} {after : List ℕ} (w : Written) (after′ bytes out : List ℕ) (is : w ≡ answer) (left : after′ ≡ after)
+    (given : (answer ≡ Written.Length (length bytes)) × (after ≡ written bytes out)) where
+  pub sent-length : (n : ℕ) → w ≡ Written.Length n → (n ≡ length bytes) × (after′ ≡ written bytes out)
+  sent-length n e =
+      let same : Written.Length n ≡ Written.Length (length bytes) = sym e ∙ is ∙ given .0 in
+      (cc, left ∙ given .1)
+
+  pub sent-never : (n : ℕ) {A : Type 0} → w ≡ Written.Refused n → A
+  sent-never n e =
+      let same : Written.Refused n ≡ Written.Length (length bytes) = sym e ∙ is ∙ given .0 in
+      absurd (let z : _≡_ {A = ℕ} 0 1 = cc in omega arith)
+
+-- ---- a Discovery or a Flood
+
+-- what a verdict does has nothing to do with the names
+pub names-apart : (r : Record) (t : List ℕ) (clock i : ℕ) (names names′ m o : List ℕ) (s : Spread) (v : Verdict)
+    → carriedOut r t (callOf clock i names m o) s v ≡ carriedOut r t (callOf clock i names′ m o) s v
+unfolding carriedOut quiet answered relayed
+names-apart r t clock i names names′ m o s Own = refl
+names-apart r t clock i names names′ m o s Answer = refl
+names-apart r t clock i names names′ m o s Duplicate = refl
+names-apart r t clock i names names′ m o s Last = refl
+names-apart r t clock i names names′ m o s Nowhere = refl
+names-apart r t clock i names names′ m o s NoRow = refl
+names-apart r t clock i names names′ m o s Relay = refl
+names-apart r t clock i names names′ m o s Noop = refl
+names-apart r t clock i names names′ m o s Hand = refl
+
+module _ (r : Record) (t : List ℕ) (c : Call) (s : Spread) where
+  pub own-outcome : (b : Called) → b ≡ replies (Given Own false 0 0) r → sameBytes (held (c .message) (s .initiator)) (r .address) ≡ true
+      → afterOf b t (c .output) ≡ carriedOut r t c s (verdictOn r t c s)
+  unfolding verdictOn carriedOut quiet pick
+  own-outcome b e own = rw (own, e) refl
+
+  module _ (not-own : sameBytes (held (c .message) (s .initiator)) (r .address) ≡ false) where
+    pub answer-outcome : (b : Called) (out : List ℕ) → b ≡ replies (Given Answer false (2 ^ c .interface) (length (response r (c .message) s))) r
+        → out ≡ written (response r (c .message) s) (c .output) → (not (s .flood) && isOwn (c .names) (held (c .message) (s .objective .name))) ≡ true
+        → afterOf b t out ≡ carriedOut r t c s (verdictOn r t c s)
+    unfolding verdictOn carriedOut answered pick
+    answer-outcome b out e f ours = rw (not-own, ours, e, f) refl
+
+    module _ (not-ours : (not (s .flood) && isOwn (c .names) (held (c .message) (s .objective .name))) ≡ false) where
+      pub duplicate-outcome : (b : Called) → b ≡ replies (Given Duplicate false 0 0) r → isKnown (keyIn (c .message) s) t ≡ true
+          → afterOf b t (c .output) ≡ carriedOut r t c s (verdictOn r t c s)
+      unfolding verdictOn carriedOut quiet pick
+      duplicate-outcome b e known = rw (not-own, not-ours, known, e) refl
+
+      pub later-outcome : (a : After) → isKnown (keyIn (c .message) s) t ≡ false → a ≡ carriedOut r t c s (laterVerdict r t c s) → a ≡ carriedOut r t c s (verdictOn r t c s)
+      unfolding verdictOn pick
+      later-outcome a unknown e = rw (not-own, not-ours, unknown) e
+
+  pub last-outcome : (b : Called) → b ≡ replies (Given Last (s .flood) 0 0) r → s .objective .count ≤ 1 → afterOf b t (c .output) ≡ carriedOut r t c s (laterVerdict r t c s)
+  unfolding laterVerdict carriedOut quiet pick
+  last-outcome b e few = rw (le-leb (s .objective .count) 1 few, e) refl
+
+  module _ (counts : 1 < s .objective .count) where
+    pub nowhere-outcome : (b : Called) → b ≡ replies (Given Nowhere (s .flood) 0 0) r → others r (c .interface) ≡ 0
+        → afterOf b t (c .output) ≡ carriedOut r t c s (laterVerdict r t c s)
+    unfolding laterVerdict carriedOut quiet pick
+    nowhere-outcome b e none = rw (lt-leb (s .objective .count) 1 counts, eq-eqb (others r (c .interface)) 0 none, e) refl
+
+    module _ (some : others r (c .interface) ≡ 0 → ⊥) where
+      pub norow-outcome : (b : Called) → b ≡ replies (Given NoRow (s .flood) 0 0) r → 64 ≤ lowestFree t
+          → afterOf b t (c .output) ≡ carriedOut r t c s (laterVerdict r t c s)
+      unfolding laterVerdict carriedOut quiet pick
+      norow-outcome b e full =
+          rw (lt-leb (s .objective .count) 1 counts, ne-eqb (others r (c .interface)) 0 some, le-leb 64 (lowestFree t) full, e) refl
+
+      pub relay-outcome : (b : Called) (t′ out : List ℕ)
+          → b ≡ replies (Given Relay (s .flood) (others r (c .interface)) (length (onward (c .message) (s .objective)))) (tallied r (ones (others r (c .interface))))
+          → t′ ≡ putRow t (lowestFree t) (keyIn (c .message) s) (r .clock) → out ≡ written (onward (c .message) (s .objective)) (c .output)
+          → lowestFree t < 64 → afterOf b t′ out ≡ carriedOut r t c s (laterVerdict r t c s)
+      unfolding laterVerdict carriedOut relayed pick
+      relay-outcome b t′ out e f g room =
+          rw (lt-leb (s .objective .count) 1 counts, ne-eqb (others r (c .interface)) 0 some, lt-leb 64 (lowestFree t) room, e, f, g) refl
+
+-- ---- the whole call
+
+-- nothing bars the call
+pub passed : (r : Record) (t : List ℕ) (clock i : ℕ) (names : List ℕ) (room : ℕ) → barred r t clock i names room ≡ 0 → Passed r t clock i room
+unfolding barred
+passed r t clock i names room =
+    pick-case (λ (n : ℕ). n ≡ 0 → Passed r t clock i room) _ (λ _ e. absurd (omega arith))
+    (λ good. pick-case (λ (n : ℕ). n ≡ 0 → Passed r t clock i room) _ (λ _ e. absurd (omega arith))
+    (λ arrives. pick-case (λ (n : ℕ). n ≡ 0 → Passed r t clock i room) _ (λ _ e. absurd (omega arith))
+    (λ later. pick-case (λ (n : ℕ). n ≡ 0 → Passed r t clock i room) _ (λ _ e. absurd (omega arith))
+    (λ table. pick-case (λ (n : ℕ). n ≡ 0 → Passed r t clock i room) _ (λ _ e. absurd (omega arith))
+    (λ named. pick-case (λ (n : ℕ). n ≡ 0 → Passed r t clock i room) _ (λ _ e. absurd (omega arith))
+    (λ fits e. record {
+      good = good;
+      arrives = arrives;
+      later = ltb-false clock (r .clock) later;
+      table = table;
+      fits = ltb-false room mostBytes fits;
+    }))))))
+
+-- the arriving interface is one of eight, and its link is up
+pub record Arrives (r : Record) (i : ℕ) : Type 0 where
+  pub below : i < r .interfaces
+  pub small : i < 8
+  pub up : isUp (r .links) i ≡ true
+
+pub arrives : (r : Record) (i : ℕ) → recordBad r ≡ false → arrivalBad r i ≡ false → Arrives r i
+unfolding arrivalBad
+arrives r i good e =
+    let below : i < r .interfaces = leb-false (r .interfaces) i (or-left (leb (r .interfaces) i) (not (isUp (r .links) i)) e) in
+    record {
+      below = below;
+      small = omega (arith, record-links r good .most);
+      up = not-false (isUp (r .links) i) (or-right (leb (r .interfaces) i) (not (isUp (r .links) i)) e);
+    }
+
+-- so the verdicts have what they rest on
+pub readied : (r : Record) (t : List ℕ) (clock i room : ℕ) → Passed r t clock i room → Ready (clocked r clock) (freed clock t) i room
+unfolding clocked freed
+readied r t clock i room p =
+    let a = arrives r i (p .good) (p .arrives) in
+    record {
+      sized = length-free clock t 64 ∙ table-sized clock t (p .table);
+      small = a .small;
+      up = a .up;
+      tally = record-tally r (p .good);
+      fits = p .fits;
+    }
+
+module _ (r : Record) (t : List ℕ) (c : Call) where
+  pub barred-outcome : (n : ℕ) (b : Called) → n ≡ barred r t (c .clock) (c .interface) (c .names) (length (c .output)) → (n ≡ 0 → ⊥) → b ≡ replies (Refused n) r
+      → afterOf b t (c .output) ≡ nodeCall r t c
+  unfolding nodeCall refuse pick
+  barred-outcome n b is some e = rw (← is, ne-eqb n 0 some, e) refl
+
+  module _ (n : ℕ) (is : n ≡ barred r t (c .clock) (c .interface) (c .names) (length (c .output))) (none : n ≡ 0) where
+    pub refused-outcome : (number : ℕ) (b : Called) → b ≡ replies (Refused number) r → readOf (c .message) ≡ Reading.Refused number → afterOf b t (c .output) ≡ nodeCall r t c
+    unfolding nodeCall judged refuse pick
+    refused-outcome number b e read = rw (← is, none, read, e) refl
+
+    pub taken-outcome : (m : Message) (a : After) → readOf (c .message) ≡ Reading.Read m → a ≡ taken (clocked r (c .clock)) (freed (c .clock) t) c (roleOf m) → a ≡ nodeCall r t c
+    unfolding nodeCall judged pick
+    taken-outcome m a read e = rw (← is, none, read) e

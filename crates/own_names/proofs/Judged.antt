@@ -1,0 +1,126 @@
+-- Own names held against the answer on them, both ways: the frame and the array's head around the texts.
+-- Assumes nothing.
+use mathlib.Core.Path.{_≡_, refl, sym, ap, _∙_, subst}
+use mathlib.Core.List.{List, List·Memᴰ}
+use mathlib.Core.Bool.{true, false, not, _||_}
+use Prim.Native.Nat.{ℕ, _≤_, zero-le}
+use native.Mathlib.Omega.{arith}
+use lib.ListN.{length}
+use lib.Dec.{ltb, eqb}
+use borrow.Author.Tests.{eqb-true, ltb-false, not-false, eq-eqb, ne-eqb, le-ltb}
+use Rattle.base.specs.Pick.{pick}
+use Rattle.base.specs.BigEndian.{Bytes}
+use Rattle.base.proofs.Picks.{past}
+use Rattle.base.proofs.Bools.{or-left, or-right, not-both}
+use Rattle.cbor.specs.declared.item.ItemRead.{ItemRead}
+use Rattle.cbor.specs.declared.token.Token.{Token}
+use Rattle.cbor.specs.Item.{firstItem}
+use Rattle.cbor.specs.Token.{tokenAt}
+use Rattle.cbor.specs.Tree.{Item, Items, count}
+use Rattle.grammar.specs.Stands.{Stands, StandAll}
+use Rattle.grammar.proofs.Bridge.{array-token, token-heading, advances}
+use Rattle.grammar.proofs.Pieces.{array-at}
+use Rattle.exact.proofs.Whole.{whole}
+use Rattle.exact.proofs.Answers.{stands, walked}
+use Rattle.names.specs.Names.{mostBytes, mostNames, goodNames, arrayBad, framedBad, namesBad, ownFrom, isOwn}
+use Rattle.own_names.specs.Own.{TextItems, TextArray, OwnNames}
+use Rattle.own_names.proofs.Texts.{texts-counted, names-sound, names-complete, own-sound, own-complete}
+
+-- ---- own names are found good
+-- the array's token, and its texts
+pub record TextsRead (s : List ℕ) (names : List (List ℕ)) : Type 0 where
+  pub items : Items
+  pub are : TextItems items names
+  pub major : tokenAt s 0 .major ≡ 4
+  pub arg : tokenAt s 0 .arg ≡ count items
+  pub stand : StandAll s (tokenAt s 0 .next) (length s) items
+
+texts-read : {s : List ℕ} {x : Item} {names : List (List ℕ)} → Stands s 0 (length s) x → TextArray x names → TextsRead s names
+texts-read {s} stand (TextArray.array {xs = xs} are) =
+    let t = array-token stand in
+    record {
+      items = xs;
+      are = are;
+      major = ap (λ (w : Token). w .major) (t .token);
+      arg = ap (λ (w : Token). w .arg) (t .token);
+      stand = subst (λ (k : ℕ). StandAll s k (length s) xs) (sym (ap (λ (w : Token). w .next) (t .token))) (t .items);
+    }
+
+module _ {s : List ℕ} (o : OwnNames s) where
+  pub read : TextsRead s (o .names)
+  read = texts-read (stands (o .one)) (o .are)
+
+  few-read : tokenAt s 0 .arg ≤ mostNames
+  few-read = omega (arith, read .arg, texts-counted (read .are), o .few)
+
+  array-good : arrayBad s ≡ false
+  unfolding arrayBad
+  array-good =
+      let a = tokenAt s 0 in
+      let all : goodNames s (a .arg) (a .next) ≡ true = rw (read .arg) (names-complete (read .are) (read .stand) (o .utf8) (o .short)) in
+      rw (eq-eqb (a .major) 4 (read .major), le-ltb mostNames (a .arg) few-read, all) refl
+
+  pub names-good : namesBad s ≡ false
+  unfolding namesBad framedBad pick
+  names-good =
+      rw (
+        ne-eqb (length s) 0 (λ z. omega (arith, advances (stands (o .one)))),
+        le-ltb mostBytes (length s) (o .one .most),
+        walked (o .one),
+        eq-eqb (length s) (length s) refl,
+        array-good,
+      ) refl
+
+-- ---- what is found good is own names
+framed-good : (s : List ℕ) (r : ItemRead) → framedBad s r ≡ false → (r ≡ ItemRead.Ends (length s)) × (arrayBad s ≡ false)
+unfolding framedBad
+framed-good s (ItemRead.Refused number place) q = absurd (not-both true refl q)
+framed-good s (ItemRead.Ends end) q = (
+  ap ItemRead.Ends (eqb-true end (length s) (not-false (eqb end (length s)) (or-left (not (eqb end (length s))) (arrayBad s) q))),
+  or-right (not (eqb end (length s))) (arrayBad s) q,
+)
+
+module _ {s : List ℕ} (b : Bytes s) where
+  -- the walk took the whole, and the array is good
+  array-own : length s ≤ mostBytes → firstItem 0 s ≡ ItemRead.Ends (length s) → arrayBad s ≡ false → OwnNames s
+  unfolding arrayBad
+  array-own most all good =
+      let a = tokenAt s 0 in
+      let kind = eqb (a .major) 4 in
+      let over = ltb mostNames (a .arg) in
+      let named = goodNames s (a .arg) (a .next) in
+      let front = or-left (not kind || over) (not named) good in
+      let four : a .major ≡ 4 = eqb-true (a .major) 4 (not-false kind (or-left (not kind) over front)) in
+      let few : a .arg ≤ mostNames = ltb-false mostNames (a .arg) (or-right (not kind) over front) in
+      let h = token-heading s 0 a b zero-le refl (omega arith) in
+      let n = names-sound b (a .arg) (a .next) (h .within) (not-false named (or-right (not kind || over) (not named) good)) in
+      let stand = array-at h four (n .many) (n .stand) in
+      let (end, shallow, full) = whole b all stand in
+      record {
+        one = record { item = Item.array (h .width) (n .items); bytes = full; most = most; good = stand .good; shallow = shallow };
+        names = n .names;
+        are = TextArray.array (n .are);
+        few = omega (arith, n .many, texts-counted (n .are));
+        utf8 = n .utf8;
+        short = n .short;
+      }
+
+  pub names-own : namesBad s ≡ false → OwnNames s
+  unfolding namesBad
+  names-own q =
+      let (some, q₁) = past (eqb (length s) 0) q (λ e. not-both true refl e) in
+      let (most, q₂) = past (ltb mostBytes (length s)) q₁ (λ e. not-both true refl e) in
+      let (all, good) = framed-good s (firstItem 0 s) q₂ in
+      array-own (ltb-false mostBytes (length s) most) all good
+
+-- ---- a name among them
+module _ {s : List ℕ} (name : List ℕ) (o : OwnNames s) where
+  own-read : isOwn s name ≡ ownFrom s name (count (read o .items)) (tokenAt s 0 .next)
+  unfolding isOwn pick
+  own-read = rw (le-ltb mostNames (tokenAt s 0 .arg) (few-read o), ← read o .arg) refl
+
+  pub own-member : isOwn s name ≡ true → List·Memᴰ name (o .names)
+  own-member e = own-sound name (read o .are) (read o .stand) (sym own-read ∙ e)
+
+  pub member-own : List·Memᴰ name (o .names) → isOwn s name ≡ true
+  member-own m = own-read ∙ own-complete name (read o .are) (read o .stand) m

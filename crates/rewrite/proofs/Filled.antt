@@ -1,0 +1,119 @@
+-- Rows filled one after the other: a list that is long enough then begins with the numbers of all of them.
+-- Assumes nothing.
+use mathlib.Core.Path.{_≡_, refl, sym, ap, ap₂, _∙_, subst}
+use mathlib.Core.List.{List, [], _∷_, _++_}
+use mathlib.Core.Bool.{Bool, true, false}
+use Prim.Native.Nat.{ℕ, zero, suc, _+_, _*_, _≤_, _<_}
+use native.Mathlib.Nat.{add-zero, add-suc, suc-add, mul-zero, mul-suc}
+use native.Mathlib.Numerals.{add-one}
+use native.Mathlib.Omega.{arith}
+use lib.ListN.{length, take, drop, set, length-append}
+use lib.Seq.{sets, sets-eq, take-at}
+use Rattle.base.specs.Pick.{pick}
+use Rattle.describe.specs.Rows.{rowsFrom}
+use Rattle.description.specs.Describe.{upTo}
+use Rattle.roundtrip.specs.Plain.{plainAll}
+
+-- ---- stores
+-- lists one after the other
+unfoldable pub joined : List (List ℕ) → List ℕ
+joined [] = []
+joined (ns ∷ rows) = ns ++ joined rows
+
+-- stored one after the other
+sets-append : (l : List ℕ) (at : ℕ) (a b : List ℕ) → sets (sets l at a) (at + length a) b ≡ sets l at (a ++ b)
+sets-append l at [] b = ap (λ (k : ℕ). sets l k b) (add-zero at)
+sets-append l at (x ∷ a) b =
+    ap (λ (k : ℕ). sets (sets (set l at x) (suc at) a) k b) (add-suc at (length a) ∙ sym (suc-add at (length a))) ∙ sets-append (set l at x) (suc at) a b
+
+-- ---- the first of n, and the others
+up-first : {A : Type 0} (f : ℕ → A) (n : ℕ) → upTo f (suc n) ≡ f 0 ∷ upTo (λ i. f (suc i)) n
+unfolding upTo
+up-first f zero = refl
+up-first f (suc n) = ap (λ l. l ++ (f (suc n) ∷ [])) (up-first f n)
+
+-- the same elements
+up-same : {A : Type 0} (f g : ℕ → A) (n : ℕ) → ((i : ℕ) → f i ≡ g i) → upTo f n ≡ upTo g n
+unfolding upTo
+up-same f g zero h = refl
+up-same f g (suc n) h = ap₂ (λ l x. l ++ (x ∷ [])) (up-same f g n h) (h n)
+
+-- ---- rows
+module _ {A B X : Type 0} (view : List ℕ → ℕ → A) (f : A → B) (g : X → B) (Holds : A → Type 0) where
+  -- the first row of a list is x, and in order
+  abbrev pub Tells : List ℕ → X → Type 0
+  Tells list x = (f (view list 0) ≡ g x) × Holds (view list 0)
+
+-- the elements xs from `at` on, each with its row of `size` numbers: they are stored in their place, and tell the element, whatever follows them
+pub data Chain {X : Type 0} (size : ℕ) (next : ℕ → ℕ) (row : ℕ → ℕ → List ℕ → List ℕ) (Told : List ℕ → X → Type 0) : ℕ → List (List ℕ) → List X → Type 0 where
+  end : {at : ℕ} → Chain size next row Told at [] []
+  step : {at : ℕ} {ns : List ℕ} {x : X} {rows : List (List ℕ)} {xs : List X} → length ns ≡ size → ((i : ℕ) (list : List ℕ) → row at i list ≡ sets list (size * i) ns)
+      → ((rest : List ℕ) → Told (ns ++ rest) x) → Chain size next row Told (next at) rows xs → Chain size next row Told at (ns ∷ rows) (x ∷ xs)
+
+module _ {X : Type 0} {size : ℕ} {next : ℕ → ℕ} {row : ℕ → ℕ → List ℕ → List ℕ} {Told : List ℕ → X → Type 0} where
+  -- all rows have so many numbers
+  pub joined-length : {at : ℕ} {rows : List (List ℕ)} {xs : List X} → Chain size next row Told at rows xs → length (joined rows) ≡ size * length rows
+  unfolding joined
+  joined-length Chain.end = sym (mul-zero size)
+  joined-length (Chain.step {ns = ns} {rows = rows} len stored told more) =
+      length-append ns (joined rows) ∙ omega (arith, joined-length more, len, mul-suc size (length rows))
+
+  -- as many as there are elements
+  pub rows-many : {at : ℕ} {rows : List (List ℕ)} {xs : List X} → Chain size next row Told at rows xs → length rows ≡ length xs
+  rows-many Chain.end = refl
+  rows-many (Chain.step len stored told more) = ap suc (rows-many more)
+
+  -- what is stored from row i on
+  stored-from : {at : ℕ} {rows : List (List ℕ)} {xs : List X} → Chain size next row Told at rows xs → (i : ℕ) (list : List ℕ)
+      → rowsFrom next row (length rows) i at list ≡ sets list (size * i) (joined rows)
+  unfolding rowsFrom joined
+  stored-from Chain.end i list = refl
+  stored-from (Chain.step {at} {ns} {rows = rows} len stored told more) i list =
+      let e : size * (i + 1) ≡ size * i + length ns = ap (λ (k : ℕ). size * k) (add-one i) ∙ omega (arith, mul-suc size i, len) in
+      stored-from more (i + 1) (row at i list) ∙ ap₂ (λ (l : List ℕ) (k : ℕ). sets l k (joined rows)) (stored i list) e ∙ sets-append list (size * i) ns (joined rows)
+
+  -- from the front on
+  stored-all : {at : ℕ} {rows : List (List ℕ)} {xs : List X} → Chain size next row Told at rows xs → (list : List ℕ) → size * length rows ≤ length list
+      → take (size * length rows) (rowsFrom next row (length rows) 0 at list) ≡ joined rows
+  stored-all {at} {rows} chain list room =
+      let n = joined-length chain in
+      let all : rowsFrom next row (length rows) 0 at list ≡ joined rows ++ drop (0 + length (joined rows)) list =
+      stored-from chain 0 list ∙ ap (λ (k : ℕ). sets list k (joined rows)) (mul-zero size) ∙ sets-eq (joined rows) list 0 (omega arith) in
+      ap (take (size * length rows)) all ∙ take-at (joined rows) (drop (0 + length (joined rows)) list) (size * length rows) n
+
+  -- by the test of room
+  lent-by : {at : ℕ} {rows : List (List ℕ)} {xs : List X} → Chain size next row Told at rows xs → (list : List ℕ) (t : Bool)
+      → pick t (length list + 1) (size * length rows) ≤ length list
+      → take (pick t (length list + 1) (size * length rows)) (pick t list (rowsFrom next row (length rows) 0 at list)) ≡ joined rows
+  unfolding pick
+  lent-by chain list true room = absurd (omega arith)
+  lent-by chain list false room = stored-all chain list room
+
+  -- a list that is long enough
+  pub lent : {at : ℕ} {rows : List (List ℕ)} {xs : List X} → Chain size next row Told at rows xs → (many : ℕ) (list : List ℕ) (t : Bool) → many ≡ length rows
+      → pick t (length list + 1) (size * many) ≤ length list
+      → take (pick t (length list + 1) (size * many)) (pick t list (rowsFrom next row many 0 at list)) ≡ joined rows
+  lent {at} {rows} chain many list t e =
+      subst (λ (n : ℕ). pick t (length list + 1) (size * n) ≤ length list → take (pick t (length list + 1) (size * n)) (pick t list (rowsFrom next row n 0 at list)) ≡ joined rows)
+      (sym e) (lent-by chain list t)
+
+-- ---- what the rows tell
+module _ {A B X : Type 0} {size : ℕ} {next : ℕ → ℕ} {row : ℕ → ℕ → List ℕ → List ℕ} (view : List ℕ → ℕ → A) (f : A → B) (g : X → B) (Holds : A → Type 0)
+    (shift : (ns rest : List ℕ) (i : ℕ) → length ns ≡ size → view (ns ++ rest) (suc i) ≡ view rest i) where
+  -- each is in order
+  pub told-each : {at : ℕ} {rows : List (List ℕ)} {xs : List X} → Chain size next row (Tells view f g Holds) at rows xs → (i : ℕ) → i < length rows → Holds (view (joined rows) i)
+  unfolding joined
+  told-each Chain.end i h = absurd (omega arith)
+  told-each (Chain.step {rows = rows} len stored told more) zero h = told (joined rows) .1
+  told-each (Chain.step {ns = ns} {rows = rows} len stored told more) (suc i) h =
+      subst Holds (sym (shift ns (joined rows) i len)) (told-each more i (omega arith))
+
+  -- and they are all of xs
+  pub told-all : {at : ℕ} {rows : List (List ℕ)} {xs : List X} → Chain size next row (Tells view f g Holds) at rows xs
+      → upTo (λ i. f (view (joined rows) i)) (length rows) ≡ plainAll g xs
+  unfolding joined upTo plainAll
+  told-all Chain.end = refl
+  told-all (Chain.step {ns = ns} {rows = rows} len stored told more) =
+      up-first (λ i. f (view (ns ++ joined rows) i)) (length rows)
+      ∙ ap₂ (λ x l. x ∷ l) (told (joined rows) .0)
+      (up-same (λ i. f (view (ns ++ joined rows) (suc i))) (λ i. f (view (joined rows) i)) (length rows) (λ i. ap f (shift ns (joined rows) i len)) ∙ told-all more)

@@ -1,0 +1,167 @@
+-- The rows of locators that were read: their numbers are stored, and tell the locators that stand in the message.
+-- Assumes nothing.
+use mathlib.Core.Path.{_≡_, refl, sym, ap, _∙_, subst}
+use mathlib.Core.Logic.{inl, inr}
+use mathlib.Core.Bool.{Bool, true, false}
+use mathlib.Core.List.{List, [], _∷_, _++_}
+use mathlib.Core.Option.{none, some}
+use Prim.Native.Nat.{ℕ, suc, _+_, _*_, _-_, _≤_, _<_}
+use native.Mathlib.Decide.{decLt}
+use native.Mathlib.Nat.{add-assoc}
+use native.Mathlib.Omega.{arith}
+use lib.Dec.{eqb, lit≤}
+use lib.ListN.{length, take, drop, set, length-take, length-drop}
+use lib.Seq.{sets, getD-append-add}
+use Rattle.base.specs.Pick.{pick}
+use Rattle.base.specs.BigEndian.{Bytes}
+use Rattle.base.proofs.Picks.{both}
+use Rattle.cbor.specs.Tree.{Item, Items}
+use Rattle.cbor.specs.Token.{tokenAt}
+use Rattle.cbor.proofs.Tokens.{token-end}
+use Rattle.options.specs.declared.locator.Locator.{Locator}
+use Rattle.options.specs.declared.locator.Locator.the-variants as L
+use Rattle.options.specs.declared.locator.LocatorRead.{LocatorRead}
+use Rattle.options.specs.Text.{spanOf}
+use Rattle.options.specs.Locator.{locatorOf, locatorIn, locatorAt, locatorNumbers}
+use Rattle.grammar.specs.Cddl.{Loc, LocatorItem, LocatorItems}
+use Rattle.grammar.specs.Stands as S
+use Rattle.grammar.specs.Stands.{Stands, StandAll}
+use Rattle.grammar.proofs.Bridge.{split, advances}
+use Rattle.grammar.proofs.Locators.{locator-read}
+use Rattle.description.specs.declared.rows.Place.{Place}
+use Rattle.description.specs.Grasp as W
+use Rattle.description.specs.Describe.{placeRow, cut, orNull, locOf, placeAt}
+use Rattle.describe.specs.Rows.{locatorNumbered, locatorNextFrom, locatorRowFrom, locatorNext, locatorRow}
+use Rattle.roundtrip.specs.Plain.{plainMaybe, plainNumber, plainLoc}
+use Rattle.roundtrip.specs.Says.{Inside, PlaceSays}
+use Rattle.rewrite.proofs.Filled.{Tells, Chain}
+
+-- ---- the text of a locator lies in the message
+abbrev pub TextIn : List ℕ → Locator → Type 0
+TextIn m (L.V6 at protocol port) = Unit {0}
+TextIn m (L.V4 at protocol port) = Unit {0}
+TextIn m (L.Domain name protocol port) = Inside m name
+TextIn m (L.Uri uri protocol port) = Inside m uri
+
+-- of an answer
+abbrev pub TextOk : List ℕ → LocatorRead → Type 0
+TextOk m (LocatorRead.Bad place) = Unit {0}
+TextOk m (LocatorRead.Got l size bad) = TextIn m l
+
+-- a span that ends in time
+span-in : (m : List ℕ) (base from end : ℕ) → base + end ≤ length m → Inside m (spanOf (base + from) (end - from))
+span-in m base from end h = elim (decLt from end) [ yes l ↦ inr (omega arith) | no l ↦ inl (omega arith) ]
+
+-- of each kind
+kind-text : (m : List ℕ) (kind at len protocol port : ℕ) → Inside m (spanOf at len) → TextIn m (locatorOf kind at len protocol port)
+unfolding locatorOf
+kind-text m kind at len protocol port h = both (TextIn m) (eqb kind 103) tt (both (TextIn m) (eqb kind 104) tt (both (TextIn m) (eqb kind 105) h h))
+
+-- what is read at a place
+pub text-ok : (m : List ℕ) (base : ℕ) (s : List ℕ) → base + length s ≤ length m → TextOk m (locatorIn base s)
+unfolding locatorIn
+text-ok m base s h =
+    both ok _ tt (both ok _ tt (both ok _ tt (both ok _ (both ok _ (both ok _ tt (both ok _ tt (kind-text m _ _ _ _ _ (span-in m base _ _ (omega (arith, h, token-end s (tokenAt s (tokenAt s 0 .next) .next))))))) tt) tt)))
+  where
+    ok : LocatorRead → Type 0
+    ok = TextOk m
+
+-- ---- a row
+-- five numbers stored one after the other
+five-sets : (l : List ℕ) (k a b c d e : ℕ) → set (set (set (set (set l k a) (k + 1) b) (k + 2) c) (k + 3) d) (k + 4) e ≡ sets l k (a ∷ b ∷ c ∷ d ∷ e ∷ [])
+five-sets l k a b c d e =
+    let e₁ : k + 1 ≡ suc k = omega arith in
+    let e₂ : k + 2 ≡ suc (suc k) = omega arith in
+    let e₃ : k + 3 ≡ suc (suc (suc k)) = omega arith in
+    let e₄ : k + 4 ≡ suc (suc (suc (suc k))) = omega arith in
+    rw (e₁, e₂, e₃, e₄)
+
+-- a locator's
+locator-sets : (i : ℕ) (list : List ℕ) (l : Locator) → locatorNumbered i (locatorNumbers l) list ≡ sets list (placeRow * i) (locatorNumbers l)
+unfolding locatorNumbered locatorNumbers
+locator-sets i list (L.V6 at protocol port) = five-sets list (5 * i) 103 at 16 protocol port
+locator-sets i list (L.V4 at protocol port) = five-sets list (5 * i) 104 at 4 protocol port
+locator-sets i list (L.Domain name protocol port) = five-sets list (5 * i) 105 (name .at) (name .len) protocol port
+locator-sets i list (L.Uri uri protocol port) = five-sets list (5 * i) 106 (uri .at) (uri .len) protocol port
+
+-- has so many numbers
+locator-five : (l : Locator) → length (locatorNumbers l) ≡ placeRow
+unfolding locatorNumbers
+locator-five (L.V6 at protocol port) = refl
+locator-five (L.V4 at protocol port) = refl
+locator-five (L.Domain name protocol port) = refl
+locator-five (L.Uri uri protocol port) = refl
+
+-- the numbers behind others
+place-shift : (a b : List ℕ) (k : ℕ) → placeAt (a ++ b) (length a + k) ≡ placeAt b k
+unfolding placeAt
+place-shift a b k = simp (add-assoc, getD-append-add)
+
+-- row i + 1, behind the first, is row i
+pub place-behind : (ns rest : List ℕ) (i : ℕ) → length ns ≡ placeRow → placeAt (ns ++ rest) (placeRow * suc i) ≡ placeAt rest (placeRow * i)
+place-behind ns rest i e = let sum : placeRow * suc i ≡ length ns + placeRow * i = omega arith in ap (placeAt (ns ++ rest)) sum ∙ place-shift ns rest (placeRow * i)
+
+-- ---- what it tells
+-- an address of so many bytes lies in the message
+address-in : (m : List ℕ) (at n : ℕ) → 1 ≤ n → length (take n (drop at m)) ≡ n → Inside m (spanOf at n)
+address-in m at n h e = inr (omega (arith, length-take n (drop at m), length-drop at m))
+
+-- a number or null, by the test
+null-by : (t : Bool) (n : ℕ) → pick t W.Maybe.none (W.Maybe.some n) ≡ plainNumber (pick t none (some n))
+unfolding pick plainNumber plainMaybe
+null-by true n = refl
+null-by false n = refl
+
+null-plain : (null n : ℕ) → orNull null n ≡ plainNumber (S.orNull null n)
+unfolding orNull S.orNull
+null-plain null n = null-by (eqb n null) n
+
+-- a locator that was read is the place of its numbers
+pub record PlaceIs (m : List ℕ) (p : Place) (loc : Loc) : Type 0 where
+  pub is : locOf m p ≡ plainLoc loc
+  pub says : PlaceSays m p
+
+pub placed : {m : List ℕ} {x : Item} (l : Locator) → TextIn m l → LocatorItem x (S.locOf m l) → (rest : List ℕ) → PlaceIs m (placeAt (locatorNumbers l ++ rest) 0) (S.locOf m l)
+unfolding locatorNumbers placeAt locOf S.locOf plainLoc cut pick
+placed (L.V6 at protocol port) t (LocatorItem.v6 n _ _) rest =
+    record { is = refl; says = record { least = lit≤ tt; most = lit≤ tt; content = address-in _ at 16 (lit≤ tt) n } }
+placed (L.V4 at protocol port) t (LocatorItem.v4 n _ _) rest =
+    record { is = refl; says = record { least = lit≤ tt; most = lit≤ tt; content = address-in _ at 4 (lit≤ tt) n } }
+placed (L.Domain name protocol port) t i rest = record { is = refl; says = record { least = lit≤ tt; most = lit≤ tt; content = t } }
+placed (L.Uri uri protocol port) t i rest =
+    record { is = rw (null-plain 0 protocol, null-plain 65536 port); says = record { least = lit≤ tt; most = lit≤ tt; content = t } }
+
+-- ---- the rows of all
+-- what a row is, and what is told of it
+abbrev pub placeOf : List ℕ → ℕ → Place
+placeOf list i = placeAt list (placeRow * i)
+
+module _ (s : List ℕ) (by : Bytes s) where
+  -- rows of locators
+  abbrev pub Locators : ℕ → List (List ℕ) → List Loc → Type 0
+  Locators = Chain placeRow (locatorNext s) (locatorRow s) (Tells placeOf (locOf s) plainLoc (PlaceSays s))
+
+  -- one row
+  locator-row : (p : ℕ) {l : Locator} {size bad : ℕ} (i : ℕ) (list : List ℕ) → locatorAt s p ≡ LocatorRead.Got l size bad
+      → locatorRow s p i list ≡ sets list (placeRow * i) (locatorNumbers l)
+  unfolding locatorRow locatorRowFrom
+  locator-row p {l} i list e = ap (locatorRowFrom i list) e ∙ locator-sets i list l
+
+  -- and what comes after it
+  locator-next : {p e : ℕ} {l : Locator} {bad : ℕ} → p < e → locatorAt s p ≡ LocatorRead.Got l (e - p) bad → locatorNext s p ≡ e
+  unfolding locatorNext locatorNextFrom
+  locator-next {p} h q = ap (locatorNextFrom p) q ∙ omega arith
+
+  -- the locators that stand in a message
+  pub locators-rows : {p e : ℕ} {xs : Items} {ls : List Loc} → StandAll s p e xs → LocatorItems xs ls → (rows : List (List ℕ)) × Locators p rows ls
+  locators-rows a LocatorItems.empty = ([], Chain.end)
+  locators-rows {p} a (LocatorItems.more {x = x} {ls = ls} i is) =
+      let c = split a in
+      let (l, bad, read, described, _) = locator-read (c .first) i by in
+      let text : TextIn s l = subst (TextOk s) read (text-ok s p (drop p s) (omega (arith, length-drop p s, c .first .within, advances (c .first)))) in
+      let told = placed l text (subst (LocatorItem x) (sym described) i) in
+      let (rows, more) = locators-rows (c .rest) is in (
+        locatorNumbers l ∷ rows,
+        Chain.step (locator-five l) (λ i list. locator-row p i list read) (λ rest. (told rest .is ∙ ap plainLoc described, told rest .says))
+            (subst (λ (k : ℕ). Locators k rows ls) (sym (locator-next (advances (c .first)) read)) more),
+      )

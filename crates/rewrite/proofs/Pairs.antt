@@ -1,0 +1,224 @@
+-- The rows of pairs that were read: their numbers are stored, and tell the pairs that stand in the message.
+-- Assumes nothing.
+use mathlib.Core.Path.{_≡_, refl, sym, ap, ap₂, _∙_, subst}
+use mathlib.Core.Logic.{_⊎_, inl, inr}
+use mathlib.Core.List.{List, [], _∷_, _++_}
+use mathlib.Core.Option.{Option, none, some}
+use Prim.Native.Nat.{ℕ, suc, _+_, _*_, _-_, _≤_, _<_}
+use native.Mathlib.Nat.{add-assoc}
+use native.Mathlib.Omega.{arith}
+use borrow.Author.Tests.{ne-eqb}
+use lib.ListN.{length, drop, getD, set, length-drop}
+use lib.Seq.{sets, getD-append-add}
+use Rattle.base.specs.Pick.{pick}
+use Rattle.base.specs.BigEndian.{Bytes}
+use Rattle.base.proofs.Picks.{both}
+use Rattle.cbor.specs.Item.{mostLevels}
+use Rattle.cbor.specs.Tree.{Item, Items, count, depth, depths}
+use Rattle.cbor.specs.Token.{tokenAt}
+use Rattle.cbor.proofs.Tokens.{token-end}
+use Rattle.options.specs.declared.locator.Locator.{Locator}
+use Rattle.options.specs.declared.locator.Locator.the-variants as L
+use Rattle.options.specs.declared.locator.LocatorRead.{LocatorRead}
+use Rattle.options.specs.declared.objective.Objective.{Objective}
+use Rattle.options.specs.declared.objective.ObjectiveRead.{ObjectiveRead}
+use Rattle.options.specs.declared.pair.Tag.{Tag}
+use Rattle.options.specs.declared.pair.PairRead.{PairRead}
+use Rattle.options.specs.Locator.{locatorIn, locatorNumbers}
+use Rattle.options.specs.Objective.{objectiveIn}
+use Rattle.options.specs.Pair.{pairTagged, pairTail, pairLed, pairIn, pairAt, five, tagNumbers, pairNumbers}
+use Rattle.options.proofs.Fits.{ObjectiveOk, objective-within}
+use Rattle.grammar.specs.Cddl.{Obj, Loc, LocatorItem, PairItem, PairItems}
+use Rattle.grammar.specs.Stands as S
+use Rattle.grammar.specs.Stands.{StandAll, tagOf}
+use Rattle.grammar.proofs.Bridge.{split, advances}
+use Rattle.grammar.proofs.Pairs.{pair-read}
+use Rattle.description.specs.declared.rows.Entry.{Entry}
+use Rattle.description.specs.declared.rows.Place.{Place}
+use Rattle.description.specs.Grasp as W
+use Rattle.description.specs.Describe.{pairRow, entryRow, entryOf, objOf, entryAt, locOf, placeAt, locOrNone}
+use Rattle.describe.specs.Describe.{goalOf}
+use Rattle.describe.specs.Rows as R
+use Rattle.roundtrip.specs.Plain.{plainMaybe, plainLoc, plainPair}
+use Rattle.roundtrip.specs.Says.{EntrySays, PlaceSays, Blank}
+use Rattle.rewrite.proofs.Filled.{Tells, Chain}
+use Rattle.rewrite.proofs.Spans.{Goals, objective-goals}
+use Rattle.rewrite.proofs.Locators.{TextIn, TextOk, text-ok, placed}
+
+-- ---- the text of a pair's locator lies in the message
+abbrev TagIn : List ℕ → Tag → Type 0
+TagIn m Tag.Empty = Unit {0}
+TagIn m (Tag.At l) = TextIn m l
+
+-- of an answer
+abbrev TagOk : List ℕ → PairRead → Type 0
+TagOk m (PairRead.Bad place) = Unit {0}
+TagOk m (PairRead.Got o tag size bad long) = TagIn m tag
+
+tagged-ok : (m : List ℕ) (at : ℕ) (o : Objective) (bad long : ℕ) (x : LocatorRead) → TextOk m x → TagOk m (pairTagged at o bad long x)
+unfolding pairTagged
+tagged-ok m at o bad long (LocatorRead.Bad place) h = tt
+tagged-ok m at o bad long (LocatorRead.Got l size b) h = h
+
+tail-ok : (m : List ℕ) (base : ℕ) (s : List ℕ) (at : ℕ) (o : Objective) (bad long : ℕ) → at ≤ length s → base + length s ≤ length m → TagOk m (pairTail base s at o bad long)
+unfolding pairTail
+tail-ok m base s at o bad long h k =
+    both (TagOk m) _ tt (tagged-ok m at o bad long (locatorIn (base + at) (drop at s)) (text-ok m (base + at) (drop at s) (omega (arith, length-drop at s))))
+
+led-ok : (m : List ℕ) (base : ℕ) (s : List ℕ) (n at : ℕ) (x : ObjectiveRead) → at ≤ length s → base + length s ≤ length m → ObjectiveOk (length s - at) x → TagOk m (pairLed base s n at x)
+unfolding pairLed
+led-ok m base s n at (ObjectiveRead.Bad place) h k f = tt
+led-ok m base s n at (ObjectiveRead.Got o size bad long) h k f = both (TagOk m) _ (tail-ok m base s (at + size) o bad long (omega arith) k) tt
+
+-- what is read at a place
+tag-ok : (m : List ℕ) (base : ℕ) (s : List ℕ) → base + length s ≤ length m → TagOk m (pairIn base s)
+unfolding pairIn
+tag-ok m base s k =
+    both (TagOk m) _ tt
+    (led-ok m base s _ _ (objectiveIn _ (drop (tokenAt s 0 .next) s)) (token-end s 0) k (objective-within s _ (tokenAt s 0 .next) _ _ refl refl))
+
+-- ---- a row
+-- a tag has five numbers
+tag-five : (tag : Tag) → five (tagNumbers tag) ≡ tagNumbers tag
+unfolding tagNumbers locatorNumbers
+tag-five Tag.Empty = refl
+tag-five (Tag.At (L.V6 at protocol port)) = refl
+tag-five (Tag.At (L.V4 at protocol port)) = refl
+tag-five (Tag.At (L.Domain name protocol port)) = refl
+tag-five (Tag.At (L.Uri uri protocol port)) = refl
+
+-- a pair's row: its objective's seven numbers, with 0 for the place of the count, and its tag's five
+unfoldable numbersOf : Objective → Tag → List ℕ
+numbersOf o tag = o .name .at ∷ o .name .len ∷ o .flags ∷ o .count ∷ 0 ∷ o .value .at ∷ o .value .len ∷ five (tagNumbers tag)
+
+-- twelve numbers stored one after the other
+twelve-sets : (l : List ℕ) (k a b c d e f g h i j m n : ℕ)
+    → set (set (set (set (set (set (set (set (set (set (set (set l k a) (k + 1) b) (k + 2) c) (k + 3) d) (k + 4) e) (k + 5) f) (k + 6) g) (k + 7) h) (k + 8) i) (k + 9) j) (k + 10) m) (k + 11) n
+    ≡ sets l k (a ∷ b ∷ c ∷ d ∷ e ∷ f ∷ g ∷ h ∷ i ∷ j ∷ m ∷ n ∷ [])
+twelve-sets l k a b c d e f g h i j m n =
+    let e₁ : k + 1 ≡ suc k = omega arith in
+    let e₂ : k + 2 ≡ suc (k + 1) = omega arith in
+    let e₃ : k + 3 ≡ suc (k + 2) = omega arith in
+    let e₄ : k + 4 ≡ suc (k + 3) = omega arith in
+    let e₅ : k + 5 ≡ suc (k + 4) = omega arith in
+    let e₆ : k + 6 ≡ suc (k + 5) = omega arith in
+    let e₇ : k + 7 ≡ suc (k + 6) = omega arith in
+    let e₈ : k + 8 ≡ suc (k + 7) = omega arith in
+    let e₉ : k + 9 ≡ suc (k + 8) = omega arith in
+    let e₁₀ : k + 10 ≡ suc (k + 9) = omega arith in
+    let e₁₁ : k + 11 ≡ suc (k + 10) = omega arith in
+    rw (e₁₁, e₁₀, e₉, e₈, e₇, e₆, e₅, e₄, e₃, e₂, e₁)
+
+-- those of a row
+pair-sets : (i : ℕ) (list : List ℕ) (o : Objective) (tag : Tag) → R.pairNumbered i (pairNumbers o tag) list ≡ sets list (pairRow * i) (numbersOf o tag)
+unfolding R.pairNumbered pairNumbers numbersOf
+pair-sets i list o tag = twelve-sets list (12 * i) _ _ _ _ _ _ _ _ _ _ _ _
+
+-- it has so many numbers
+pair-twelve : (o : Objective) (tag : Tag) → length (numbersOf o tag) ≡ pairRow
+unfolding numbersOf
+pair-twelve o tag = refl
+
+-- what a row is: the number that is kept, the objective and the place
+pub record Row : Type 0 where
+  pub kept : ℕ
+  pub entry : Entry
+  pub place : Place
+
+unfoldable pub rowAt : List ℕ → ℕ → Row
+rowAt list k = record { kept = getD list (k + 4) 0; entry = entryAt list k; place = placeAt list (k + entryRow) }
+
+-- the numbers behind others
+row-shift : (a b : List ℕ) (k : ℕ) → rowAt (a ++ b) (length a + k) ≡ rowAt b k
+unfolding rowAt entryAt placeAt
+row-shift a b k = simp (add-assoc, getD-append-add)
+
+-- row i + 1, behind the first, is row i
+pub row-behind : (ns rest : List ℕ) (i : ℕ) → length ns ≡ pairRow → rowAt (ns ++ rest) (pairRow * suc i) ≡ rowAt rest (pairRow * i)
+row-behind ns rest i e = let sum : pairRow * suc i ≡ length ns + pairRow * i = omega arith in ap (rowAt (ns ++ rest)) sum ∙ row-shift ns rest (pairRow * i)
+
+-- ---- what it tells
+-- a pair's place: five zeros, or its locator's numbers
+pub record TagIs (m : List ℕ) (p : Place) (tag : Option Loc) : Type 0 where
+  pub is : locOrNone m p ≡ plainMaybe plainLoc tag
+  pub says : Blank p ⊎ PlaceSays m p
+
+-- none
+tag-empty : (m rest : List ℕ) → TagIs m (placeAt (tagNumbers Tag.Empty ++ rest) 0) none
+unfolding tagNumbers placeAt locOrNone plainMaybe pick
+tag-empty m rest = record { is = refl; says = inl (record { kind = refl; at = refl; len = refl; protocol = refl; port = refl }) }
+
+-- a locator of a known kind isn't none
+known : {m : List ℕ} {p : Place} → PlaceSays m p → locOrNone m p ≡ W.Maybe.some (locOf m p)
+unfolding locOrNone pick
+known {p = p} says = rw (ne-eqb (p .kind) 0 (λ e. omega (arith, says .least)))
+
+tag-locator : {m : List ℕ} {x : Item} (l : Locator) → TextIn m l → LocatorItem x (S.locOf m l) → (rest : List ℕ)
+    → TagIs m (placeAt (tagNumbers (Tag.At l) ++ rest) 0) (some (S.locOf m l))
+unfolding tagNumbers plainMaybe
+tag-locator l t i rest = let told = placed l t i rest in record { is = known (told .says) ∙ ap W.Maybe.some (told .is); says = inr (told .says) }
+
+-- of what was read
+tag-tells : {m : List ℕ} {x : Item} {pair : Obj × Option Loc} (tag : Tag) → TagIn m tag → PairItem x pair → tagOf m tag ≡ pair .1 → (rest : List ℕ)
+    → TagIs m (placeAt (tagNumbers tag ++ rest) 0) (pair .1)
+unfolding tagOf
+tag-tells Tag.Empty t (PairItem.untagged o) e rest = tag-empty _ rest
+tag-tells Tag.Empty t (PairItem.tagged o l) e rest = absurd (let z : _≡_ {A = ℕ} 0 1 = cc in omega arith)
+tag-tells (Tag.At l) t (PairItem.untagged o) e rest = absurd (let z : _≡_ {A = ℕ} 0 1 = cc in omega arith)
+tag-tells {m} (Tag.At l) t (PairItem.tagged {y = y} {loc = loc} o i) e rest =
+    let same : S.locOf m l ≡ loc = cc in
+    subst (λ (k : Loc). TagIs m (placeAt (tagNumbers (Tag.At l) ++ rest) 0) (some k)) same (tag-locator l t (subst (LocatorItem y) (sym same) i) rest)
+
+-- ---- the rows of all
+-- what a row is, what it tells, and that it is in order
+abbrev pub rowOf : List ℕ → ℕ → Row
+rowOf list i = rowAt list (pairRow * i)
+
+abbrev pub pairOf : List ℕ → Row → W.Pair
+pairOf s r = record { objective = objOf s (r .entry); locator = locOrNone s (r .place) }
+
+pub record InOrder (s : List ℕ) (r : Row) : Type 0 where
+  pub kept : r .kept ≡ 0
+  pub objective : EntrySays s (r .entry)
+  pub locator : Blank (r .place) ⊎ PlaceSays s (r .place)
+
+module _ (s : List ℕ) (by : Bytes s) where
+  -- rows of pairs
+  abbrev pub Pairs : ℕ → List (List ℕ) → List (Obj × Option Loc) → Type 0
+  Pairs = Chain pairRow (R.pairNext s) (R.pairRow s) (Tells rowOf (pairOf s) plainPair (InOrder s))
+
+  -- one row
+  pair-row : (p : ℕ) {o : Objective} {tag : Tag} {size bad long : ℕ} (i : ℕ) (list : List ℕ) → pairAt s p ≡ PairRead.Got o tag size bad long
+      → R.pairRow s p i list ≡ sets list (pairRow * i) (numbersOf o tag)
+  unfolding R.pairRow R.pairRowFrom
+  pair-row p {o} {tag} i list e = ap (R.pairRowFrom i list) e ∙ pair-sets i list o tag
+
+  -- and what comes after it
+  pair-next : {p e : ℕ} {o : Objective} {tag : Tag} {bad long : ℕ} → p < e → pairAt s p ≡ PairRead.Got o tag (e - p) bad long → R.pairNext s p ≡ e
+  unfolding R.pairNext R.pairNextFrom
+  pair-next {p} h q = ap (R.pairNextFrom p) q ∙ omega arith
+
+  -- what the numbers tell
+  pair-tells : {obj : Obj} {loc : Option Loc} (o : Objective) (tag : Tag) → Goals s o obj → ((rest : List ℕ) → TagIs s (placeAt (tagNumbers tag ++ rest) 0) loc) → (rest : List ℕ)
+      → Tells rowOf (pairOf s) plainPair (InOrder s) (numbersOf o tag ++ rest) (obj, loc)
+  unfolding numbersOf rowAt entryAt placeAt entryOf goalOf plainPair
+  pair-tells {loc = loc} o tag goal told rest =
+      let tag-is = subst (λ (ns : List ℕ). TagIs s (placeAt (ns ++ rest) 0) loc) (sym (tag-five tag)) (told rest) in
+      (ap₂ (λ (x : W.Obj) (y : W.Maybe W.Loc). pair-of x y) (goal .is) (tag-is .is), record { kept = refl; objective = goal .says; locator = tag-is .says })
+    where
+      pair-of : W.Obj → W.Maybe W.Loc → W.Pair
+      pair-of x y = record { objective = x; locator = y }
+
+  -- the pairs that stand in a message
+  pub pairs-rows : {p e : ℕ} {xs : Items} {ps : List (Obj × Option Loc)} → depths xs ≤ mostLevels → StandAll s p e xs → PairItems xs ps → (rows : List (List ℕ)) × Pairs p rows ps
+  unfolding depth
+  pairs-rows d a PairItems.empty = ([], Chain.end)
+  pairs-rows {p} d a (PairItems.more {ps = ps} i is) =
+      let c = split a in
+      let (o, tag, bad, long, read, at, mid, opened, objective, described, _, _) = pair-read (c .first) (omega (arith, d)) i by in
+      let text : TagIn s tag = subst (TagOk s) read (tag-ok s p (drop p s) (omega (arith, length-drop p s, c .first .within, advances (c .first)))) in
+      let (rows, more) = pairs-rows (omega (arith, d)) (c .rest) is in (
+        numbersOf o tag ∷ rows,
+        Chain.step (pair-twelve o tag) (λ i list. pair-row p i list read) (pair-tells o tag (objective-goals objective) (tag-tells tag text i described))
+            (subst (λ (k : ℕ). Pairs k rows ps) (sym (pair-next (advances (c .first)) read)) more),
+      )
