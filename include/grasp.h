@@ -21,7 +21,7 @@
 extern "C" {
 #endif
 
-/* The numbers of the refusals that reading and writing give. */
+/* The numbers of the refusals. */
 enum grasp_refusal {
     GRASP_ACCEPTED = 0,
     GRASP_BAD_SIZE = 1,         /* no bytes, or over 2,048 */
@@ -35,8 +35,11 @@ enum grasp_refusal {
     GRASP_BAD_SHAPE = 9,        /* any other departure from the message shapes */
     GRASP_LONG_NAME = 10,       /* an objective's name over 64 bytes */
     GRASP_BAD_TEXT = 11,        /* a named text that isn't UTF-8 */
+    GRASP_BAD_RECORD = 12,      /* interfaces not 1 to 8, a link at or above them, or tally above 2^63 */
+    GRASP_BAD_LINK = 13,        /* new links with a bit at or above the interfaces */
     GRASP_NO_SUCH_MESSAGE = 18, /* writing: no accepted message has this description */
-    GRASP_SHORT_OUTPUT = 19     /* writing: the output is shorter than the encoding */
+    GRASP_SHORT_OUTPUT = 19,    /* writing: the output is shorter than the encoding */
+    GRASP_NOT_ALLOWED = 20      /* negotiation: a step that isn't allowed */
 };
 
 /* The kinds of messages. */
@@ -106,6 +109,39 @@ enum grasp_pair_field {
 };
 
 /*
+ * A node's record is its own address, 16 bytes that the host keeps, and these
+ * numbers. grasp_fresh fills them.
+ */
+enum grasp_record_field {
+    GRASP_RECORD_PORT = 0,
+    GRASP_RECORD_TTL = 1,        /* in ms */
+    GRASP_RECORD_INTERFACES = 2, /* how many: 1 to 8 */
+    GRASP_RECORD_LINKS = 3,      /* bit i: interface i is up */
+    GRASP_RECORD_CLOCK = 4,      /* the last accepted one, in ms */
+    GRASP_RECORD_TALLY = 5,      /* the copies of all relays */
+    GRASP_RECORD_FIELDS = 6
+};
+
+enum { GRASP_ADDRESS_BYTES = 16 };
+
+/*
+ * The state of a negotiation, one for a session. A fresh one is all zeros, and a
+ * host begins each session with it; grasp_step changes it.
+ */
+enum grasp_state_field {
+    GRASP_STATE_PHASE = 0,
+    GRASP_STATE_SESSION = 1, /* open: the session */
+    GRASP_STATE_COUNT = 2,   /* open: the count of the last Request or Negotiate */
+    GRASP_STATE_TURN = 3,    /* open: the side that may move */
+    GRASP_STATE_FIELDS = 4
+};
+
+enum grasp_phase { GRASP_FRESH = 0, GRASP_OPEN = 1, GRASP_CLOSED = 2 };
+
+/* The two sides of a session. */
+enum grasp_side { GRASP_WE = 0, GRASP_THEY = 1 };
+
+/*
  * Reads the message that the len bytes are. Answers 0 and fills the block, or
  * answers the number of the refusal and leaves the block as it was.
  */
@@ -140,6 +176,34 @@ size_t grasp_pair(const uint8_t *bytes, size_t len, size_t at, uint64_t fields[G
  */
 uint8_t grasp_write(const uint8_t *source, size_t len, const uint64_t *list, size_t numbers,
                     const uint64_t fields[GRASP_FIELDS], uint8_t *out, size_t size, uint64_t *length);
+
+/*
+ * Begins a node: answers 0 and fills the numbers of a fresh record, whose clock
+ * and tally are 0; or answers 12 and leaves them as they were.
+ */
+uint8_t grasp_fresh(const uint8_t address[GRASP_ADDRESS_BYTES], uint16_t port, uint32_t ttl,
+                    uint64_t interfaces, uint64_t links, uint64_t numbers[GRASP_RECORD_FIELDS]);
+
+/*
+ * Puts new links in the place of the old ones. Answers 0; or 12, also where the
+ * port has more than 16 bits or the ttl more than 32, then 13, and leaves the
+ * numbers as they were.
+ */
+uint8_t grasp_set_links(const uint8_t address[GRASP_ADDRESS_BYTES], uint64_t numbers[GRASP_RECORD_FIELDS],
+                        uint64_t links);
+
+/*
+ * Takes one step of a negotiation: the message that the len bytes are, sent by
+ * this side. Answers 0 and puts the state that the message leads to, or answers
+ * the number of the refusal and leaves the state as it was: 1 to 11 as
+ * grasp_read, then 20. A fresh state takes a Request of negotiation with a count
+ * of at least 1, by either side. An open one takes from the side with the turn,
+ * with the state's session: a Negotiate with a count one lower and at least 1, a
+ * Wait, or an End. All else is 20, and so is a side or a state with a number that
+ * isn't one of the above, a session over 32 bits or a count over 255. A state
+ * that becomes closed has 0 in its other fields.
+ */
+uint8_t grasp_step(uint64_t state[GRASP_STATE_FIELDS], const uint8_t *bytes, size_t len, uint64_t side);
 
 #ifdef __cplusplus
 }

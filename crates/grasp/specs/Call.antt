@@ -14,6 +14,7 @@ use Rattle.node.specs.declared.Called.{Called}
 use Rattle.node.specs.Call.{Call, After, nodeCall}
 use Rattle.grasp.specs.declared.call.Answer as A
 use Rattle.grasp.specs.Table.{numbersIn, bytesWith}
+use Rattle.grasp.specs.Records.{nodeOf, nodeNumbers}
 
 -- the verdicts in the rules' order, from 1
 unfoldable pub verdictNumber : Verdict → ℕ
@@ -56,3 +57,26 @@ module _ (r : Record) (bytes : List ℕ) (c : Call) where
 
   unfoldable pub callOutput : List ℕ
   callOutput = afterCall .output
+
+-- what the host has after a call: the number of the refusal, the record's numbers, the table, the output, and the answer
+pub record Host : Type 0 where
+  pub refusal : ℕ
+  pub numbers : List ℕ
+  pub table : List ℕ
+  pub output : List ℕ
+  pub answer : List ℕ
+
+abbrev pub hostOf : ℕ → List ℕ → List ℕ → List ℕ → List ℕ → Host
+hostOf refusal numbers table output answer = record { refusal = refusal; numbers = numbers; table = table; output = output; answer = answer }
+
+-- the answer's four numbers
+unfoldable pub answerNumbers : A.Answer → List ℕ
+answerNumbers a = a .verdict ∷ a .«handed_up» ∷ a .mask ∷ a .length ∷ []
+
+-- a refusal leaves all as it was
+unfoldable pub hostCall : List ℕ → List ℕ → List ℕ → Call → List ℕ → Host
+hostCall address numbers bytes c answer =
+    let r = nodeOf address numbers in
+    let a = callAnswer r bytes c in
+    pick (eqb (a .refusal) 0) (hostOf 0 (nodeNumbers (a .node)) (callTable r bytes c) (callOutput r bytes c) (answerNumbers a))
+    (hostOf (a .refusal) numbers (callTable r bytes c) (callOutput r bytes c) answer)

@@ -1,6 +1,9 @@
--- `Block`: what was read, as numbers in fixed places. `Reading`, `Writing`: what the exported functions answer and leave.
+-- `Block`: what was read, as numbers in fixed places. `Table`: the relay table as bytes. `Reading`, `Writing`, `Negotiating`, `Records`, `Call`: what the
+-- exported functions answer and leave.
 pub mod Block
 pub mod Reading
 pub mod Writing
+pub mod Negotiating
+pub mod Records
 pub mod Table
 pub mod Call

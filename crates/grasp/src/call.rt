@@ -1,7 +1,8 @@
 // The node call, for C.
 ghost use mathlib.Core.Path.{_≡_};
 ghost use Rattle.node.specs.Call.{callOf};
-ghost use Rattle.grasp.specs.Call.{verdictNumber, upNumber, answerFrom, replyNumbers, callAnswer, callTable, callOutput};
+ghost use Rattle.grasp.specs.Call.{verdictNumber, upNumber, answerFrom, callAnswer, callTable, callOutput, hostOf, hostCall};
+use crate::records;
 use crate::table;
 use node::Called;
 use node::Record;
@@ -11,7 +12,6 @@ use node::call;
 
 // A node call's answer: the number of the refusal, 0 for none; the verdict's number (the header names them), whether the message is handed up, the mask
 // of the interfaces to send on, how many bytes to send, all 0 for a refusal; and the record.
-#[repr(C)]
 pub struct Answer {
     pub refusal: u8,
     pub verdict: u8,
@@ -21,9 +21,36 @@ pub struct Answer {
     pub node: Record,
 }
 
-// The table is lent as 2,048 bytes; another length is 15 in its turn.
+// 0 and the record's numbers, the table, the output and the answer (verdict, handed up, mask, length) as the call leaves them; or the number of the refusal,
+// and all of them as they were. The table is lent as 2,048 bytes; another length is 15 in its turn.
 #[no_mangle]
 pub extern "C" fn grasp_node_call(
+    address: &[u8; 16],
+    numbers: &mut [u64; 6],
+    bytes: &mut [u8],
+    clock: u64,
+    interface: u64,
+    names: &[u8],
+    message: &[u8],
+    out: &mut [u8],
+    answer: &mut [u64; 4],
+) -> u8
+    ensures { λ r. ⌜ hostOf r (now (numbers .exit)) (now (bytes .exit)) (now (out .exit)) (now (answer .exit)) ≡ hostCall (now (address .entry)) (now (numbers .entry)) (now (bytes .entry)) (callOf clock interface (now (names .entry)) (now (message .entry)) (now (out .entry))) (now (answer .entry)) ⌝ }
+{
+    let node = records::node_of(address, numbers);
+    let a = call_with(node, bytes, clock, interface, names, message, out);
+    let refusal = a.refusal;
+    if refusal != 0 {
+        return refusal;
+    }
+    let next = a.node;
+    *numbers = records::numbers_of(next);
+    *answer = [a.verdict as u64, a.handed_up as u64, a.mask as u64, a.length];
+    0
+}
+
+// The node call on a table of bytes.
+fn call_with(
     node: Record,
     bytes: &mut [u8],
     clock: u64,

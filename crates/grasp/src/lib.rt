@@ -2,6 +2,8 @@
 // answer every argument.
 pub mod block;
 pub mod call;
+pub mod negotiating;
 pub mod reading;
+pub mod records;
 mod table;
 pub mod writing;

@@ -17,9 +17,6 @@ pub struct Stored {
     pub contents: Vec<u8>,
 }
 
-/// Programs that are still to be written: their files are neither stored nor checked.
-const AWAITED: &[&str] = &["negotiation_vectors", "node_vectors"];
-
 /// A program's name under `crates/`, and what gives its files.
 type Program = (&'static str, fn() -> Files);
 
@@ -36,7 +33,6 @@ const PROGRAMS: &[Program] = &[
 pub fn all() -> Vec<Stored> {
     PROGRAMS
         .iter()
-        .filter(|(name, _)| !AWAITED.contains(name))
         .flat_map(|(name, files)| program(name, files()))
         .collect()
 }

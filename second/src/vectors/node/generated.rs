@@ -222,7 +222,7 @@ impl Teller<'_> {
             ttl: self.random.number() as u32,
             count: self.count + u64::from(self.random.once_in(12)) * 8,
             mask: if self.random.once_in(12) {
-                all + 1
+                (all + 1).min(255)
             } else {
                 all
             },

@@ -139,9 +139,10 @@ impl Op {
             }
             Op::Links(mask) => [vec![3], numbers(&[*mask])].concat(),
             Op::Record(other) => {
-                let said = [other.count, other.mask, other.clock, other.tally];
-                let other = record(&other.address, other.port, other.ttl, &said);
-                [vec![4], other].concat()
+                let start = record(&other.address, other.port, other.ttl, &[]);
+                let narrow = vec![byte(other.count), byte(other.mask)];
+                let rest = numbers(&[other.clock, other.tally]);
+                [vec![4], start, narrow, rest].concat()
             }
             Op::Row(row, said) => {
                 assert!(4 * usize::from(*row) < MOST_NUMBERS);
@@ -224,6 +225,11 @@ fn numbers(numbers: &[u64]) -> Vec<u8> {
 fn record(address: &[u8; 16], port: u16, ttl: u32, rest: &[u64]) -> Vec<u8> {
     let start = [&address[..], &port.to_be_bytes(), &ttl.to_be_bytes()];
     [start.concat(), numbers(rest)].concat()
+}
+
+/// The count or the mask of a record that is put: the program's type holds no greater one.
+fn byte(number: u64) -> u8 {
+    u8::try_from(number).expect("one byte")
 }
 
 /// A length in two bytes, then as many bytes.

@@ -117,8 +117,8 @@ fn operations_are_stored_as_said() {
         &[6, 1, 1],
         &[4],
         &[9; 16],
-        &[0, 1, 0, 0, 0, 2],
-        &[number(3), number(4), number(5), number(6)].concat(),
+        &[0, 1, 0, 0, 0, 2, 3, 4],
+        &[number(5), number(6)].concat(),
     ]
     .concat();
     assert_eq!(story.stored(), stored);

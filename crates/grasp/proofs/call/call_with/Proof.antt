@@ -1,10 +1,10 @@
 use Rattle.node.specs.Call.{callOf}
 use Rattle.grasp.proofs.Calls.{other-length, call-refused, call-given}
 use borrow.Author.Needs.{needs}
-use Rattle.grasp.proofs.call.grasp_node_call.Statement.{statement}
-use Rattle.grasp.proofs.call.grasp_node_call.Tie as tie
-use Rattle.grasp.proofs.call.grasp_node_call.Reads as reads
-use Rattle.grasp.proofs.call.grasp_node_call.Lts as lts
+use Rattle.grasp.proofs.call.call_with.Statement.{statement}
+use Rattle.grasp.proofs.call.call_with.Tie as tie
+use Rattle.grasp.proofs.call.call_with.Reads as reads
+use Rattle.grasp.proofs.call.call_with.Lts as lts
 use Rattle.grasp.proofs.call.answer_from.Reads as answer-from-reads
 use Rattle.grasp.proofs.table.load.Reads as load-reads
 use Rattle.grasp.proofs.table.save.Reads as save-reads
@@ -82,8 +82,8 @@ same-length-5 c = search needs
 returns-3 : tie.Need-returns-3
 returns-3 c = let h = call-refused (c .before .before .before .before .before .before .before .before .before .before .before .before .before .before .before .before .before .before .args .node) (c .before .before .before .before .before .before .before .before .before .before .before .before .before .before .before .before .before .before .args .bytes .now) (callOf (c .before .before .before .before .before .before .before .before .before .before .before .before .before .before .before .before .before .before .args .clock) (c .before .before .before .before .before .before .before .before .before .before .before .before .before .before .before .before .before .before .args .interface) (c .before .before .before .before .before .before .before .before .before .before .before .before .before .before .before .before .before .before .args .names .now) (c .before .before .before .before .before .before .before .before .before .before .before .before .before .before .before .before .before .before .args .message .now) (c .before .before .before .before .before .before .before .before .before .before .before .before .before .before .before .before .before .before .args .out .now)) _ _ _ _ (c .before .before .answer-from2 .ensures) _ (c .before .before .before .before .before .before .before .before .before .before .before .before .before .if1 .left) (c .before .before .before .before .before .before .before .before .before .before .load .ensures) (c .before .before .before .before .before .before .node-call2 .ensures) (c .if2 .left) in (h .0, (h .1, h .2))
 
-pub grasp-node-call-spec : {M : Type 1} → statement M
-grasp-node-call-spec =
+pub call-with-spec : {M : Type 1} → statement M
+call-with-spec =
     tie.close
     (tie.spec
     slice-aggregate-node-call

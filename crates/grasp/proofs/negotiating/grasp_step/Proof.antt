@@ -1,0 +1,59 @@
+-- `grasp::negotiating::grasp_step` meets its contract.
+-- Assumes nothing.
+use Rattle.grasp.specs.Negotiating.{stepNumber, numberFrom, stateAfter, numbersFrom}
+use borrow.Author.Needs.{needs}
+use Rattle.grasp.proofs.negotiating.grasp_step.Statement.{statement}
+use Rattle.grasp.proofs.negotiating.grasp_step.Tie as tie
+use Rattle.grasp.proofs.negotiating.grasp_step.Reads as reads
+use Rattle.grasp.proofs.negotiating.grasp_step.Lts as lts
+use Rattle.grasp.proofs.negotiating.numbers_of.Reads as numbers-of-reads
+use Rattle.grasp.proofs.negotiating.side_of.Reads as side-of-reads
+use Rattle.grasp.proofs.negotiating.state_of.Reads as state-of-reads
+use Rattle.negotiation.proofs.step.Reads as step-reads
+
+-- src/negotiating.rt:14:9
+state-of-requires : tie.Need-state-of-requires
+state-of-requires c κs = search needs
+
+-- src/negotiating.rt:15:54
+side-of-requires : tie.Need-side-of-requires
+side-of-requires c κs = search needs
+
+-- src/negotiating.rt:15:9
+step-requires : tie.Need-step-requires
+step-requires c κs = search needs
+
+-- src/negotiating.rt:17:26
+enum-known-stepped : tie.Need-enum-known-stepped
+enum-known-stepped c = search needs
+
+-- src/negotiating.rt:18:24
+enum-known-stepped-2 : tie.Need-enum-known-stepped-2
+enum-known-stepped-2 c = search needs
+
+-- src/negotiating.rt:19:22
+numbers-of-requires : tie.Need-numbers-of-requires
+numbers-of-requires c κs = search needs
+
+-- src/negotiating.rt:9:1
+returns : tie.Need-returns
+unfolding stepNumber numberFrom stateAfter numbersFrom
+returns c = (rw (← c .before .before .before .before .before .state-of .ensures, ← c .before .before .before .before .side-of .ensures, ← c .before .before .before .step .ensures, c .before .stepped .given .1), rw (← c .before .before .before .before .before .state-of .ensures, ← c .before .before .before .before .side-of .ensures, ← c .before .before .before .step .ensures, c .before .stepped .given .1))
+
+-- src/negotiating.rt:9:1
+returns-2 : tie.Need-returns-2
+unfolding stepNumber numberFrom stateAfter numbersFrom
+returns-2 c = (rw (← c .before .before .before .before .before .before .state-of .ensures, ← c .before .before .before .before .before .side-of .ensures, ← c .before .before .before .before .step .ensures, c .before .before .stepped2 .given .1), rw (← c .before .before .before .before .before .before .state-of .ensures, ← c .before .before .before .before .before .side-of .ensures, ← c .before .before .before .before .step .ensures, c .before .before .stepped2 .given .1) (c .numbers-of .ensures))
+
+pub grasp-step-spec : {M : Type 1} → statement M
+grasp-step-spec =
+    tie.close
+    (tie.spec
+    state-of-requires
+    side-of-requires
+    step-requires
+    enum-known-stepped
+    enum-known-stepped-2
+    numbers-of-requires
+    returns
+    returns-2)

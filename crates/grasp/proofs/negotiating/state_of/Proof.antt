@@ -1,0 +1,93 @@
+-- `grasp::negotiating::state_of` meets its contract.
+-- Assumes nothing.
+use Rattle.base.specs.Pick.{pick}
+use borrow.Author.Tests.{lt-ltb, le-ltb, eq-eqb, ne-eqb}
+use Rattle.grasp.specs.Negotiating.{stateOf}
+use borrow.Author.Needs.{needs}
+use Rattle.grasp.proofs.negotiating.state_of.Statement.{statement}
+use Rattle.grasp.proofs.negotiating.state_of.Tie as tie
+use Rattle.grasp.proofs.negotiating.state_of.Reads as reads
+use Rattle.grasp.proofs.negotiating.state_of.Lts as lts
+use Rattle.grasp.proofs.negotiating.side_of.Reads as side-of-reads
+
+-- src/negotiating.rt:30:17
+element-copy-out-phase : tie.Need-element-copy-out-phase
+element-copy-out-phase c = search needs
+
+-- src/negotiating.rt:31:19
+element-copy-out-session : tie.Need-element-copy-out-session
+element-copy-out-session c = search needs
+
+-- src/negotiating.rt:32:17
+element-copy-out-count : tie.Need-element-copy-out-count
+element-copy-out-count c = search needs
+
+-- src/negotiating.rt:33:16
+element-copy-out-turn : tie.Need-element-copy-out-turn
+element-copy-out-turn c = search needs
+
+-- src/negotiating.rt:35:9
+returns : tie.Need-returns
+unfolding stateOf pick
+returns c = rw (lt-ltb _ _ (c .if1 .taken))
+
+-- src/negotiating.rt:38:9
+returns-2 : tie.Need-returns-2
+unfolding stateOf pick
+returns-2 c = rw (le-ltb _ _ (c .before .if1 .left), lt-ltb _ _ (c .if2 .taken))
+
+-- src/negotiating.rt:41:9
+returns-3 : tie.Need-returns-3
+unfolding stateOf pick
+returns-3 c = rw (le-ltb _ _ (c .before .before .if1 .left), le-ltb _ _ (c .before .if2 .left), lt-ltb _ _ (c .if3 .taken))
+
+-- src/negotiating.rt:44:9
+returns-4 : tie.Need-returns-4
+unfolding stateOf pick
+returns-4 c = rw (le-ltb _ _ (c .before .before .before .if1 .left), le-ltb _ _ (c .before .before .if2 .left), le-ltb _ _ (c .before .if3 .left), lt-ltb _ _ (c .if4 .taken))
+
+-- src/negotiating.rt:47:9
+returns-5 : tie.Need-returns-5
+unfolding stateOf pick
+returns-5 c = rw (le-ltb _ _ (c .before .before .before .before .if1 .left), le-ltb _ _ (c .before .before .before .if2 .left), le-ltb _ _ (c .before .before .if3 .left), le-ltb _ _ (c .before .if4 .left), eq-eqb _ _ (c .if5 .taken))
+
+-- src/negotiating.rt:51:22
+cast-t17 : tie.Need-cast-t17
+cast-t17 c = search needs
+
+-- src/negotiating.rt:52:20
+cast-t18 : tie.Need-cast-t18
+cast-t18 c = search needs
+
+-- src/negotiating.rt:53:19
+side-of-requires : tie.Need-side-of-requires
+side-of-requires c κs = search needs
+
+-- src/negotiating.rt:50:9
+returns-6 : tie.Need-returns-6
+unfolding stateOf pick
+returns-6 c = rw (le-ltb _ _ (c .before .before .before .before .before .before .if1 .left), le-ltb _ _ (c .before .before .before .before .before .if2 .left), le-ltb _ _ (c .before .before .before .before .if3 .left), le-ltb _ _ (c .before .before .before .if4 .left), ne-eqb _ _ (c .before .before .if5 .left), eq-eqb _ _ (c .before .if6 .taken), ← c .side-of .ensures)
+
+-- src/negotiating.rt:27:1
+returns-7 : tie.Need-returns-7
+unfolding stateOf pick
+returns-7 c = rw (le-ltb _ _ (c .before .before .before .before .before .if1 .left), le-ltb _ _ (c .before .before .before .before .if2 .left), le-ltb _ _ (c .before .before .before .if3 .left), le-ltb _ _ (c .before .before .if4 .left), ne-eqb _ _ (c .before .if5 .left), ne-eqb _ _ (c .if6 .left))
+
+pub state-of-spec : {M : Type 1} → statement M
+state-of-spec =
+    tie.close
+    (tie.spec
+    element-copy-out-phase
+    element-copy-out-session
+    element-copy-out-count
+    element-copy-out-turn
+    returns
+    returns-2
+    returns-3
+    returns-4
+    returns-5
+    cast-t17
+    cast-t18
+    side-of-requires
+    returns-6
+    returns-7)
