@@ -1,0 +1,73 @@
+use borrow.Author.Needs.{needs}
+use Rattle.grasp.proofs.call.grasp_node_call.Statement.{statement}
+use Rattle.grasp.proofs.call.grasp_node_call.Tie as tie
+use Rattle.grasp.proofs.call.grasp_node_call.Reads as reads
+use Rattle.grasp.proofs.call.grasp_node_call.Lts as lts
+use Rattle.grasp.proofs.call.call_with.Reads as call-with-reads
+use Rattle.grasp.proofs.records.node_of.Reads as node-of-reads
+use Rattle.grasp.proofs.records.numbers_of.Reads as numbers-of-reads
+
+-- src/call.rt:40:9
+node-of-requires : tie.Need-node-of-requires
+node-of-requires c κs = search needs
+
+-- src/call.rt:41:9
+call-with-requires : tie.Need-call-with-requires
+call-with-requires c κs = search needs
+
+-- src/call.rt:44:9
+same-length : tie.Need-same-length
+same-length c = search needs
+
+-- src/call.rt:44:9
+same-length-2 : tie.Need-same-length-2
+same-length-2 c = search needs
+
+-- src/call.rt:44:9
+returns : tie.Need-returns
+returns c = ?
+
+-- src/call.rt:47:16
+numbers-of-requires : tie.Need-numbers-of-requires
+numbers-of-requires c κs = search needs
+
+-- src/call.rt:48:16
+cast-t21 : tie.Need-cast-t21
+cast-t21 c = search needs
+
+-- src/call.rt:48:34
+cast-t22 : tie.Need-cast-t22
+cast-t22 c = search needs
+
+-- src/call.rt:48:54
+cast-t23 : tie.Need-cast-t23
+cast-t23 c = search needs
+
+-- src/call.rt:26:1
+same-length-3 : tie.Need-same-length-3
+same-length-3 c = search needs
+
+-- src/call.rt:26:1
+same-length-4 : tie.Need-same-length-4
+same-length-4 c = search needs
+
+-- src/call.rt:26:1
+returns-2 : tie.Need-returns-2
+returns-2 c = ?
+
+pub grasp-node-call-spec : {M : Type 1} → statement M
+grasp-node-call-spec =
+    tie.close
+    (tie.spec
+    node-of-requires
+    call-with-requires
+    same-length
+    same-length-2
+    returns
+    numbers-of-requires
+    cast-t21
+    cast-t22
+    cast-t23
+    same-length-3
+    same-length-4
+    returns-2)
