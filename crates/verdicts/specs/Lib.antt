@@ -1,0 +1,1 @@
+-- What the laws of `verdicts` are stated with.
