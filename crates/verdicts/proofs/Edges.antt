@@ -2,7 +2,7 @@
 -- Assumes nothing.
 use mathlib.Core.Path.{_≡_, refl}
 use mathlib.Core.Bool.{Bool, true, false}
-use mathlib.Core.List.{List, [], _∷_, _++_}
+use mathlib.Core.List.{List, [], _∷_, _++_, map}
 use Prim.Native.Nat.{ℕ, _+_, _*_, _^_}
 use lib.ListN.{replicate}
 use lib.Count.{ones, onesIn}
@@ -36,7 +36,8 @@ use Rattle.node.specs.declared.Reply.the-variants.{Given}
 use Rattle.node.specs.Record.{linksBad, recordBad, fresh, isUp, arrivalBad, others, clocked, tallied}
 use Rattle.node.specs.Table.{freshTable, cell, putRow, rowFree, tagIn, initiatorFits, rowKeyed, rowUsed, rowBad, firstFrom, someRow, tableBad, rowLife, rowDead, freeRows, freed, lowestFree, rowMatches, isKnown}
 use Rattle.node.specs.Role.{roleOf, tagOf, keyOf, keyIn}
-use Rattle.node.specs.Call.{Call, callOf, After, afterOf, barred, replies, refuse, quiet, written, onward, response, laterVerdict, verdictOn, answered, relayed, carriedOut, taken, judged as callJudged, nodeCall}
+use Rattle.node.specs.History.{Event, call, steps}
+use Rattle.node.specs.Call.{callOf, After, afterOf, barred, replies, refuse, quiet, written, onward, response, laterVerdict, verdictOn, answered, relayed, carriedOut, taken, judged as callJudged, nodeCall}
 
 -- ---- the messages
 
@@ -63,22 +64,21 @@ objective at flags count place = record { name = spanOf at 3; flags = flags; cou
 abbrev pub home : List ℕ
 home = 0x20 ∷ 0x01 ∷ 0x0d ∷ 0xb8 ∷ 0 ∷ 0 ∷ 0 ∷ 0 ∷ 0 ∷ 0 ∷ 0 ∷ 0 ∷ 0 ∷ 0 ∷ 0 ∷ 1 ∷ []
 
--- 3 interfaces all up, port 7017, ttl 60,000
+-- its record after some calls: 3 interfaces all up, port 7017, ttl 60,000
 abbrev pub node : ℕ → ℕ → Record
 node clock tally = record { address = home; port = 7017; ttl = 60000; interfaces = 3; links = 7; clock = clock; tally = tally }
 
 -- a message on interface 0, with no own names and an output of 2,048 zeros
-abbrev pub arrives : ℕ → List ℕ → Call
-arrives clock message = callOf clock 0 (0x80 ∷ []) message (replicate 2048 0)
+abbrev pub arrives : ℕ → List ℕ → Event
+arrives clock message = call (callOf clock 0 (0x80 ∷ []) message (replicate 2048 0))
 
 -- a table with row 0 filled, and the others free
 abbrev pub oneRow : ℕ → ℕ → ℕ → ℕ → List ℕ
 oneRow first second third clock = first ∷ second ∷ third ∷ clock ∷ replicate 252 0
 
--- one call after the other, each given the record and the table as those before it left them
-unfoldable pub outcomes : Record → List ℕ → List Call → List After
-outcomes r t [] = []
-outcomes r t (c ∷ cs) = let a = nodeCall r t c in a ∷ outcomes (a .called .node) (a .table) cs
+-- what came of each node call of a list from a fresh node
+abbrev pub outcomes : List Event → List After
+outcomes events = map (λ x. x .after) (steps (fresh home 7017 60000 3 7 .node) freshTable events)
 
 -- for readers
 
@@ -101,14 +101,13 @@ pub starred :
     × (readOf (flood 2) ≡ Reading.Read (M.Flood 7 (spanOf 4 4) 1000 (objective 14 4 2 18) (record { at = 11; many = 1 })))
     × (held (flood 2) (spanOf 4 4) ≡ initiator)
     × (held (flood 2) (spanOf 14 3) ≡ name)
-    × (fresh home 7017 60000 3 7 .node ≡ node 0 0)
-    × (outcomes (node 0 0) freshTable (arrives 1000 (discovery 2) ∷ arrives 1000 (discovery 2) ∷ arrives 60999 (discovery 2) ∷ arrives 61000 (discovery 2) ∷ [])
+    × (outcomes (arrives 1000 (discovery 2) ∷ arrives 1000 (discovery 2) ∷ arrives 60999 (discovery 2) ∷ arrives 61000 (discovery 2) ∷ [])
     ≡ afterOf (replies (Given Relay false 6 15) (node 1000 2)) (oneRow (7 + 2 ^ 32) 0xc0000201 0 1000) (discovery 1 ++ replicate 2033 0)
     ∷ afterOf (replies (Given Duplicate false 0 0) (node 1000 2)) (oneRow (7 + 2 ^ 32) 0xc0000201 0 1000) (replicate 2048 0)
     ∷ afterOf (replies (Given Duplicate false 0 0) (node 60999 2)) (oneRow (7 + 2 ^ 32) 0xc0000201 0 1000) (replicate 2048 0)
     ∷ afterOf (replies (Given Relay false 6 15) (node 61000 4)) (oneRow (7 + 2 ^ 32) 0xc0000201 0 61000) (discovery 1 ++ replicate 2033 0)
     ∷ [])
-    × (outcomes (node 0 0) freshTable (arrives 1000 (flood 2) ∷ [])
+    × (outcomes (arrives 1000 (flood 2) ∷ [])
     ≡ afterOf (replies (Given Relay true 6 20) (node 1000 2)) (oneRow (7 + 2 ^ 32 * 3) 0xc0000201 0 1000) (flood 1 ++ replicate 2028 0) ∷ [])
-unfolding pick bigEndian bytesOf widthOf leastOf initialOf argOf headJudged headFrom headBy headOf headAt opens stepOf stepFrom stepAt itemsOf next run enough firstItem nothingAt tokenOf tokenFrom tokenAt sizeFrom sizeAt itemsIn upTo tailsOf leastTail greatestTail goesOn isUtf8 infoOf headBytes shortest head badText firstOf longName objectiveIn isEmpty pairTagged pairTail pairLed pairIn isInitiator openingAt pairNext pairsFrom noopAt discovered discoveryAt optionAt endAt floodedBy floodedOf floodedAt floodBy floodAt byKind judged shaped framed examined placeless readOf lowered contentOf goodName goodNames arrayBad framedBad namesBad sameBytes ownFrom isOwn linksBad recordBad fresh isUp arrivalBad others clocked tallied freshTable cell putRow rowFree tagIn initiatorFits rowKeyed rowUsed rowBad firstFrom someRow tableBad rowLife rowDead freeRows freed lowestFree rowMatches isKnown roleOf tagOf keyOf keyIn barred refuse quiet written onward laterVerdict verdictOn relayed carriedOut taken callJudged nodeCall outcomes ones onesIn
-starred = (refl, refl, refl, refl, refl, refl, refl, refl, refl, refl, refl, refl, refl, refl, refl, refl, refl, refl, refl, refl)
+unfolding pick bigEndian bytesOf widthOf leastOf initialOf argOf headJudged headFrom headBy headOf headAt opens stepOf stepFrom stepAt itemsOf next run enough firstItem nothingAt tokenOf tokenFrom tokenAt sizeFrom sizeAt itemsIn upTo tailsOf leastTail greatestTail goesOn isUtf8 infoOf headBytes shortest head badText firstOf longName objectiveIn isEmpty pairTagged pairTail pairLed pairIn isInitiator openingAt pairNext pairsFrom noopAt discovered discoveryAt optionAt endAt floodedBy floodedOf floodedAt floodBy floodAt byKind judged shaped framed examined placeless readOf lowered contentOf goodName goodNames arrayBad framedBad namesBad sameBytes ownFrom isOwn linksBad recordBad fresh isUp arrivalBad others clocked tallied freshTable cell putRow rowFree tagIn initiatorFits rowKeyed rowUsed rowBad firstFrom someRow tableBad rowLife rowDead freeRows freed lowestFree rowMatches isKnown roleOf tagOf keyOf keyIn barred refuse quiet written onward laterVerdict verdictOn relayed carriedOut taken callJudged nodeCall steps ones onesIn
+starred = (refl, refl, refl, refl, refl, refl, refl, refl, refl, refl, refl, refl, refl, refl, refl, refl, refl, refl, refl)
