@@ -1,2 +1,3 @@
--- For readers: `Edges`, the starred cases of the rules, computed.
+-- For readers: `Edges`, the starred cases of the rules, computed; `Rows`, the rows of the relay table.
 pub mod Edges
+pub mod Rows

@@ -1,1 +1,2 @@
--- What the laws of `verdicts` are stated with.
+-- `Rows`: free, used, live and dead rows. `Due`: the verdict that is due, and what comes of it.
+pub mod Rows
