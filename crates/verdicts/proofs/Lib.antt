@@ -1,3 +1,4 @@
 -- For readers: `Edges`, the starred cases of the rules, computed; `Rows`, the rows of the relay table.
 pub mod Edges
 pub mod Rows
+pub mod Links
