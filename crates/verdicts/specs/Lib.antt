@@ -1,2 +1,3 @@
--- `Rows`: free, used, live and dead rows. `Due`: the verdict that is due, and what comes of it.
+-- `Rows`: free, used, live and dead rows. `Due`: the verdict that is due on a message, and what comes of a node call.
 pub mod Rows
+pub mod Due
