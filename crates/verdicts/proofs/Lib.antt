@@ -2,3 +2,5 @@
 pub mod Edges
 pub mod Rows
 pub mod Links
+pub mod Verdict
+mod Ways

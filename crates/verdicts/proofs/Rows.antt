@@ -324,3 +324,12 @@ pub filled-row : (t : List ℕ) (i : ℕ) (k : Key) (clock : ℕ) → length t �
 filled-row t i k clock len l =
     let h = put-holds t i k clock len l in
     (record { first = h .first; second = h .second; third = h .third }, h .clock, λ n other j m. put-other t i k clock n j other m, length-put t i k clock ∙ len)
+
+-- After freeing, no row is free exactly if every row lived.
+pub full-exactly : (now : ℕ) (t : List ℕ) → tableBad now t ≡ false → lowestFree (freed now t) ≡ 64 ↔ ((i : ℕ) → i < 64 → Live now t i)
+full-exactly now t good = (λ e i l. there i l (lowest-none (freed now t) .0 e i l) (row-is now t good i l), λ h. lowest-none (freed now t) .1 (λ i l. live-used now t good i l (h i l)))
+  where
+    there : (i : ℕ) → i < 64 → (Free (freed now t) i → ⊥) → Free t i ⊎ (Live now t i ⊎ Dead now t i) → Live now t i
+    there i l none (inl f) = absurd (none (free-stays now t good i l f))
+    there i l none (inr (inl live)) = live
+    there i l none (inr (inr d)) = absurd (none (test-cleared now t good i l (dead-test now t i d)))

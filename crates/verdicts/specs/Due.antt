@@ -58,7 +58,7 @@ pub data Rules : Type 1 where
   otherwise : Verdict → Bool → Rules
 
 -- the first that applies: its condition holds, and none before it does
-abbrev pub First : Rules → Verdict → Bool → Type 0
+unfoldable pub First : Rules → Verdict → Bool → Type 0
 First (when P v up rules) w up′ = (P × (v ≡ w) × (up ≡ up′)) ⊎ ((P → ⊥) × First rules w up′)
 First (otherwise v up) w up′ = (v ≡ w) × (up ≡ up′)
 
