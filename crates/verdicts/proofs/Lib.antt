@@ -3,4 +3,5 @@ pub mod Edges
 pub mod Rows
 pub mod Links
 pub mod Verdict
+pub mod Handed
 mod Ways

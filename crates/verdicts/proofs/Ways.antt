@@ -132,7 +132,7 @@ first-once (when P x up rules) (inr (n, rest)) (inr (m, rest′)) = first-once r
 first-once (otherwise x up) (e, f) (g, h) = (sym e ∙ g, sym f ∙ h)
 
 -- what a verdict says of handing up, for a Flood and for all else
-pub handed : Bool → Verdict → Bool
+unfoldable pub handed : Bool → Verdict → Bool
 handed flood Own = false
 handed flood Answer = false
 handed flood Duplicate = false
