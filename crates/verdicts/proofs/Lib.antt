@@ -2,6 +2,7 @@
 pub mod Edges
 pub mod Rows
 pub mod Links
+pub mod Keys
 pub mod Verdict
 pub mod Handed
 mod Ways

@@ -77,7 +77,7 @@ tag-odd flood-4 second third = fits-four second third
 tag-odd flood-16 second third = (λ e f. absurd (omega arith), λ f. refl)
 
 -- the tag in a first number
-tag-read : (session tag : ℕ) → session < 2 ^ 32 → tagIn (session + 2 ^ 32 * tag) ≡ tag
+pub tag-read : (session tag : ℕ) → session < 2 ^ 32 → tagIn (session + 2 ^ 32 * tag) ≡ tag
 unfolding tagIn
 tag-read session tag h =
     let e : session + 2 ^ 32 * tag ≡ tag * 2 ^ 32 + session = omega arith in
