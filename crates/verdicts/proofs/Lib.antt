@@ -3,6 +3,7 @@ pub mod Edges
 pub mod Rows
 pub mod Links
 pub mod Keys
+pub mod Tally
 pub mod Verdict
 pub mod Handed
 mod Ways
