@@ -18,7 +18,7 @@ use Rattle.base.proofs.Parts.{bytes-drop}
 use Rattle.node.specs.declared.table.Key.{Key}
 use Rattle.node.specs.Table.{tagIn}
 use Rattle.node.specs.Role.{tagOf, keyOf}
-use Rattle.verdicts.proofs.Rows.{tag-read}
+use Rattle.verdicts.proofs.Lives.{tag-read}
 
 -- ---- by the initiator's length
 

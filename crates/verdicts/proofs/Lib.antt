@@ -1,9 +1,12 @@
--- For readers: `Edges`, the starred cases of the rules, computed; `Rows`, the rows of the relay table.
+-- For readers: `Edges`, the starred cases of the rules, computed; `Verdict`, what comes of a node call; `Handed`, what is handed up;
+-- `Rows`, the rows of the relay table; `Keys`, when two keys are the same; `Tally`, which never wraps.
 pub mod Edges
-pub mod Rows
-pub mod Links
-pub mod Keys
-pub mod Tally
 pub mod Verdict
 pub mod Handed
+pub mod Rows
+pub mod Keys
+pub mod Tally
+-- For their proofs: the tests of a node call, of rows and of links, held against the rules' conditions.
 mod Ways
+mod Lives
+mod Links

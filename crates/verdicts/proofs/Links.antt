@@ -1,18 +1,18 @@
--- No other link is up exactly if nothing is left of the mask without the arriving link.
+-- The mask of links without the arriving one.
 -- Assumes nothing.
 use mathlib.Core.Path.{_≡_, refl, sym, ap, _∙_, subst}
 use mathlib.Core.Logic.{_≢_, _⊎_, inl, inr, _↔_}
 use mathlib.Core.Bool.{Bool, true, false}
 use Prim.Native.Nat.{ℕ, zero, suc, _+_, _-_, _*_, _/_, _%_, _^_, _≤_, _<_}
 use native.Mathlib.Nat.{le-refl, le-suc, le-trans, mod-lt, zero-div, mul-add-mod-self-right, add-zero}
-use native.Mathlib.Decide.{ℕ-discrete}
+use native.Mathlib.Decide.{ℕ-discrete, decLt}
 use native.Mathlib.Omega.{arith}
 use lib.Dec.{eqb, lit<}
-use lib.Pow.{pow-lt, pow-add, pow-pos, shr-lt, split, field}
-use borrow.Author.Tests.{eqb-false}
+use lib.Pow.{pow-lt, pow-add, pow-pos, shr-lt, split, high, shr-shr, field}
+use borrow.Author.Tests.{eqb-true, eqb-false}
 use Rattle.base.proofs.Bools.{true-or-false, not-both}
 use Rattle.node.specs.Record.{isUp}
-use Rattle.node.proofs.Masks.{up-below, up-le}
+use Rattle.node.proofs.Masks.{up-below, up-le, taken-down}
 
 -- bit j is one of the last j + 1
 low-bits : (x y j : ℕ) → x % 2 ^ (1 + j) ≡ y % 2 ^ (1 + j) → isUp x j ≡ isUp y j
@@ -77,7 +77,45 @@ one-bit i j other = go (true-or-false (isUp (2 ^ i) j))
         let near : j < suc i = up-below (suc i) (2 ^ i) j (pow-lt (le-refl (suc i))) e in
         ap (λ (z : ℕ). isUp z j) (sym (add-zero (2 ^ i))) ∙ below-bit i 0 j (omega arith) ∙ zero-off j
 
+-- bits above i aren't touched by taking bit i away
+above-bit : (mask i k : ℕ) → isUp mask i ≡ true → isUp (mask - 2 ^ i) (i + 1 + k) ≡ isUp mask (i + 1 + k)
+unfolding isUp
+above-bit mask i k up =
+    let odd : mask / 2 ^ i % 2 ≡ 1 = eqb-true (mask / 2 ^ i % 2) 1 up in
+    let q = mask / 2 ^ i in
+    let parts : q * 2 ^ i + mask % 2 ^ i ≡ mask = split mask i in
+    let whole : q ≡ (q - 1) + 1 = omega arith in
+    let parts′ : ((q - 1) + 1) * 2 ^ i + mask % 2 ^ i ≡ mask = ap (λ (z : ℕ). z * 2 ^ i + mask % 2 ^ i) (sym whole) ∙ parts in
+    let less : mask - 2 ^ i ≡ (q - 1) * 2 ^ i + mask % 2 ^ i = omega arith in
+    let quotient : (mask - 2 ^ i) / 2 ^ i ≡ q - 1 = ap (λ (z : ℕ). z / 2 ^ i) less ∙ high (q - 1) i (mod-lt mask (pow-pos i)) in
+    let half : (q - 1) / 2 ≡ q / 2 = omega arith in
+    let one : (mask - 2 ^ i) / 2 ^ (i + 1) ≡ mask / 2 ^ (i + 1) =
+    sym (shr-shr (mask - 2 ^ i) i 1) ∙ ap (λ (z : ℕ). z / 2) quotient ∙ half ∙ shr-shr mask i 1 in
+    let all : (mask - 2 ^ i) / 2 ^ (i + 1 + k) ≡ mask / 2 ^ (i + 1 + k) =
+    sym (shr-shr (mask - 2 ^ i) (i + 1) k) ∙ ap (λ (z : ℕ). z / 2 ^ k) one ∙ shr-shr mask (i + 1) k in
+    ap (λ (z : ℕ). eqb (z % 2) 1) all
+
+-- nor any other bit
+other-bit : (mask i j : ℕ) → isUp mask i ≡ true → j ≢ i → isUp (mask - 2 ^ i) j ≡ isUp mask j
+other-bit mask i j up ne = go (decLt j i)
+  where
+    go : Dec (j < i) → isUp (mask - 2 ^ i) j ≡ isUp mask j
+    go (yes l) =
+        let most : 2 ^ i ≤ mask = up-le mask i up in
+        let whole : 2 ^ i + (mask - 2 ^ i) ≡ mask = omega arith in
+        sym (below-bit i (mask - 2 ^ i) j l) ∙ ap (λ (z : ℕ). isUp z j) whole
+    go (no l) =
+        let is : i + 1 + (j - (i + 1)) ≡ j = omega arith in
+        ap (isUp (mask - 2 ^ i)) (sym is) ∙ above-bit mask i (j - (i + 1)) up ∙ ap (isUp mask) is
+
 -- for readers
+
+-- A mask without its bit i has the bits of the mask other than i.
+pub others-exactly : (mask i : ℕ) → isUp mask i ≡ true → (j : ℕ) → isUp (mask - 2 ^ i) j ≡ true ↔ ((isUp mask j ≡ true) × (j ≢ i))
+others-exactly mask i up j = (
+  λ e. let ne : j ≢ i = λ q. not-both (isUp (mask - 2 ^ i) j) e (ap (isUp (mask - 2 ^ i)) q ∙ taken-down mask i up) in (sym (other-bit mask i j up ne) ∙ e, ne),
+  λ h. other-bit mask i j up (h .1) ∙ h .0,
+)
 
 -- Of a mask that has bit i, nothing is left without it exactly if no other bit is set.
 pub alone-exactly : (n mask i : ℕ) → mask < 2 ^ n → isUp mask i ≡ true → mask - 2 ^ i ≡ 0 ↔ ((j : ℕ) → j ≢ i → isUp mask j ≡ false)
