@@ -3,6 +3,7 @@
 pub mod Edges
 pub mod Verdict
 pub mod Handed
+pub mod Sent
 pub mod Rows
 pub mod Keys
 pub mod Tally

@@ -39,29 +39,7 @@ use Rattle.node.proofs.Keys.{key-used}
 use Rattle.node.proofs.Outcomes.{passed, arrives}
 use Rattle.verdicts.specs.Rows.{Live}
 use Rattle.verdicts.specs.Due.{Ours, Named, Known, Spent, Alone, Full, Rules, when, otherwise, First, discoveryRules, floodRules, rulesOn, Due, Does, sends-nothing, answers, relays-discovery, relays-flood, bar, Comes, barred-by, unread, given}
-use Rattle.verdicts.proofs.Ways.{first-once, handed, Verdicted, read-verdicted, passes, call-read, comes, comes-is}
-
--- ---- what a reply says
-
--- this verdict, and whether the message is handed up
-data Says : Reply → Verdict → Bool → Type 0 where
-  says : {v : Verdict} {up : Bool} {mask len : ℕ} → Says (Given v up mask len) v up
-
-says-given : {x : Reply} {v : Verdict} {up : Bool} → Says x v up → (mask : ℕ) × (len : ℕ) × (x ≡ Given v up mask len)
-says-given (says {mask = mask} {len}) = (mask, len, refl)
-
-says-once : {x : Reply} {v w : Verdict} {f g : Bool} → Says x v f → Says x w g → (v ≡ w) × (f ≡ g)
-says-once says says = (refl, refl)
-
-no-refusal : {n : ℕ} {v : Verdict} {up : Bool} → Says (Refused n) v up → ⊥
-no-refusal = elim [ ]
-
-does-say : {r : Record} {t : List ℕ} {c : Call} {m : Message} {v : Verdict} {up : Bool} {a : After} → Does r t c m v up a → Says (a .called .reply) v up
-unfolding quiet answered relayed
-does-say (sends-nothing n k) = says
-does-say answers = says
-does-say relays-discovery = says
-does-say relays-flood = says
+use Rattle.verdicts.proofs.Ways.{first-once, read-verdicted, passes, call-read, comes, comes-is, Says, says, says-given, says-once, no-refusal, does-say}
 
 module _ (r : Record) (t : List ℕ) (c : Call) where
   -- what is due on the message, and was said

@@ -322,3 +322,25 @@ module _ (r : Record) (t : List ℕ) (c : Call) where
   comes-is (barred-by n e some) = call-barred n e some
   comes-is (unread n e read) = call-unread n e read
   comes-is (given m v up e read due does) = call-read m e read ∙ verdicted-once m (read-verdicted (passes e) m) due does
+
+-- ---- what a reply says
+
+-- this verdict, and whether the message is handed up
+pub data Says : Reply → Verdict → Bool → Type 0 where
+  says : {v : Verdict} {up : Bool} {mask len : ℕ} → Says (Given v up mask len) v up
+
+pub says-given : {x : Reply} {v : Verdict} {up : Bool} → Says x v up → (mask : ℕ) × (len : ℕ) × (x ≡ Given v up mask len)
+says-given (says {mask = mask} {len}) = (mask, len, refl)
+
+pub says-once : {x : Reply} {v w : Verdict} {f g : Bool} → Says x v f → Says x w g → (v ≡ w) × (f ≡ g)
+says-once says says = (refl, refl)
+
+pub no-refusal : {n : ℕ} {v : Verdict} {up : Bool} → Says (Refused n) v up → ⊥
+no-refusal = elim [ ]
+
+pub does-say : {r : Record} {t : List ℕ} {c : Call} {m : Message} {v : Verdict} {up : Bool} {a : After} → Does r t c m v up a → Says (a .called .reply) v up
+unfolding quiet answered relayed
+does-say (sends-nothing n k) = says
+does-say answers = says
+does-say relays-discovery = says
+does-say relays-flood = says
