@@ -1,7 +1,7 @@
 -- The rules' "Bytes at the edges": the cases marked with a star, computed.
 -- Assumes nothing.
 use mathlib.Core.Path.{_≡_, refl}
-use mathlib.Core.Bool.{Bool, true, false}
+use mathlib.Core.Bool.{true, false}
 use mathlib.Core.List.{List, [], _∷_, _++_, map}
 use Prim.Native.Nat.{ℕ, _+_, _*_, _^_}
 use lib.ListN.{replicate}
@@ -30,14 +30,13 @@ use Rattle.message.specs.Read.{byKind, judged, shaped, framed, examined, placel
 use Rattle.writer.specs.Write.{lowered}
 use Rattle.names.specs.Names.{contentOf, goodName, goodNames, arrayBad, framedBad, namesBad, sameBytes, ownFrom, isOwn}
 use Rattle.node.specs.declared.Record.{Record}
-use Rattle.node.specs.declared.Verdict.{Verdict}
 use Rattle.node.specs.declared.Verdict.the-variants.{Duplicate, Relay}
 use Rattle.node.specs.declared.Reply.the-variants.{Given}
 use Rattle.node.specs.Record.{linksBad, recordBad, fresh, isUp, arrivalBad, others, clocked, tallied}
 use Rattle.node.specs.Table.{freshTable, cell, putRow, rowFree, tagIn, initiatorFits, rowKeyed, rowUsed, rowBad, firstFrom, someRow, tableBad, rowLife, rowDead, freeRows, freed, lowestFree, rowMatches, isKnown}
 use Rattle.node.specs.Role.{roleOf, tagOf, keyOf, keyIn}
 use Rattle.node.specs.History.{Event, call, steps}
-use Rattle.node.specs.Call.{callOf, After, afterOf, barred, replies, refuse, quiet, written, onward, response, laterVerdict, verdictOn, answered, relayed, carriedOut, taken, judged as callJudged, nodeCall}
+use Rattle.node.specs.Call.{callOf, After, afterOf, barred, replies, refuse, quiet, written, onward, laterVerdict, verdictOn, relayed, carriedOut, taken, judged as callJudged, nodeCall}
 
 -- ---- the messages
 

@@ -1,7 +1,7 @@
 -- Which messages are handed up.
 -- Assumes nothing.
 use mathlib.Core.Path.{_≡_, refl, sym, ap, _∙_, subst}
-use mathlib.Core.Logic.{_≢_, _⊎_, inl, inr, _↔_}
+use mathlib.Core.Logic.{_≢_, inl, inr, _↔_}
 use mathlib.Core.Bool.{Bool, true, false}
 use mathlib.Core.List.{List}
 use Prim.Native.Nat.{ℕ}
@@ -19,7 +19,7 @@ use Rattle.node.specs.declared.Verdict.{Verdict}
 use Rattle.node.specs.declared.Verdict.the-variants.{Own, Answer, Duplicate, Last, Nowhere, NoRow, Relay, Noop, Hand}
 use Rattle.node.specs.declared.Reply.the-variants.{Given}
 use Rattle.node.specs.Call.{Call, nodeCall}
-use Rattle.verdicts.specs.Due.{Rules, when, otherwise, First, discoveryRules, floodRules, rulesOn, Due, bar, HandedUp, flood-last, flood-nowhere, flood-norow, flood-relay, hand}
+use Rattle.verdicts.specs.Due.{otherwise, First, discoveryRules, floodRules, Due, HandedUp, flood-last, flood-nowhere, flood-norow, flood-relay, hand}
 use Rattle.verdicts.proofs.Ways.{handed}
 use Rattle.verdicts.proofs.Verdict.{verdict-exactly}
 

@@ -1,24 +1,21 @@
 -- The tests on rows, held against what the rules call free, used, live and dead.
 -- Assumes nothing.
 use mathlib.Core.Path.{_≡_, refl, sym, ap, _∙_}
-use mathlib.Core.Logic.{_≢_, _⊎_, inl, inr, _↔_}
+use mathlib.Core.Logic.{_⊎_, inl, inr, _↔_}
 use mathlib.Core.Bool.{Bool, true, false, not, _&&_, _||_}
 use mathlib.Core.List.{List}
-use Prim.Native.Nat.{ℕ, zero, suc, _+_, _-_, _*_, _/_, _%_, _^_, _≤_, _<_, zero-le}
+use Prim.Native.Nat.{ℕ, zero, suc, _+_, _-_, _*_, _/_, _%_, _^_, _≤_, _<_}
 use native.Mathlib.Nat.{le-refl, mod-lt}
 use native.Mathlib.Decide.{decLt}
 use native.Mathlib.Omega.{arith}
 use lib.Dec.{ltb, leb, eqb}
-use lib.ListN.{length}
 use lib.Pow.{high, split, pow-pos}
-use borrow.Author.Tests.{ltb-true, leb-true, eqb-true, lt-ltb, le-ltb, le-leb, lt-leb, eq-eqb, ne-eqb}
+use borrow.Author.Tests.{ltb-true, leb-true, eqb-true, lt-ltb, le-leb, lt-leb, eq-eqb}
 use Rattle.base.specs.Pick.{pick}
-use Rattle.base.proofs.Picks.{pick-case}
-use Rattle.base.proofs.Bools.{true-or-false, and-left, and-right, and-true, or-left, or-right, not-both}
-use Rattle.node.specs.declared.table.Key.{Key}
-use Rattle.node.specs.Table.{cell, putRow, noKey, rowFree, tagIn, initiatorFits, rowKeyed, rowUsed, rowBad, firstFrom, someRow, tableBad, rowLife, rowDead, freed, lowestFree, rowMatches, isKnown}
-use Rattle.node.proofs.Rows.{Holds, put-other, put-holds, length-put, length-free, free-live, free-dead, first-hit, first-miss, first-most, none-passes, some-passes, passes-some, free-zeros, zeros-free, holds-matches, matches-holds, table-sized, row-good}
-use Rattle.verdicts.specs.Rows.{Free, Tag, discovery-4, discovery-16, flood-4, flood-16, Used, Live, Dead, HasKey, SameRow}
+use Rattle.base.proofs.Bools.{true-or-false, and-left, and-right, and-true, not-both}
+use Rattle.node.specs.Table.{cell, rowFree, tagIn, initiatorFits, rowKeyed, rowUsed, rowBad, tableBad, rowLife, rowDead, freed}
+use Rattle.node.proofs.Rows.{free-live, free-dead, free-zeros, zeros-free, table-sized, row-good}
+use Rattle.verdicts.specs.Rows.{Free, Tag, discovery-4, discovery-16, flood-4, flood-16, Used, Live, Dead, SameRow}
 
 -- ---- free rows
 
@@ -147,9 +144,6 @@ module _ (now : ℕ) (t : List ℕ) where
       go : Dec (now - cell t i 3 < u .life) → Live now t i ⊎ Dead now t i
       go (yes l) = inl (record { used = u; young = l })
       go (no l) = inr (record { used = u; old = omega arith })
-
-  used-not-free : (i : ℕ) → Used now t i → Free t i → ⊥
-  used-not-free i u f = let e = u .first in let z = f .first in let g = tag-range (u .tagged) in omega arith
 
   module _ (good : tableBad now t ≡ false) (i : ℕ) (below : i < 64) where
     pub row-is : Free t i ⊎ (Live now t i ⊎ Dead now t i)

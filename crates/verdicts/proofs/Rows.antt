@@ -2,23 +2,18 @@
 -- Assumes nothing.
 use mathlib.Core.Path.{_≡_, refl, sym, ap, _∙_}
 use mathlib.Core.Logic.{_≢_, _⊎_, inl, inr, _↔_}
-use mathlib.Core.Bool.{Bool, true, false, not, _&&_, _||_}
+use mathlib.Core.Bool.{true, false}
 use mathlib.Core.List.{List}
-use Prim.Native.Nat.{ℕ, zero, suc, _+_, _-_, _*_, _/_, _%_, _^_, _≤_, _<_, zero-le}
-use native.Mathlib.Nat.{le-refl, mod-lt}
+use Prim.Native.Nat.{ℕ, _≤_, _<_, zero-le}
 use native.Mathlib.Decide.{decLt}
 use native.Mathlib.Omega.{arith}
-use lib.Dec.{ltb, leb, eqb}
 use lib.ListN.{length}
-use lib.Pow.{high, split, pow-pos}
-use borrow.Author.Tests.{ltb-true, leb-true, eqb-true, lt-ltb, le-ltb, le-leb, lt-leb, eq-eqb, ne-eqb}
-use Rattle.base.specs.Pick.{pick}
-use Rattle.base.proofs.Picks.{pick-case}
-use Rattle.base.proofs.Bools.{true-or-false, and-left, and-right, and-true, or-left, or-right, not-both}
+use borrow.Author.Tests.{eq-eqb}
+use Rattle.base.proofs.Bools.{true-or-false, not-both}
 use Rattle.node.specs.declared.table.Key.{Key}
-use Rattle.node.specs.Table.{cell, putRow, noKey, rowFree, tagIn, initiatorFits, rowKeyed, rowUsed, rowBad, firstFrom, someRow, tableBad, rowLife, rowDead, freed, lowestFree, rowMatches, isKnown}
-use Rattle.node.proofs.Rows.{Holds, put-other, put-holds, length-put, length-free, free-live, free-dead, first-hit, first-miss, first-most, none-passes, some-passes, passes-some, free-zeros, zeros-free, holds-matches, matches-holds, table-sized, row-good}
-use Rattle.verdicts.specs.Rows.{Free, Tag, discovery-4, discovery-16, flood-4, flood-16, Used, Live, Dead, HasKey, SameRow}
+use Rattle.node.specs.Table.{cell, putRow, rowFree, rowUsed, rowBad, firstFrom, someRow, tableBad, freed, lowestFree, rowMatches, isKnown}
+use Rattle.node.proofs.Rows.{put-other, put-holds, length-put, length-free, first-hit, first-miss, first-most, some-passes, passes-some, holds-matches, matches-holds, table-sized, row-good}
+use Rattle.verdicts.specs.Rows.{Free, Used, Live, Dead, HasKey, SameRow}
 use Rattle.verdicts.proofs.Lives.{free-is, free-misses, used-is, row-passes, dead-test, row-is, test-cleared, free-stays, live-stays, live-used}
 
 -- for readers
@@ -126,12 +121,16 @@ known-live now t good k some = (λ e. let (i, l, h) = known-is k (freed now t) .
     go i l h (inl f) = let z = free-stays now t good i l f .first in let e = h .first in absurd (omega arith)
     go i l h (inr (inr d)) = let z = test-cleared now t good i l (dead-test now t i d) .first in let e = h .first in absurd (omega arith)
     go i l h (inr (inl live)) =
-        let same = live-stays now t good i l live in
-        (i, l, live, record {
-          first = sym (same 0 (omega arith)) ∙ h .first;
-          second = sym (same 1 (omega arith)) ∙ h .second;
-          third = sym (same 2 (omega arith)) ∙ h .third;
-        })
+        let same = live-stays now t good i l live in (
+          i,
+          l,
+          live,
+          record {
+            first = sym (same 0 (omega arith)) ∙ h .first;
+            second = sym (same 1 (omega arith)) ∙ h .second;
+            third = sym (same 2 (omega arith)) ∙ h .third;
+          },
+        )
 
     back : (i : ℕ) × (i < 64) × Live now t i × HasKey t i k → isKnown k (freed now t) ≡ true
     back (i, l, live, h) =

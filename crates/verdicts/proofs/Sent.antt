@@ -2,10 +2,9 @@
 -- Assumes nothing.
 use mathlib.Core.Path.{_≡_, refl, sym, ap, _∙_, subst}
 use mathlib.Core.Logic.{_≢_}
-use mathlib.Core.Bool.{Bool, true, false}
+use mathlib.Core.Bool.{Bool, true}
 use mathlib.Core.List.{List}
 use Prim.Native.Nat.{ℕ, _-_, _^_}
-use lib.Count.{ones}
 use lib.ListN.{length}
 use Rattle.base.proofs.Bools.{not-both}
 use Rattle.options.specs.declared.Span.{Span}
@@ -21,15 +20,15 @@ use Rattle.node.specs.declared.Reply.{Reply}
 use Rattle.node.specs.declared.Reply.the-variants.{Given}
 use Rattle.node.specs.declared.role.Spread.{Spread}
 use Rattle.node.specs.declared.role.Role.{Role}
-use Rattle.node.specs.Record.{others, clocked, tallied}
-use Rattle.node.specs.Table.{freed, lowestFree, putRow}
-use Rattle.node.specs.Role.{spreadOf, RoleIn, keyIn}
-use Rattle.node.specs.Call.{Call, After, afterOf, replies, refuse, quiet, written, onward, response, answered, relayed, nodeCall}
+use Rattle.node.specs.Record.{others, clocked}
+use Rattle.node.specs.Table.{freed, lowestFree}
+use Rattle.node.specs.Role.{RoleIn, keyIn}
+use Rattle.node.specs.Call.{Call, After, afterOf, replies, refuse, quiet, onward, response, answered, relayed, nodeCall}
 use Rattle.node.specs.History.{isRelay, saysRelay}
 use Rattle.node.proofs.Outcomes.{arrives}
 use Rattle.history.proofs.Calls.{Relays, View, stayed, ended, went, view}
 use Rattle.verdicts.specs.Due.{Does, sends-nothing, answers, relays-discovery, relays-flood, Comes, barred-by, unread, given}
-use Rattle.verdicts.specs.Sent.{Relayed}
+use Rattle.verdicts.specs.Sent.{Relayed, answerTo}
 use Rattle.verdicts.proofs.Links.{others-exactly}
 use Rattle.verdicts.proofs.Ways.{comes, Says, says, says-once, no-refusal, does-say}
 use Rattle.verdicts.proofs.Rows.{freed-length, lowest-is, filled-row, table-good}
@@ -77,14 +76,8 @@ module _ (r : Record) (t : List ℕ) (c : Call) where
       let longs : len ≡ length bytes = cc in
       (s, k .role, ups, went-on s mask len a k e masks longs)
 
-  -- what ANSWER sends, by the Discovery
-  abbrev Answered : ℕ → Span → Objective → After
-  Answered session i o =
-      let bytes = response r (c .message) (spreadOf false session i o) in
-      afterOf (replies (Given Answer false (2 ^ c .interface) (length bytes)) (clocked r (c .clock))) (freed (c .clock) t) (written bytes (c .output))
-
   answered-by : {m : Message} {v : Verdict} {up : Bool} {a : After} → v ≡ Answer → Does r t c m v up a
-      → (session : ℕ) × (i : Span) × (o : Objective) × (m ≡ M.Discovery session i o) × (a ≡ Answered session i o)
+      → (session : ℕ) × (i : Span) × (o : Objective) × (m ≡ M.Discovery session i o) × (a ≡ answerTo r t c session i o)
   unfolding answered response clocked isRelay
   answered-by e (sends-nothing n k) = absurd (n e)
   answered-by e (answers {session} {i} {o}) = (session, i, o, refl, refl)
@@ -116,7 +109,7 @@ relay-does r t c up mask len = went-way r t c up mask len (nodeCall r t c) (view
 
 -- ANSWER writes a Response to a Discovery and sends it back by the arriving interface alone; no row is filled and nothing is tallied.
 pub answer-does : (r : Record) (t : List ℕ) (c : Call) (up : Bool) (mask len : ℕ) → nodeCall r t c .called .reply ≡ Given Answer up mask len
-    → (session : ℕ) × (i : Span) × (o : Objective) × (readOf (c .message) ≡ Reading.Read (M.Discovery session i o)) × (nodeCall r t c ≡ Answered r t c session i o)
+    → (session : ℕ) × (i : Span) × (o : Objective) × (readOf (c .message) ≡ Reading.Read (M.Discovery session i o)) × (nodeCall r t c ≡ answerTo r t c session i o)
 answer-does r t c up mask len q =
     let (m, read, does) = gave r t c (comes r t c) q in
     let (session, i, o, is, after) = answered-by r t c refl does in

@@ -1,6 +1,6 @@
 -- The tally never wraps: a call adds at most 7, and a record with more than 2^63 is refused.
 -- Assumes nothing.
-use mathlib.Core.Path.{_≡_, refl, sym, ap, _∙_, subst}
+use mathlib.Core.Path.{_≡_, sym, ap, subst}
 use mathlib.Core.Logic.{_≢_}
 use mathlib.Core.Bool.{true, false}
 use mathlib.Core.List.{List, [], _∷_}
@@ -21,7 +21,7 @@ use Rattle.node.specs.History.{Event, call, links, finally, interfacesIn}
 use Rattle.node.proofs.Masks.{record-links, record-tally, up-below, taken-down}
 use Rattle.node.proofs.Outcomes.{arrives}
 use Rattle.history.proofs.Copies.{interfaces-up, interfaces-distinct, length-interfaces}
-use Rattle.history.proofs.Calls.{Relays, View, stayed, ended, went, view, links-keep}
+use Rattle.history.proofs.Calls.{View, stayed, ended, went, view, links-keep}
 
 -- the copies of one relay and the arriving interface are different interfaces
 few-copies : (r : Record) (i : ℕ) → recordBad r ≡ false → arrivalBad r i ≡ false → ones (others r i) + 1 ≤ r .interfaces

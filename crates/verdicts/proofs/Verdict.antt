@@ -1,44 +1,20 @@
 -- Each verdict is given exactly if its condition holds and none before it does. For readers: each statement stands alone.
 -- Assumes nothing.
-use mathlib.Core.Path.{_≡_, refl, sym, ap, _∙_, subst}
+use mathlib.Core.Path.{_≡_, sym, ap, _∙_, subst}
 use mathlib.Core.Logic.{_≢_, _⊎_, inl, inr, _↔_}
-use mathlib.Core.Bool.{Bool, true, false, not, _&&_}
-use mathlib.Core.List.{List, [], _∷_}
-use Prim.Native.Nat.{ℕ, zero, suc, _-_, _^_, _≤_, _<_}
-use native.Mathlib.Decide.{ℕ-discrete}
-use native.Mathlib.Omega.{arith}
-use lib.Dec.{leb, eqb}
-use lib.ListN.{length}
-use borrow.Author.Tests.{leb-true, leb-false, eqb-true, eqb-false, le-leb, eq-eqb, ne-eqb}
-use Rattle.base.specs.Pick.{pick}
-use Rattle.base.proofs.Picks.{pick-case}
-use Rattle.base.proofs.Bools.{true-or-false, and-left, and-right, and-true, not-both}
-use Rattle.options.specs.declared.Span.{Span}
-use Rattle.options.specs.declared.objective.Objective.{Objective}
-use Rattle.grammar.specs.Stands.{held}
+use mathlib.Core.Bool.{Bool}
+use mathlib.Core.List.{List}
+use Prim.Native.Nat.{ℕ}
 use Rattle.message.specs.declared.Message.{Message}
 use Rattle.message.specs.declared.Message.the-variants as M
-use Rattle.message.specs.declared.Series.{Series}
 use Rattle.message.specs.declared.Reading.{Reading}
-use Rattle.message.specs.Fields.{kindOf}
 use Rattle.message.specs.Read.{readOf}
-use Rattle.names.specs.Names.{sameBytes, isOwn}
 use Rattle.node.specs.declared.Record.{Record}
 use Rattle.node.specs.declared.Verdict.{Verdict}
-use Rattle.node.specs.declared.Verdict.the-variants.{Own, Answer, Duplicate, Last, Nowhere, NoRow, Relay, Noop, Hand}
 use Rattle.node.specs.declared.Reply.{Reply}
 use Rattle.node.specs.declared.Reply.the-variants.{Refused, Given}
-use Rattle.node.specs.declared.table.Key.{Key}
-use Rattle.node.specs.Record.{others, clocked}
-use Rattle.node.specs.Table.{tableBad, freed, lowestFree, isKnown}
-use Rattle.node.specs.Role.{spreadOf, roleOf, keyOf, keyIn}
-use Rattle.node.specs.Call.{Call, After, afterOf, replies, refuse, quiet, answered, relayed, laterVerdict, verdictOn, carriedOut, taken, judged, nodeCall, Passed}
-use Rattle.node.specs.History.{isRelay}
-use Rattle.node.proofs.Masks.{record-links}
-use Rattle.node.proofs.Keys.{key-used}
-use Rattle.node.proofs.Outcomes.{passed, arrives}
-use Rattle.verdicts.specs.Rows.{Live}
-use Rattle.verdicts.specs.Due.{Ours, Named, Known, Spent, Alone, Full, Rules, when, otherwise, First, discoveryRules, floodRules, rulesOn, Due, Does, sends-nothing, answers, relays-discovery, relays-flood, bar, Comes, barred-by, unread, given}
+use Rattle.node.specs.Call.{Call, After, afterOf, replies, refuse, nodeCall}
+use Rattle.verdicts.specs.Due.{rulesOn, Due, bar, Comes, barred-by, unread, given}
 use Rattle.verdicts.proofs.Ways.{first-once, read-verdicted, passes, call-read, comes, comes-is, Says, says, says-given, says-once, no-refusal, does-say}
 
 module _ (r : Record) (t : List ℕ) (c : Call) where

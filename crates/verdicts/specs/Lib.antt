@@ -1,4 +1,4 @@
--- `Rows`: free, used, live and dead rows. `Due`: the verdict that is due on a message, and what comes of a node call. `Sent`: what RELAY does.
+-- `Rows`: free, used, live and dead rows. `Due`: the verdict that is due on a message, and what comes of a node call. `Sent`: what RELAY and ANSWER do.
 pub mod Rows
 pub mod Due
 pub mod Sent

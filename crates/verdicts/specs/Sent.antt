@@ -1,20 +1,24 @@
--- What RELAY does (the rules, "Verdicts"), once the clock is taken and the dead rows are freed.
-use Prim.Native.Nat.{ℕ, _<_}
-use mathlib.Core.Bool.{true}
+-- What RELAY and ANSWER do (the rules, "Verdicts"), once the clock is taken and the dead rows are freed.
+use Prim.Native.Nat.{ℕ, _^_, _<_}
+use mathlib.Core.Bool.{true, false}
 use mathlib.Core.List.{List}
 use mathlib.Core.Logic.{_≢_, _↔_}
 use mathlib.Core.Path.{_≡_}
 use lib.Count.{ones}
 use lib.ListN.{length}
+use Rattle.options.specs.declared.Span.{Span}
+use Rattle.options.specs.declared.objective.Objective.{Objective}
 use Rattle.node.specs.declared.Record.{Record}
+use Rattle.node.specs.declared.Verdict.the-variants.{Answer}
+use Rattle.node.specs.declared.Reply.the-variants.{Given}
 use Rattle.node.specs.declared.role.Spread.{Spread}
 use Rattle.node.specs.Record.{isUp, clocked, tallied}
 use Rattle.node.specs.Table.{cell, freed}
-use Rattle.node.specs.Role.{keyIn}
-use Rattle.node.specs.Call.{Call, After, written, onward}
+use Rattle.node.specs.Role.{spreadOf, keyIn}
+use Rattle.node.specs.Call.{Call, After, afterOf, replies, written, onward, response}
 use Rattle.verdicts.specs.Rows.{Free, HasKey, SameRow}
 
--- s was read of the message; the answer's mask and length, and what is after the call
+-- RELAY of s, which was read of the message, with the reply's mask and length, and what is after the call
 pub record Relayed (r : Record) (t : List ℕ) (c : Call) (s : Spread) (mask len : ℕ) (a : After) : Type 0 where
   -- it fills the lowest free row, and no other
   pub row : ℕ
@@ -32,3 +36,9 @@ pub record Relayed (r : Record) (t : List ℕ) (c : Call) (s : Spread) (mask len
   -- the message with that count one lower is in front of the output
   pub long : len ≡ length (onward (c .message) (s .objective))
   pub output : a .output ≡ written (onward (c .message) (s .objective)) (c .output)
+
+-- ANSWER to a Discovery: a Response goes back by the arriving interface alone; no row is filled and nothing is tallied
+abbrev pub answerTo : Record → List ℕ → Call → ℕ → Span → Objective → After
+answerTo r t c session initiator o =
+    let bytes = response r (c .message) (spreadOf false session initiator o) in
+    afterOf (replies (Given Answer false (2 ^ c .interface) (length bytes)) (clocked r (c .clock))) (freed (c .clock) t) (written bytes (c .output))
