@@ -1,7 +1,8 @@
--- For readers: `Edges`, the starred cases of the rules, computed; `Verdict`, what comes of a node call; `Handed`, what is handed up; `Sent`, what each verdict leaves and sends;
+-- For readers: `Edges`, the starred cases of the rules, computed; `Verdict`, what comes of a node call; `Bars`, the refusals 12 to 17; `Handed`, what is handed up; `Sent`, what each verdict leaves and sends;
 -- `Rows`, the rows of the relay table; `Keys`, when two keys are the same; `Tally`, which never wraps.
 pub mod Edges
 pub mod Verdict
+pub mod Bars
 pub mod Handed
 pub mod Sent
 pub mod Rows

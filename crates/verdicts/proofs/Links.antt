@@ -28,7 +28,7 @@ below-bit n rest j l =
     (ap (λ (z : ℕ). (z + rest) % 2 ^ (1 + j)) (sym parts) ∙ mul-add-mod-self-right (2 ^ (n - (1 + j))) (2 ^ (1 + j)) rest)
 
 -- without its highest bit a mask is shorter
-top-off : (n mask : ℕ) → mask < 2 ^ suc n → isUp mask n ≡ false → mask < 2 ^ n
+pub top-off : (n mask : ℕ) → mask < 2 ^ suc n → isUp mask n ≡ false → mask < 2 ^ n
 unfolding isUp
 top-off n mask h off =
     let width : suc n ≡ 1 + n = omega arith in
