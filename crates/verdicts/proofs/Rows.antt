@@ -61,7 +61,7 @@ freed-same now t good i l other = go (row-is now t good i l)
     go (inr (inl live)) = live-stays now t good i l live
     go (inr (inr d)) = absurd (other (inr d))
 
--- Freeing leaves 256 numbers.
+-- Freeing leaves the table's length.
 pub freed-length : (now : ℕ) (t : List ℕ) → length (freed now t) ≡ length t
 unfolding freed
 freed-length now t = length-free now t 64
@@ -94,6 +94,7 @@ lowest-none t = (λ e i l. free-misses t i (first-miss (rowFree t) 64 0 i zero-l
     go none (yes h) = absurd (none (firstFrom (rowFree t) 64 0) h (free-is t (firstFrom (rowFree t) 64 0) .0 (first-hit (rowFree t) 64 0 h)))
     go none (no h) = let m : firstFrom (rowFree t) 64 0 ≤ 64 = first-most (rowFree t) 64 0 in omega arith
 
+-- It is no number above 64.
 pub lowest-most : (t : List ℕ) → lowestFree t ≤ 64
 unfolding lowestFree
 lowest-most t = first-most (rowFree t) 64 0

@@ -2,17 +2,17 @@
 -- Assumes nothing.
 use mathlib.Core.Path.{_≡_, refl, sym, ap, _∙_, subst}
 use mathlib.Core.Logic.{_≢_, _⊎_, inl, inr, _↔_}
-use mathlib.Core.Bool.{Bool, true, false, _&&_}
-use mathlib.Core.List.{List, [], _∷_}
+use mathlib.Core.Bool.{Bool, true, false, _&&_, _||_}
+use mathlib.Core.List.{List, [], _∷_, List·Memᴰ, List·Memᴰ·head, List·Memᴰ·tail}
 use Prim.Native.Nat.{ℕ, zero, suc, _-_, _^_, _≤_}
 use native.Mathlib.Decide.{ℕ-discrete}
 use native.Mathlib.Omega.{arith}
-use lib.Dec.{leb, eqb}
+use lib.Dec.{ltb, leb, eqb}
 use lib.ListN.{length}
 use borrow.Author.Tests.{leb-true, eqb-true, le-leb, eq-eqb, ne-eqb}
 use Rattle.base.specs.Pick.{pick}
 use Rattle.base.proofs.Picks.{pick-case}
-use Rattle.base.proofs.Bools.{and-left, and-right, and-true, not-both}
+use Rattle.base.proofs.Bools.{and-left, and-right, and-true, not-both, or-true}
 use Rattle.options.specs.declared.Span.{Span}
 use Rattle.options.specs.declared.objective.Objective.{Objective}
 use Rattle.grammar.specs.Stands.{held}
@@ -21,7 +21,8 @@ use Rattle.message.specs.declared.Message.the-variants as M
 use Rattle.message.specs.declared.Series.{Series}
 use Rattle.message.specs.declared.Reading.{Reading}
 use Rattle.message.specs.Read.{readOf}
-use Rattle.names.specs.Names.{sameBytes}
+use Rattle.cbor.specs.Token.{tokenAt}
+use Rattle.names.specs.Names.{mostNames, contentOf, sameBytes, ownFrom, isOwn}
 use Rattle.node.specs.declared.Record.{Record}
 use Rattle.node.specs.declared.Verdict.{Verdict}
 use Rattle.node.specs.declared.Verdict.the-variants.{Own, Answer, Duplicate, Last, Nowhere, NoRow, Relay, Noop, Hand}
@@ -35,7 +36,7 @@ use Rattle.node.specs.History.{isRelay}
 use Rattle.node.proofs.Masks.{record-links}
 use Rattle.node.proofs.Keys.{key-used}
 use Rattle.node.proofs.Outcomes.{passed, arrives}
-use Rattle.verdicts.specs.Due.{Ours, Known, Alone, Full, Rules, when, otherwise, First, discoveryRules, floodRules, rulesOn, Due, Does, sends-nothing, answers, relays-discovery, relays-flood, bar, Comes, barred-by, unread, given}
+use Rattle.verdicts.specs.Due.{namesFrom, namesIn, Ours, Known, Alone, Full, Rules, when, otherwise, First, discoveryRules, floodRules, rulesOn, Due, Does, sends-nothing, answers, relays-discovery, relays-flood, bar, Comes, barred-by, unread, given}
 use Rattle.verdicts.proofs.Rows.{known-live, full-exactly, lowest-most}
 use Rattle.verdicts.proofs.Links.{alone-exactly}
 
@@ -67,6 +68,41 @@ same-bytes (x ∷ xs) (y ∷ ys) = (there (same-bytes xs ys), back (same-bytes x
         let heads : x ≡ y = cc in
         let tails : xs ≡ ys = cc in
         and-true (eqb x y) (sameBytes xs ys) (eq-eqb x y heads) (ih .1 tails)
+
+own-from : (s name : List ℕ) (n at : ℕ) → ownFrom s name n at ≡ true ↔ List·Memᴰ name (namesFrom s n at)
+unfolding ownFrom namesFrom
+own-from s name zero at = (λ e. absurd (not-both true refl (sym e)), elim [ ])
+own-from s name (suc n) at = (λ e. there (own-from s name n (tokenAt s at .next)) (or-true here rest e), back (own-from s name n (tokenAt s at .next)))
+  where
+    Rest : Type 0
+    Rest = ownFrom s name n (tokenAt s at .next) ≡ true ↔ List·Memᴰ name (namesFrom s n (tokenAt s at .next))
+
+    here : Bool
+    here = sameBytes (contentOf s (tokenAt s at)) name
+
+    rest : Bool
+    rest = ownFrom s name n (tokenAt s at .next)
+
+    there : Rest → (here ≡ true) ⊎ (rest ≡ true) → List·Memᴰ name (contentOf s (tokenAt s at) ∷ namesFrom s n (tokenAt s at .next))
+    there ih (inl e) = List·Memᴰ·head (sym (same-bytes (contentOf s (tokenAt s at)) name .0 e))
+    there ih (inr e) = List·Memᴰ·tail (ih .0 e)
+
+    back : Rest → List·Memᴰ name (contentOf s (tokenAt s at) ∷ namesFrom s n (tokenAt s at .next)) → (here || rest) ≡ true
+    back ih (List·Memᴰ·head e) = rw (same-bytes (contentOf s (tokenAt s at)) name .1 (sym e)) refl
+    back ih (List·Memᴰ·tail m) = rw (ih .1 m) (or-last here)
+      where
+        or-last : (b : Bool) → (b || true) ≡ true
+        or-last true = refl
+        or-last false = refl
+
+named-test : (s name : List ℕ) → isOwn s name ≡ true ↔ List·Memᴰ name (namesIn s)
+unfolding isOwn namesIn pick
+named-test s name = go (ltb mostNames (tokenAt s 0 .arg))
+  where
+    go : (many : Bool) → pick many false (ownFrom s name (tokenAt s 0 .arg) (tokenAt s 0 .next)) ≡ true
+        ↔ List·Memᴰ name (pick many [] (namesFrom s (tokenAt s 0 .arg) (tokenAt s 0 .next)))
+    go true = (λ e. absurd (not-both true refl (sym e)), elim [ ])
+    go false = own-from s name (tokenAt s 0 .arg) (tokenAt s 0 .next)
 
 spent-test : (n : ℕ) → leb n 1 ≡ true ↔ ((n ≡ 0) ⊎ (n ≡ 1))
 spent-test n = (λ e. there n (leb-true n 1 e), back)
@@ -168,7 +204,7 @@ module _ (r : Record) (t : List ℕ) (c : Call) (p : Passed r t (c .clock) (c .i
   unfolding verdictOn laterVerdict pick handed
   discovery-due =
       picked (handed false) _ _ _ (ours-test r t c p i) refl
-      (picked (handed false) _ _ _ (decides (λ e. e, λ e. e)) refl
+      (picked (handed false) _ _ _ (decides (named-test (c .names) (held (c .message) (o .name)))) refl
       (picked (handed false) _ _ _ (known-test r t c p false session i o) refl
       (picked (handed false) _ _ _ (decides (spent-test (o .count))) refl
       (picked (handed false) _ _ _ (alone-test r t c p) refl

@@ -1,10 +1,13 @@
 -- The verdict that is due on a message (the rules, "Verdicts"), and what comes of a node call.
-use Prim.Native.Nat.{ℕ, _<_}
+use Prim.Native.Nat.{ℕ, zero, suc, _<_}
 use mathlib.Core.Bool.{Bool, true, false}
-use mathlib.Core.List.{List}
+use mathlib.Core.List.{List, [], _∷_, List·Memᴰ}
 use mathlib.Core.Logic.{_≢_, _⊎_}
 use mathlib.Core.Path.{_≡_}
 use lib.ListN.{length}
+use lib.Dec.{ltb}
+use Rattle.base.specs.Pick.{pick}
+use Rattle.cbor.specs.Token.{tokenAt}
 use Rattle.options.specs.declared.Span.{Span}
 use Rattle.options.specs.declared.objective.Objective.{Objective}
 use Rattle.grammar.specs.Stands.{held}
@@ -13,7 +16,7 @@ use Rattle.message.specs.declared.Message.the-variants as M
 use Rattle.message.specs.declared.Series.{Series}
 use Rattle.message.specs.declared.Reading.{Reading}
 use Rattle.message.specs.Read.{readOf}
-use Rattle.names.specs.Names.{isOwn}
+use Rattle.names.specs.Names.{mostNames, contentOf}
 use Rattle.node.specs.declared.Record.{Record}
 use Rattle.node.specs.declared.Verdict.{Verdict}
 use Rattle.node.specs.declared.Verdict.the-variants.{Own, Answer, Duplicate, Last, Nowhere, NoRow, Relay, Noop, Hand}
@@ -30,9 +33,18 @@ use Rattle.verdicts.specs.Rows.{Live, HasKey}
 abbrev pub Ours : Record → Call → Span → Type 0
 Ours r c initiator = held (c .message) initiator ≡ r .address
 
--- the name equals one of our own names
+-- n names, one after the other from `at` on
+unfoldable pub namesFrom : List ℕ → ℕ → ℕ → List (List ℕ)
+namesFrom s zero at = []
+namesFrom s (suc n) at = contentOf s (tokenAt s at) ∷ namesFrom s n (tokenAt s at .next)
+
+-- the names in an array of at most 16
+unfoldable pub namesIn : List ℕ → List (List ℕ)
+namesIn s = pick (ltb mostNames (tokenAt s 0 .arg)) [] (namesFrom s (tokenAt s 0 .arg) (tokenAt s 0 .next))
+
+-- the name equals one of our own names byte for byte
 abbrev pub Named : Call → Objective → Type 0
-Named c o = isOwn (c .names) (held (c .message) (o .name)) ≡ true
+Named c o = List·Memᴰ (held (c .message) (o .name)) (namesIn (c .names))
 
 -- a live row has the key
 abbrev pub Known : List ℕ → Call → Key → Type 0
