@@ -1,0 +1,14 @@
+-- For readers: `Edges`, the starred cases of the rules, computed; `Verdict`, what comes of a node call; `Bars`, the refusals 12 to 17; `Handed`, what is handed up; `Sent`, what each verdict leaves and sends;
+-- `Rows`, the rows of the relay table; `Keys`, when two keys are the same; `Tally`, which never wraps.
+pub mod Edges
+pub mod Verdict
+pub mod Bars
+pub mod Handed
+pub mod Sent
+pub mod Rows
+pub mod Keys
+pub mod Tally
+-- For their proofs: the tests of a node call, of rows and of links, held against the rules' conditions.
+mod Ways
+mod Lives
+mod Links

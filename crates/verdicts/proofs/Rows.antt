@@ -1,0 +1,155 @@
+-- The rows of the relay table: which tables are refused, what freeing leaves, which row is found free, which key is known, what a relay fills.
+-- Assumes nothing.
+use mathlib.Core.Path.{_≡_, refl, sym, ap, _∙_}
+use mathlib.Core.Logic.{_≢_, _⊎_, inl, inr, _↔_}
+use mathlib.Core.Bool.{true, false}
+use mathlib.Core.List.{List}
+use Prim.Native.Nat.{ℕ, _≤_, _<_, zero-le}
+use native.Mathlib.Decide.{decLt}
+use native.Mathlib.Omega.{arith}
+use lib.ListN.{length}
+use borrow.Author.Tests.{eq-eqb}
+use Rattle.base.proofs.Bools.{true-or-false, not-both}
+use Rattle.node.specs.declared.table.Key.{Key}
+use Rattle.node.specs.Table.{cell, putRow, rowFree, rowUsed, rowBad, firstFrom, someRow, tableBad, freed, lowestFree, rowMatches, isKnown}
+use Rattle.node.proofs.Rows.{put-other, put-holds, length-put, length-free, first-hit, first-miss, first-most, some-passes, passes-some, holds-matches, matches-holds, table-sized, row-good}
+use Rattle.verdicts.specs.Rows.{Free, Used, Live, Dead, HasKey, SameRow}
+use Rattle.verdicts.proofs.Lives.{free-is, free-misses, used-is, row-passes, dead-test, row-is, test-cleared, free-stays, live-stays, live-used}
+
+-- for readers
+
+-- A table isn't refused exactly if it has 256 numbers and each row is free or used.
+pub table-good : (now : ℕ) (t : List ℕ) → tableBad now t ≡ false ↔ ((length t ≡ 256) × ((i : ℕ) → i < 64 → Free t i ⊎ Used now t i))
+unfolding tableBad rowBad
+table-good now t = (λ e. (table-sized now t e, λ i l. each e i l), λ h. rw (eq-eqb (length t) 256 (h .0), none (h .1)) refl)
+  where
+    each : tableBad now t ≡ false → (i : ℕ) → i < 64 → Free t i ⊎ Used now t i
+    each e i l = go (row-good now t i e l)
+      where
+        go : (rowFree t i ≡ true) ⊎ (rowUsed now t i ≡ true) → Free t i ⊎ Used now t i
+        go (inl f) = inl (free-is t i .0 f)
+        go (inr u) = inr (used-is now t i .0 u)
+
+    none : ((i : ℕ) → i < 64 → Free t i ⊎ Used now t i) → someRow (rowBad now t) ≡ false
+    none h = go (true-or-false (someRow (rowBad now t)))
+      where
+        go : (someRow (rowBad now t) ≡ true) ⊎ (someRow (rowBad now t) ≡ false) → someRow (rowBad now t) ≡ false
+        go (inr e) = e
+        go (inl e) =
+            let (i, l, bad) = some-passes (rowBad now t) e in
+            absurd (not-both (rowBad now t i) bad (row-passes now t i (h i l)))
+
+-- After freeing, a row is four zeros exactly if it was free or dead.
+pub freed-zeros : (now : ℕ) (t : List ℕ) → tableBad now t ≡ false → (i : ℕ) → i < 64 → Free (freed now t) i ↔ (Free t i ⊎ Dead now t i)
+freed-zeros now t good i l = (λ f. there f (row-is now t good i l), back)
+  where
+    there : Free (freed now t) i → Free t i ⊎ (Live now t i ⊎ Dead now t i) → Free t i ⊎ Dead now t i
+    there f (inl z) = inl z
+    there f (inr (inl live)) = absurd (live-used now t good i l live f)
+    there f (inr (inr d)) = inr d
+
+    back : Free t i ⊎ Dead now t i → Free (freed now t) i
+    back (inl z) = free-stays now t good i l z
+    back (inr d) = test-cleared now t good i l (dead-test now t i d)
+
+-- Else each of its four numbers is as it was.
+pub freed-same : (now : ℕ) (t : List ℕ) → tableBad now t ≡ false → (i : ℕ) → i < 64 → (Free t i ⊎ Dead now t i → ⊥) → SameRow (freed now t) t i
+freed-same now t good i l other = go (row-is now t good i l)
+  where
+    go : Free t i ⊎ (Live now t i ⊎ Dead now t i) → SameRow (freed now t) t i
+    go (inl z) = absurd (other (inl z))
+    go (inr (inl live)) = live-stays now t good i l live
+    go (inr (inr d)) = absurd (other (inr d))
+
+-- Freeing leaves the table's length.
+pub freed-length : (now : ℕ) (t : List ℕ) → length (freed now t) ≡ length t
+unfolding freed
+freed-length now t = length-free now t 64
+
+-- The row that is found is the one that is free and has no free row below it.
+pub lowest-is : (t : List ℕ) (i : ℕ) → i < 64 → lowestFree t ≡ i ↔ (Free t i × ((k : ℕ) → k < i → Free t k → ⊥))
+unfolding lowestFree
+lowest-is t i l = (there, back)
+  where
+    there : firstFrom (rowFree t) 64 0 ≡ i → Free t i × ((k : ℕ) → k < i → Free t k → ⊥)
+    there e = (
+      free-is t i .0 (ap (rowFree t) (sym e) ∙ first-hit (rowFree t) 64 0 (omega arith)),
+      λ k h. free-misses t k (first-miss (rowFree t) 64 0 k zero-le (omega arith)),
+    )
+
+    back : Free t i × ((k : ℕ) → k < i → Free t k → ⊥) → firstFrom (rowFree t) 64 0 ≡ i
+    back (f, none) = go (decLt (firstFrom (rowFree t) 64 0) i) (decLt i (firstFrom (rowFree t) 64 0))
+      where
+        go : Dec (firstFrom (rowFree t) 64 0 < i) → Dec (i < firstFrom (rowFree t) 64 0) → firstFrom (rowFree t) 64 0 ≡ i
+        go (yes h) d = absurd (none (firstFrom (rowFree t) 64 0) h (free-is t (firstFrom (rowFree t) 64 0) .0 (first-hit (rowFree t) 64 0 (omega arith))))
+        go (no h) (yes d) = absurd (free-misses t i (first-miss (rowFree t) 64 0 i zero-le d) f)
+        go (no h) (no d) = omega arith
+
+-- 64 stands for none: it is found exactly if no row is free.
+pub lowest-none : (t : List ℕ) → lowestFree t ≡ 64 ↔ ((i : ℕ) → i < 64 → Free t i → ⊥)
+unfolding lowestFree
+lowest-none t = (λ e i l. free-misses t i (first-miss (rowFree t) 64 0 i zero-le (omega arith)), λ none. go none (decLt (firstFrom (rowFree t) 64 0) 64))
+  where
+    go : ((i : ℕ) → i < 64 → Free t i → ⊥) → Dec (firstFrom (rowFree t) 64 0 < 64) → firstFrom (rowFree t) 64 0 ≡ 64
+    go none (yes h) = absurd (none (firstFrom (rowFree t) 64 0) h (free-is t (firstFrom (rowFree t) 64 0) .0 (first-hit (rowFree t) 64 0 h)))
+    go none (no h) = let m : firstFrom (rowFree t) 64 0 ≤ 64 = first-most (rowFree t) 64 0 in omega arith
+
+-- It is no number above 64.
+pub lowest-most : (t : List ℕ) → lowestFree t ≤ 64
+unfolding lowestFree
+lowest-most t = first-most (rowFree t) 64 0
+
+-- A key is known exactly if some row has its three numbers.
+pub known-is : (k : Key) (t : List ℕ) → isKnown k t ≡ true ↔ ((i : ℕ) × (i < 64) × HasKey t i k)
+unfolding isKnown
+known-is k t = (there, λ h. passes-some (rowMatches k t) (h .0) (h .1) (back (h .0) (h .2)))
+  where
+    there : someRow (rowMatches k t) ≡ true → (i : ℕ) × (i < 64) × HasKey t i k
+    there e =
+        let (i, l, hit) = some-passes (rowMatches k t) e in
+        let h = matches-holds k t i hit in
+        (i, l, record { first = h .first; second = h .second; third = h .third })
+
+    back : (i : ℕ) → HasKey t i k → rowMatches k t i ≡ true
+    back i h = holds-matches k t i (cell t i 3) (record { first = h .first; second = h .second; third = h .third; clock = refl })
+
+-- After freeing, a key is known exactly if a live row had its three numbers; a key's first number isn't 0.
+pub known-live : (now : ℕ) (t : List ℕ) → tableBad now t ≡ false → (k : Key) → 0 < k .first
+    → isKnown k (freed now t) ≡ true ↔ ((i : ℕ) × (i < 64) × Live now t i × HasKey t i k)
+known-live now t good k some = (λ e. let (i, l, h) = known-is k (freed now t) .0 e in go i l h (row-is now t good i l), back)
+  where
+    go : (i : ℕ) → i < 64 → HasKey (freed now t) i k → Free t i ⊎ (Live now t i ⊎ Dead now t i) → (i : ℕ) × (i < 64) × Live now t i × HasKey t i k
+    go i l h (inl f) = let z = free-stays now t good i l f .first in let e = h .first in absurd (omega arith)
+    go i l h (inr (inr d)) = let z = test-cleared now t good i l (dead-test now t i d) .first in let e = h .first in absurd (omega arith)
+    go i l h (inr (inl live)) =
+        let same = live-stays now t good i l live in (
+          i,
+          l,
+          live,
+          record {
+            first = sym (same 0 (omega arith)) ∙ h .first;
+            second = sym (same 1 (omega arith)) ∙ h .second;
+            third = sym (same 2 (omega arith)) ∙ h .third;
+          },
+        )
+
+    back : (i : ℕ) × (i < 64) × Live now t i × HasKey t i k → isKnown k (freed now t) ≡ true
+    back (i, l, live, h) =
+        let same = live-stays now t good i l live in
+        known-is k (freed now t) .1 (i, l, record { first = same 0 (omega arith) ∙ h .first; second = same 1 (omega arith) ∙ h .second; third = same 2 (omega arith) ∙ h .third })
+
+-- A filled row has the key and the clock, and every other row is as it was.
+pub filled-row : (t : List ℕ) (i : ℕ) (k : Key) (clock : ℕ) → length t ≡ 256 → i < 64
+    → HasKey (putRow t i k clock) i k × (cell (putRow t i k clock) i 3 ≡ clock) × ((n : ℕ) → n ≢ i → SameRow (putRow t i k clock) t n) × (length (putRow t i k clock) ≡ 256)
+filled-row t i k clock len l =
+    let h = put-holds t i k clock len l in
+    (record { first = h .first; second = h .second; third = h .third }, h .clock, λ n other j m. put-other t i k clock n j other m, length-put t i k clock ∙ len)
+
+-- After freeing, no row is free exactly if every row lived.
+pub full-exactly : (now : ℕ) (t : List ℕ) → tableBad now t ≡ false → lowestFree (freed now t) ≡ 64 ↔ ((i : ℕ) → i < 64 → Live now t i)
+full-exactly now t good = (λ e i l. there i l (lowest-none (freed now t) .0 e i l) (row-is now t good i l), λ h. lowest-none (freed now t) .1 (λ i l. live-used now t good i l (h i l)))
+  where
+    there : (i : ℕ) → i < 64 → (Free (freed now t) i → ⊥) → Free t i ⊎ (Live now t i ⊎ Dead now t i) → Live now t i
+    there i l none (inl f) = absurd (none (free-stays now t good i l f))
+    there i l none (inr (inl live)) = live
+    there i l none (inr (inr d)) = absurd (none (test-cleared now t good i l (dead-test now t i d)))

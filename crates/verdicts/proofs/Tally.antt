@@ -1,0 +1,73 @@
+-- The tally never wraps: a call adds at most 7, and a record with more than 2^63 is refused.
+-- Assumes nothing.
+use mathlib.Core.Path.{_≡_, sym, ap, subst}
+use mathlib.Core.Logic.{_≢_}
+use mathlib.Core.Bool.{true, false}
+use mathlib.Core.List.{List, [], _∷_}
+use Prim.Native.Nat.{ℕ, _+_, _-_, _^_, _≤_, _<_}
+use native.Mathlib.Nat.{le-trans}
+use native.Mathlib.Omega.{arith}
+use lib.Count.{ones}
+use lib.ListN.{length}
+use lib.Pow.{pow-mono}
+use Rattle.base.specs.Lists.{Every}
+use Rattle.base.proofs.Bools.{not-both}
+use Rattle.base.proofs.Lists.{every-imp}
+use Rattle.base.proofs.Pigeonhole.{pigeonhole}
+use Rattle.node.specs.declared.Record.{Record}
+use Rattle.node.specs.Record.{recordBad, arrivalBad, isUp, others, clocked, tallied, setLinks}
+use Rattle.node.specs.Call.{Call, After, relayed, nodeCall}
+use Rattle.node.specs.History.{Event, call, links, finally, interfacesIn}
+use Rattle.node.proofs.Masks.{record-links, record-tally, up-below, taken-down}
+use Rattle.node.proofs.Outcomes.{arrives}
+use Rattle.history.proofs.Copies.{interfaces-up, interfaces-distinct, length-interfaces}
+use Rattle.history.proofs.Calls.{View, stayed, ended, went, view, links-keep}
+
+-- the copies of one relay and the arriving interface are different interfaces
+few-copies : (r : Record) (i : ℕ) → recordBad r ≡ false → arrivalBad r i ≡ false → ones (others r i) + 1 ≤ r .interfaces
+unfolding others
+few-copies r i good arrival =
+    let a = arrives r i good arrival in
+    let fit = record-links r good in
+    let mask = r .links - 2 ^ i in
+    let small : mask < 2 ^ r .interfaces = let l = fit .small in omega arith in
+    let up = interfaces-up 8 mask in
+    let apart : Every (λ j. i ≢ j) (interfacesIn 8 mask) =
+    every-imp (λ j. (j < 8) × (isUp mask j ≡ true)) (λ j. i ≢ j)
+    (λ j h e. not-both (isUp mask i) (subst (λ (z : ℕ). isUp mask z ≡ true) (sym e) (h .1)) (taken-down (r .links) i (a .up))) (interfacesIn 8 mask) up
+    in
+    let below : Every (λ j. j < r .interfaces) (interfacesIn 8 mask) =
+    every-imp (λ j. (j < 8) × (isUp mask j ≡ true)) (λ j. j < r .interfaces) (λ j h. up-below (r .interfaces) mask j small (h .1)) (interfacesIn 8 mask) up
+    in
+    let many : length (interfacesIn 8 mask) ≡ ones mask = length-interfaces 8 mask (le-trans small (pow-mono (fit .most))) in
+    let most : length (i ∷ interfacesIn 8 mask) ≤ r .interfaces = pigeonhole (r .interfaces) (i ∷ interfacesIn 8 mask) (apart, interfaces-distinct 8 mask) (a .below, below) in
+    omega arith
+
+-- what a call adds, and that it adds nothing to a tally above 2^63
+added : (r : Record) (t : List ℕ) (c : Call) (b : After) → View r t c b
+    → (b .called .node .tally ≤ r .tally + 7) × (r .tally ≤ 2 ^ 63 + 7 → b .called .node .tally ≤ 2 ^ 63 + 7)
+unfolding clocked relayed tallied others
+added r t c b (stayed nb tb e) = let same = ap (λ (n : Record). n .tally) nb in (omega arith, λ h. omega arith)
+added r t c b (ended p nb tb e) = let same = ap (λ (n : Record). n .tally) nb in (omega arith, λ h. omega arith)
+added r t c b (went s k e) =
+    let same : b .called .node .tally ≡ r .tally + ones (r .links - 2 ^ c .interface) = ap (λ (z : After). z .called .node .tally) e in
+    let few : ones (r .links - 2 ^ c .interface) + 1 ≤ r .interfaces = few-copies r (c .interface) (k .passes .good) (k .passes .arrives) in
+    let most : r .interfaces ≤ 8 = record-links r (k .passes .good) .most in
+    let less : r .tally ≤ 2 ^ 63 = record-tally r (k .passes .good) in
+    (omega arith, λ h. omega arith)
+
+stays : (events : List Event) (r : Record) (t : List ℕ) → r .tally ≤ 2 ^ 63 + 7 → finally r t events .tally ≤ 2 ^ 63 + 7
+unfolding finally
+stays [] r t h = h
+stays (call c ∷ es) r t h = stays es (nodeCall r t c .called .node) (nodeCall r t c .table) (added r t c (nodeCall r t c) (view r t c) .1 h)
+stays (links mask ∷ es) r t h = stays es (setLinks r mask .node) t (rw (links-keep r mask .tally) h)
+
+-- for readers
+
+-- A node call adds at most 7 to the tally.
+pub call-adds : (r : Record) (t : List ℕ) (c : Call) → nodeCall r t c .called .node .tally ≤ r .tally + 7
+call-adds r t c = added r t c (nodeCall r t c) (view r t c) .0
+
+-- Whatever is called, the tally stays at most 2^63 + 7, and so within 64 bits.
+pub never-wraps : (events : List Event) (r : Record) (t : List ℕ) → r .tally ≤ 2 ^ 63 + 7 → (finally r t events .tally ≤ 2 ^ 63 + 7) × (finally r t events .tally < 2 ^ 64)
+never-wraps events r t h = let most = stays events r t h in (most, omega arith)

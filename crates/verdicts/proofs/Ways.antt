@@ -1,0 +1,379 @@
+-- What comes of a node call: each of its tests decides the condition that the rules name, so the verdict that it picks is the one that is due.
+-- Assumes nothing.
+use mathlib.Core.Path.{_≡_, refl, sym, ap, _∙_, subst}
+use mathlib.Core.Logic.{_≢_, _⊎_, inl, inr, _↔_}
+use mathlib.Core.Bool.{Bool, true, false, _&&_, _||_}
+use mathlib.Core.List.{List, [], _∷_, List·Memᴰ, List·Memᴰ·head, List·Memᴰ·tail}
+use Prim.Native.Nat.{ℕ, zero, suc, _-_, _^_, _≤_}
+use native.Mathlib.Decide.{ℕ-discrete}
+use native.Mathlib.Omega.{arith}
+use lib.Dec.{ltb, leb, eqb}
+use lib.ListN.{length}
+use borrow.Author.Tests.{leb-true, eqb-true, le-leb, eq-eqb, ne-eqb}
+use Rattle.base.specs.Pick.{pick}
+use Rattle.base.proofs.Picks.{pick-case}
+use Rattle.base.proofs.Bools.{and-left, and-right, and-true, not-both, or-true}
+use Rattle.options.specs.declared.Span.{Span}
+use Rattle.options.specs.declared.objective.Objective.{Objective}
+use Rattle.grammar.specs.Stands.{held}
+use Rattle.message.specs.declared.Message.{Message}
+use Rattle.message.specs.declared.Message.the-variants as M
+use Rattle.message.specs.declared.Series.{Series}
+use Rattle.message.specs.declared.Reading.{Reading}
+use Rattle.message.specs.Read.{readOf}
+use Rattle.cbor.specs.Token.{tokenAt}
+use Rattle.names.specs.Names.{mostNames, contentOf, sameBytes, ownFrom, isOwn}
+use Rattle.node.specs.declared.Record.{Record}
+use Rattle.node.specs.declared.Verdict.{Verdict}
+use Rattle.node.specs.declared.Verdict.the-variants.{Own, Answer, Duplicate, Last, Nowhere, NoRow, Relay, Noop, Hand}
+use Rattle.node.specs.declared.Reply.{Reply}
+use Rattle.node.specs.declared.Reply.the-variants.{Refused, Given}
+use Rattle.node.specs.Record.{others, clocked}
+use Rattle.node.specs.Table.{freed, lowestFree, isKnown}
+use Rattle.node.specs.Role.{spreadOf, roleOf, keyOf, keyIn}
+use Rattle.node.specs.Call.{Call, After, refuse, quiet, answered, relayed, laterVerdict, verdictOn, carriedOut, taken, judged, nodeCall, Passed}
+use Rattle.node.specs.History.{isRelay}
+use Rattle.node.proofs.Masks.{record-links}
+use Rattle.node.proofs.Keys.{key-used}
+use Rattle.node.proofs.Outcomes.{passed, arrives}
+use Rattle.verdicts.specs.Due.{namesFrom, namesIn, Ours, Known, Alone, Full, Rules, when, otherwise, First, discoveryRules, floodRules, rulesOn, Due, Does, sends-nothing, answers, relays-discovery, relays-flood, bar, Comes, barred-by, unread, given}
+use Rattle.verdicts.proofs.Rows.{known-live, full-exactly, lowest-most}
+use Rattle.verdicts.proofs.Links.{alone-exactly}
+
+-- ---- tests and conditions
+
+-- a test says whether the condition holds
+record Decides (test : Bool) (P : Type 0) : Type 0 where
+  holds : test ≡ true → P
+  fails : test ≡ false → P → ⊥
+
+decides : {test : Bool} {P : Type 0} → test ≡ true ↔ P → Decides test P
+decides {test} e = record { holds = e .0; fails = λ f p. not-both test (e .1 p) f }
+
+same-bytes : (a b : List ℕ) → sameBytes a b ≡ true ↔ a ≡ b
+unfolding sameBytes
+same-bytes [] [] = (λ e. refl, λ e. refl)
+same-bytes [] (y ∷ ys) = (λ e. absurd (not-both true refl (sym e)), λ e. absurd (let z : _≡_ {A = ℕ} 0 1 = cc in omega arith))
+same-bytes (x ∷ xs) [] = (λ e. absurd (not-both true refl (sym e)), λ e. absurd (let z : _≡_ {A = ℕ} 0 1 = cc in omega arith))
+same-bytes (x ∷ xs) (y ∷ ys) = (there (same-bytes xs ys), back (same-bytes xs ys))
+  where
+    there : sameBytes xs ys ≡ true ↔ xs ≡ ys → (eqb x y && sameBytes xs ys) ≡ true → x ∷ xs ≡ y ∷ ys
+    there ih e =
+        let heads : x ≡ y = eqb-true x y (and-left (eqb x y) (sameBytes xs ys) e) in
+        let tails : xs ≡ ys = ih .0 (and-right (eqb x y) (sameBytes xs ys) e) in
+        cc
+
+    back : sameBytes xs ys ≡ true ↔ xs ≡ ys → x ∷ xs ≡ y ∷ ys → (eqb x y && sameBytes xs ys) ≡ true
+    back ih e =
+        let heads : x ≡ y = cc in
+        let tails : xs ≡ ys = cc in
+        and-true (eqb x y) (sameBytes xs ys) (eq-eqb x y heads) (ih .1 tails)
+
+own-from : (s name : List ℕ) (n at : ℕ) → ownFrom s name n at ≡ true ↔ List·Memᴰ name (namesFrom s n at)
+unfolding ownFrom namesFrom
+own-from s name zero at = (λ e. absurd (not-both true refl (sym e)), elim [ ])
+own-from s name (suc n) at = (λ e. there (own-from s name n (tokenAt s at .next)) (or-true here rest e), back (own-from s name n (tokenAt s at .next)))
+  where
+    Rest : Type 0
+    Rest = ownFrom s name n (tokenAt s at .next) ≡ true ↔ List·Memᴰ name (namesFrom s n (tokenAt s at .next))
+
+    here : Bool
+    here = sameBytes (contentOf s (tokenAt s at)) name
+
+    rest : Bool
+    rest = ownFrom s name n (tokenAt s at .next)
+
+    there : Rest → (here ≡ true) ⊎ (rest ≡ true) → List·Memᴰ name (contentOf s (tokenAt s at) ∷ namesFrom s n (tokenAt s at .next))
+    there ih (inl e) = List·Memᴰ·head (sym (same-bytes (contentOf s (tokenAt s at)) name .0 e))
+    there ih (inr e) = List·Memᴰ·tail (ih .0 e)
+
+    back : Rest → List·Memᴰ name (contentOf s (tokenAt s at) ∷ namesFrom s n (tokenAt s at .next)) → (here || rest) ≡ true
+    back ih (List·Memᴰ·head e) = rw (same-bytes (contentOf s (tokenAt s at)) name .1 (sym e)) refl
+    back ih (List·Memᴰ·tail m) = rw (ih .1 m) (or-last here)
+      where
+        or-last : (b : Bool) → (b || true) ≡ true
+        or-last true = refl
+        or-last false = refl
+
+named-test : (s name : List ℕ) → isOwn s name ≡ true ↔ List·Memᴰ name (namesIn s)
+unfolding isOwn namesIn pick
+named-test s name = go (ltb mostNames (tokenAt s 0 .arg))
+  where
+    go : (many : Bool) → pick many false (ownFrom s name (tokenAt s 0 .arg) (tokenAt s 0 .next)) ≡ true
+        ↔ List·Memᴰ name (pick many [] (namesFrom s (tokenAt s 0 .arg) (tokenAt s 0 .next)))
+    go true = (λ e. absurd (not-both true refl (sym e)), elim [ ])
+    go false = own-from s name (tokenAt s 0 .arg) (tokenAt s 0 .next)
+
+spent-test : (n : ℕ) → leb n 1 ≡ true ↔ ((n ≡ 0) ⊎ (n ≡ 1))
+spent-test n = (λ e. there n (leb-true n 1 e), back)
+  where
+    there : (n : ℕ) → n ≤ 1 → (n ≡ 0) ⊎ (n ≡ 1)
+    there zero l = inl refl
+    there (suc zero) l = inr refl
+    there (suc (suc n)) l = absurd (omega arith)
+
+    back : (n ≡ 0) ⊎ (n ≡ 1) → leb n 1 ≡ true
+    back (inl e) = le-leb n 1 (omega arith)
+    back (inr e) = le-leb n 1 (omega arith)
+
+module _ (r : Record) (t : List ℕ) (c : Call) (p : Passed r t (c .clock) (c .interface) (length (c .output))) where
+  ours-test : (i : Span) → Decides (sameBytes (held (c .message) i) (clocked r (c .clock) .address)) (Ours r c i)
+  unfolding clocked
+  ours-test i = decides (same-bytes (held (c .message) i) (r .address))
+
+  known-test : (flood : Bool) (session : ℕ) (i : Span) (o : Objective)
+      → Decides (isKnown (keyIn (c .message) (spreadOf flood session i o)) (freed (c .clock) t)) (Known t c (keyOf flood session (held (c .message) i)))
+  unfolding keyIn
+  known-test flood session i o =
+      decides (known-live (c .clock) t (p .table) (keyOf flood session (held (c .message) i)) (key-used flood session (held (c .message) i)))
+
+  alone-test : Decides (eqb (others (clocked r (c .clock)) (c .interface)) 0) (Alone r c)
+  unfolding clocked others
+  alone-test =
+      let left = r .links - 2 ^ c .interface in
+      let exact = alone-exactly (r .interfaces) (r .links) (c .interface) (record-links r (p .good) .small) (arrives r (c .interface) (p .good) (p .arrives) .up) in
+      decides (λ e. exact .0 (eqb-true left 0 e), λ a. eq-eqb left 0 (exact .1 a))
+
+  full-test : Decides (leb 64 (lowestFree (freed (c .clock) t))) (Full t c)
+  full-test =
+      let row = lowestFree (freed (c .clock) t) in
+      let exact = full-exactly (c .clock) t (p .table) in
+      let most : row ≤ 64 = lowest-most (freed (c .clock) t) in
+      decides (λ e. exact .0 (let l = leb-true 64 row e in omega arith), λ f. let is = exact .1 f in le-leb 64 row (omega arith))
+
+-- ---- the first that applies
+
+-- a verdict that is picked by a test
+module _ (up : Verdict → Bool) where
+  picked : (rules : Rules) (v w : Verdict) {P : Type 0} {test handed : Bool} → Decides test P → handed ≡ up v → First rules w (up w)
+      → First (when P v handed rules) (pick test v w) (up (pick test v w))
+  unfolding First
+  picked rules v w {P} {test} {handed} d e rest =
+      pick-case (λ (x : Verdict). First (when P v handed rules) x (up x)) test (λ yes-it-is. inl (d .holds yes-it-is, refl, e)) (λ it-is-not. inr (d .fails it-is-not, rest))
+
+first-else : (up : Verdict → Bool) (v : Verdict) → First (otherwise v (up v)) v (up v)
+unfolding First
+first-else up v = (refl, refl)
+
+-- there is only one
+pub first-once : (rules : Rules) {v w : Verdict} {a b : Bool} → First rules v a → First rules w b → (v ≡ w) × (a ≡ b)
+unfolding First
+first-once (when P x up rules) (inl (p, e, f)) (inl (q, g, h)) = (sym e ∙ g, sym f ∙ h)
+first-once (when P x up rules) (inl (p, e, f)) (inr (n, rest)) = absurd (n p)
+first-once (when P x up rules) (inr (n, rest)) (inl (p, e, f)) = absurd (n p)
+first-once (when P x up rules) (inr (n, rest)) (inr (m, rest′)) = first-once rules rest rest′
+first-once (otherwise x up) (e, f) (g, h) = (sym e ∙ g, sym f ∙ h)
+
+-- what a verdict says of handing up, for a Flood and for all else
+unfoldable pub handed : Bool → Verdict → Bool
+handed flood Own = false
+handed flood Answer = false
+handed flood Duplicate = false
+handed flood Last = flood
+handed flood Nowhere = flood
+handed flood NoRow = flood
+handed flood Relay = flood
+handed flood Noop = false
+handed flood Hand = true
+
+-- the verdicts told apart
+isAnswer : Verdict → Bool
+isAnswer Own = false
+isAnswer Answer = true
+isAnswer Duplicate = false
+isAnswer Last = false
+isAnswer Nowhere = false
+isAnswer NoRow = false
+isAnswer Relay = false
+isAnswer Noop = false
+isAnswer Hand = false
+
+other : (v : Verdict) → isAnswer v ≡ false → v ≢ Answer
+unfolding isAnswer
+other v e q = not-both (isAnswer v) (ap isAnswer q) e
+
+no-relay : (v : Verdict) → isRelay v ≡ false → v ≢ Relay
+unfolding isRelay
+no-relay v e q = not-both (isRelay v) (ap isRelay q) e
+
+module _ (r : Record) (t : List ℕ) (c : Call) (p : Passed r t (c .clock) (c .interface) (length (c .output))) (session : ℕ) (i : Span) (o : Objective) where
+  abbrev discovery-verdict : Verdict
+  discovery-verdict = verdictOn (clocked r (c .clock)) (freed (c .clock) t) c (spreadOf false session i o)
+
+  discovery-due : First (discoveryRules r t c session i o) discovery-verdict (handed false discovery-verdict)
+  unfolding verdictOn laterVerdict pick handed
+  discovery-due =
+      picked (handed false) _ _ _ (ours-test r t c p i) refl
+      (picked (handed false) _ _ _ (decides (named-test (c .names) (held (c .message) (o .name)))) refl
+      (picked (handed false) _ _ _ (known-test r t c p false session i o) refl
+      (picked (handed false) _ _ _ (decides (spent-test (o .count))) refl
+      (picked (handed false) _ _ _ (alone-test r t c p) refl
+      (picked (handed false) _ _ _ (full-test r t c p) refl
+      (first-else (handed false) Relay))))))
+
+  abbrev flood-verdict : Verdict
+  flood-verdict = verdictOn (clocked r (c .clock)) (freed (c .clock) t) c (spreadOf true session i o)
+
+  flood-due : First (floodRules r t c session i o) flood-verdict (handed true flood-verdict)
+  unfolding verdictOn laterVerdict pick handed
+  flood-due =
+      picked (handed true) _ _ _ (ours-test r t c p i) refl
+      (picked (handed true) _ _ _ (known-test r t c p true session i o) refl
+      (picked (handed true) _ _ _ (decides (spent-test (o .count))) refl
+      (picked (handed true) _ _ _ (alone-test r t c p) refl
+      (picked (handed true) _ _ _ (full-test r t c p) refl
+      (first-else (handed true) Relay)))))
+
+  -- a Flood isn't answered
+  flood-unanswered : flood-verdict ≢ Answer
+  unfolding verdictOn laterVerdict pick isAnswer
+  flood-unanswered =
+      let P : Verdict → Type 0 = λ v. v ≢ Answer in
+      pick-case P (sameBytes (held (c .message) i) (clocked r (c .clock) .address)) (λ e. other Own refl)
+      (λ e. pick-case P (isKnown (keyIn (c .message) (spreadOf true session i o)) (freed (c .clock) t)) (λ e. other Duplicate refl)
+      (λ e. pick-case P (leb (o .count) 1) (λ e. other Last refl)
+      (λ e. pick-case P (eqb (others (clocked r (c .clock)) (c .interface)) 0) (λ e. other Nowhere refl)
+      (λ e. pick-case P (leb 64 (lowestFree (freed (c .clock) t))) (λ e. other NoRow refl) (λ e. other Relay refl)))))
+
+-- ---- what a verdict does
+
+module _ (r : Record) (t : List ℕ) (c : Call) where
+  silent : {m : Message} {up : Bool} (v : Verdict) → isAnswer v ≡ false → isRelay v ≡ false → Does r t c m v up (quiet v up (clocked r (c .clock)) (freed (c .clock) t) c)
+  silent v e f = sends-nothing (other v e) (no-relay v f)
+
+  discovery-does : (session : ℕ) (i : Span) (o : Objective) (v : Verdict)
+      → Does r t c (M.Discovery session i o) v (handed false v) (carriedOut (clocked r (c .clock)) (freed (c .clock) t) c (spreadOf false session i o) v)
+  unfolding carriedOut handed isAnswer isRelay
+  discovery-does session i o Own = silent Own refl refl
+  discovery-does session i o Answer = answers
+  discovery-does session i o Duplicate = silent Duplicate refl refl
+  discovery-does session i o Last = silent Last refl refl
+  discovery-does session i o Nowhere = silent Nowhere refl refl
+  discovery-does session i o NoRow = silent NoRow refl refl
+  discovery-does session i o Relay = relays-discovery
+  discovery-does session i o Noop = silent Noop refl refl
+  discovery-does session i o Hand = silent Hand refl refl
+
+  flood-does : (session ttl : ℕ) (i : Span) (o : Objective) (pairs : Series) (v : Verdict) → v ≢ Answer
+      → Does r t c (M.Flood session i ttl o pairs) v (handed true v) (carriedOut (clocked r (c .clock)) (freed (c .clock) t) c (spreadOf true session i o) v)
+  unfolding carriedOut handed isAnswer isRelay
+  flood-does session ttl i o pairs Own n = silent Own refl refl
+  flood-does session ttl i o pairs Answer n = absurd (n refl)
+  flood-does session ttl i o pairs Duplicate n = silent Duplicate refl refl
+  flood-does session ttl i o pairs Last n = silent Last refl refl
+  flood-does session ttl i o pairs Nowhere n = silent Nowhere refl refl
+  flood-does session ttl i o pairs NoRow n = silent NoRow refl refl
+  flood-does session ttl i o pairs Relay n = relays-flood
+  flood-does session ttl i o pairs Noop n = silent Noop refl refl
+  flood-does session ttl i o pairs Hand n = silent Hand refl refl
+
+  -- it does one thing
+  does-once : {m : Message} {v : Verdict} {up : Bool} {a b : After} → Does r t c m v up a → Does r t c m v up b → a ≡ b
+  does-once (sends-nothing n k) (sends-nothing n′ k′) = refl
+  does-once (sends-nothing n k) answers = absurd (n refl)
+  does-once (sends-nothing n k) relays-discovery = absurd (k refl)
+  does-once (sends-nothing n k) relays-flood = absurd (k refl)
+  does-once answers (sends-nothing n k) = absurd (n refl)
+  does-once answers answers = refl
+  does-once relays-discovery (sends-nothing n k) = absurd (k refl)
+  does-once relays-discovery relays-discovery = refl
+  does-once relays-flood (sends-nothing n k) = absurd (k refl)
+  does-once relays-flood relays-flood = refl
+
+  -- ---- what comes of a call
+
+  -- the verdict that is due, and what it does
+  abbrev pub Verdicted : Message → After → Type 0
+  Verdicted m a = (v : Verdict) × (up : Bool) × Due r t c m v up × Does r t c m v up a
+
+  does-same : {m : Message} {v w : Verdict} {f g : Bool} {a b : After} → v ≡ w → f ≡ g → Does r t c m v f a → Does r t c m w g b → a ≡ b
+  does-same {m} {v} {w} {f} {g} {a} e h x = does-once (subst (λ (u : Bool). Does r t c m w u a) h (subst (λ (z : Verdict). Does r t c m z f a) e x))
+
+  verdicted-once : (m : Message) {v : Verdict} {up : Bool} {a b : After} → Verdicted m a → Due r t c m v up → Does r t c m v up b → a ≡ b
+  verdicted-once m (w, handed-up, due′, does′) due does = let same = first-once (rulesOn r t c m) due′ due in does-same (same .0) (same .1) does′ does
+
+  -- one rule for all
+  plain : (m : Message) (v : Verdict) (up : Bool) → rulesOn r t c m ≡ otherwise v up → isAnswer v ≡ false → isRelay v ≡ false
+      → Verdicted m (quiet v up (clocked r (c .clock)) (freed (c .clock) t) c)
+  plain m v up e f g = (v, up, subst (λ (rules : Rules). First rules v up) (sym e) (first-else (λ _. up) v), silent v f g)
+
+  pub read-verdicted : Passed r t (c .clock) (c .interface) (length (c .output)) → (m : Message) → Verdicted m (taken (clocked r (c .clock)) (freed (c .clock) t) c (roleOf m))
+  unfolding taken roleOf isAnswer isRelay
+  read-verdicted p M.Noop = plain M.Noop Noop false refl refl refl
+  read-verdicted p (M.Discovery session i o) = (
+    discovery-verdict r t c p session i o,
+    handed false (discovery-verdict r t c p session i o),
+    discovery-due r t c p session i o,
+    discovery-does session i o (discovery-verdict r t c p session i o),
+  )
+  read-verdicted p (M.Response session i ttl targets extra) = plain (M.Response session i ttl targets extra) Hand true refl refl refl
+  read-verdicted p (M.RequestNegotiation session o) = plain (M.RequestNegotiation session o) Hand true refl refl refl
+  read-verdicted p (M.RequestSynchronization session o) = plain (M.RequestSynchronization session o) Hand true refl refl refl
+  read-verdicted p (M.Negotiate session o) = plain (M.Negotiate session o) Hand true refl refl refl
+  read-verdicted p (M.End session outcome) = plain (M.End session outcome) Hand true refl refl refl
+  read-verdicted p (M.Wait session time) = plain (M.Wait session time) Hand true refl refl refl
+  read-verdicted p (M.Synch session o) = plain (M.Synch session o) Hand true refl refl refl
+  read-verdicted p (M.Flood session i ttl o pairs) = (
+    flood-verdict r t c p session i o,
+    handed true (flood-verdict r t c p session i o),
+    flood-due r t c p session i o,
+    flood-does session ttl i o pairs (flood-verdict r t c p session i o) (flood-unanswered r t c p session i o),
+  )
+  read-verdicted p (M.Invalid session item) = plain (M.Invalid session item) Hand true refl refl refl
+
+  pub passes : bar r t c ≡ 0 → Passed r t (c .clock) (c .interface) (length (c .output))
+  passes e = passed r t (c .clock) (c .interface) (c .names) (length (c .output)) e
+
+  -- the call by its refusals
+  call-barred : (n : ℕ) → bar r t c ≡ n → n ≢ 0 → nodeCall r t c ≡ refuse n r t c
+  unfolding nodeCall pick
+  call-barred n e some = rw (e, ne-eqb n 0 some) refl
+
+  call-open : bar r t c ≡ 0 → nodeCall r t c ≡ judged r t c (readOf (c .message))
+  unfolding nodeCall pick
+  call-open e = rw e refl
+
+  call-unread : (n : ℕ) → bar r t c ≡ 0 → readOf (c .message) ≡ Reading.Refused n → nodeCall r t c ≡ refuse n r t c
+  unfolding judged
+  call-unread n e read = call-open e ∙ ap (judged r t c) read
+
+  pub call-read : (m : Message) → bar r t c ≡ 0 → readOf (c .message) ≡ Reading.Read m → nodeCall r t c ≡ taken (clocked r (c .clock)) (freed (c .clock) t) c (roleOf m)
+  unfolding judged
+  call-read m e read = call-open e ∙ ap (judged r t c) read
+
+  pub comes : Comes r t c (nodeCall r t c)
+  comes = go (ℕ-discrete (bar r t c) 0) (readOf (c .message)) refl
+    where
+      go : Dec (bar r t c ≡ 0) → (x : Reading) → readOf (c .message) ≡ x → Comes r t c (nodeCall r t c)
+      go (no some) x read = subst (Comes r t c) (sym (call-barred (bar r t c) refl some)) (barred-by (bar r t c) refl some)
+      go (yes e) (Reading.Refused n) read = subst (Comes r t c) (sym (call-unread n e read)) (unread n e read)
+      go (yes e) (Reading.Read m) read =
+          let (v, up, due, does) = read-verdicted (passes e) m in
+          subst (Comes r t c) (sym (call-read m e read)) (given m v up e read due does)
+
+  pub comes-is : {a : After} → Comes r t c a → nodeCall r t c ≡ a
+  comes-is (barred-by n e some) = call-barred n e some
+  comes-is (unread n e read) = call-unread n e read
+  comes-is (given m v up e read due does) = call-read m e read ∙ verdicted-once m (read-verdicted (passes e) m) due does
+
+-- ---- what a reply says
+
+-- this verdict, and whether the message is handed up
+pub data Says : Reply → Verdict → Bool → Type 0 where
+  says : {v : Verdict} {up : Bool} {mask len : ℕ} → Says (Given v up mask len) v up
+
+pub says-given : {x : Reply} {v : Verdict} {up : Bool} → Says x v up → (mask : ℕ) × (len : ℕ) × (x ≡ Given v up mask len)
+says-given (says {mask = mask} {len}) = (mask, len, refl)
+
+pub says-once : {x : Reply} {v w : Verdict} {f g : Bool} → Says x v f → Says x w g → (v ≡ w) × (f ≡ g)
+says-once says says = (refl, refl)
+
+pub no-refusal : {n : ℕ} {v : Verdict} {up : Bool} → Says (Refused n) v up → ⊥
+no-refusal = elim [ ]
+
+pub does-say : {r : Record} {t : List ℕ} {c : Call} {m : Message} {v : Verdict} {up : Bool} {a : After} → Does r t c m v up a → Says (a .called .reply) v up
+unfolding quiet answered relayed
+does-say (sends-nothing n k) = says
+does-say answers = says
+does-say relays-discovery = says
+does-say relays-flood = says

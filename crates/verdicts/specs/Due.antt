@@ -1,0 +1,143 @@
+-- The verdict that is due on a message (the rules, "Verdicts"), and what comes of a node call.
+use Prim.Native.Nat.{ℕ, zero, suc, _<_}
+use mathlib.Core.Bool.{Bool, true, false}
+use mathlib.Core.List.{List, [], _∷_, List·Memᴰ}
+use mathlib.Core.Logic.{_≢_, _⊎_}
+use mathlib.Core.Path.{_≡_}
+use lib.ListN.{length}
+use lib.Dec.{ltb}
+use Rattle.base.specs.Pick.{pick}
+use Rattle.cbor.specs.Token.{tokenAt}
+use Rattle.options.specs.declared.Span.{Span}
+use Rattle.options.specs.declared.objective.Objective.{Objective}
+use Rattle.grammar.specs.Stands.{held}
+use Rattle.message.specs.declared.Message.{Message}
+use Rattle.message.specs.declared.Message.the-variants as M
+use Rattle.message.specs.declared.Series.{Series}
+use Rattle.message.specs.declared.Reading.{Reading}
+use Rattle.message.specs.Read.{readOf}
+use Rattle.names.specs.Names.{mostNames, contentOf}
+use Rattle.node.specs.declared.Record.{Record}
+use Rattle.node.specs.declared.Verdict.{Verdict}
+use Rattle.node.specs.declared.Verdict.the-variants.{Own, Answer, Duplicate, Last, Nowhere, NoRow, Relay, Noop, Hand}
+use Rattle.node.specs.declared.table.Key.{Key}
+use Rattle.node.specs.Record.{isUp, clocked}
+use Rattle.node.specs.Table.{freed}
+use Rattle.node.specs.Role.{spreadOf, keyOf}
+use Rattle.node.specs.Call.{Call, After, barred, refuse, quiet, answered, relayed}
+use Rattle.verdicts.specs.Rows.{Live, HasKey}
+
+-- ---- the conditions
+
+-- the initiator is our address
+abbrev pub Ours : Record → Call → Span → Type 0
+Ours r c initiator = held (c .message) initiator ≡ r .address
+
+-- n names, one after the other from `at` on
+unfoldable pub namesFrom : List ℕ → ℕ → ℕ → List (List ℕ)
+namesFrom s zero at = []
+namesFrom s (suc n) at = contentOf s (tokenAt s at) ∷ namesFrom s n (tokenAt s at .next)
+
+-- the names in an array of at most 16
+unfoldable pub namesIn : List ℕ → List (List ℕ)
+namesIn s = pick (ltb mostNames (tokenAt s 0 .arg)) [] (namesFrom s (tokenAt s 0 .arg) (tokenAt s 0 .next))
+
+-- the name equals one of our own names byte for byte
+abbrev pub Named : Call → Objective → Type 0
+Named c o = List·Memᴰ (held (c .message) (o .name)) (namesIn (c .names))
+
+-- a live row has the key
+abbrev pub Known : List ℕ → Call → Key → Type 0
+Known t c k = (i : ℕ) × (i < 64) × Live (c .clock) t i × HasKey t i k
+
+-- the count is 0 or 1
+abbrev pub Spent : Objective → Type 0
+Spent o = (o .count ≡ 0) ⊎ (o .count ≡ 1)
+
+-- no other link is up
+abbrev pub Alone : Record → Call → Type 0
+Alone r c = (j : ℕ) → j ≢ c .interface → isUp (r .links) j ≡ false
+
+-- no row is free once the dead ones are freed
+abbrev pub Full : List ℕ → Call → Type 0
+Full t c = (i : ℕ) → i < 64 → Live (c .clock) t i
+
+-- ---- the verdicts
+
+-- verdicts in their order, each with its condition and whether the message is handed up
+pub data Rules : Type 1 where
+  when : Type 0 → Verdict → Bool → Rules → Rules
+  otherwise : Verdict → Bool → Rules
+
+-- the first that applies: its condition holds, and none before it does
+unfoldable pub First : Rules → Verdict → Bool → Type 0
+First (when P v up rules) w up′ = (P × (v ≡ w) × (up ≡ up′)) ⊎ ((P → ⊥) × First rules w up′)
+First (otherwise v up) w up′ = (v ≡ w) × (up ≡ up′)
+
+module _ (r : Record) (t : List ℕ) (c : Call) where
+  abbrev pub discoveryRules : ℕ → Span → Objective → Rules
+  discoveryRules session initiator o =
+      when (Ours r c initiator) Own false
+      (when (Named c o) Answer false
+      (when (Known t c (keyOf false session (held (c .message) initiator))) Duplicate false
+      (when (Spent o) Last false
+      (when (Alone r c) Nowhere false
+      (when (Full t c) NoRow false
+      (otherwise Relay false))))))
+
+  -- the count that matters is the first objective's
+  abbrev pub floodRules : ℕ → Span → Objective → Rules
+  floodRules session initiator first =
+      when (Ours r c initiator) Own false
+      (when (Known t c (keyOf true session (held (c .message) initiator))) Duplicate false
+      (when (Spent first) Last true
+      (when (Alone r c) Nowhere true
+      (when (Full t c) NoRow true
+      (otherwise Relay true)))))
+
+  abbrev pub rulesOn : Message → Rules
+  rulesOn M.Noop = otherwise Noop false
+  rulesOn (M.Discovery session initiator objective) = discoveryRules session initiator objective
+  rulesOn (M.Response session initiator ttl targets extra) = otherwise Hand true
+  rulesOn (M.RequestNegotiation session objective) = otherwise Hand true
+  rulesOn (M.RequestSynchronization session objective) = otherwise Hand true
+  rulesOn (M.Negotiate session objective) = otherwise Hand true
+  rulesOn (M.End session outcome) = otherwise Hand true
+  rulesOn (M.Wait session time) = otherwise Hand true
+  rulesOn (M.Synch session objective) = otherwise Hand true
+  rulesOn (M.Flood session initiator ttl first pairs) = floodRules session initiator first
+  rulesOn (M.Invalid session item) = otherwise Hand true
+
+  -- the verdict that is due on a message, and whether it is handed up
+  abbrev pub Due : Message → Verdict → Bool → Type 0
+  Due m v up = First (rulesOn m) v up
+
+  -- ---- what comes of a node call
+
+  -- what a verdict does, once the clock is taken and the dead rows are freed: RELAY and ANSWER send, and the others send nothing
+  pub data Does : Message → Verdict → Bool → After → Type 0 where
+    sends-nothing : {m : Message} {v : Verdict} {up : Bool} → v ≢ Answer → v ≢ Relay → Does m v up (quiet v up (clocked r (c .clock)) (freed (c .clock) t) c)
+    answers : {session : ℕ} {i : Span} {o : Objective}
+        → Does (M.Discovery session i o) Answer false (answered (clocked r (c .clock)) (freed (c .clock) t) c (spreadOf false session i o))
+    relays-discovery : {session : ℕ} {i : Span} {o : Objective}
+        → Does (M.Discovery session i o) Relay false (relayed (clocked r (c .clock)) (freed (c .clock) t) c (spreadOf false session i o))
+    relays-flood : {session ttl : ℕ} {i : Span} {o : Objective} {pairs : Series}
+        → Does (M.Flood session i ttl o pairs) Relay true (relayed (clocked r (c .clock)) (freed (c .clock) t) c (spreadOf true session i o))
+
+  -- the number that bars a call before its message is read, 0 for none
+  abbrev pub bar : ℕ
+  bar = barred r t (c .clock) (c .interface) (c .names) (length (c .output))
+
+  -- refused by 12 to 17; else by the reading; else given the verdict that is due
+  pub data Comes : After → Type 0 where
+    barred-by : (n : ℕ) → bar ≡ n → n ≢ 0 → Comes (refuse n r t c)
+    unread : (n : ℕ) → bar ≡ 0 → readOf (c .message) ≡ Reading.Refused n → Comes (refuse n r t c)
+    given : (m : Message) (v : Verdict) (up : Bool) {a : After} → bar ≡ 0 → readOf (c .message) ≡ Reading.Read m → Due m v up → Does m v up a → Comes a
+
+-- a message of this kind is handed up with this verdict
+pub data HandedUp : ℕ → Verdict → Type 0 where
+  flood-last : HandedUp 9 Last
+  flood-nowhere : HandedUp 9 Nowhere
+  flood-norow : HandedUp 9 NoRow
+  flood-relay : HandedUp 9 Relay
+  hand : {kind : ℕ} → kind ≢ 0 → kind ≢ 1 → kind ≢ 9 → HandedUp kind Hand

@@ -1,0 +1,5 @@
+-- `Rows`: free, used, live and dead rows. `Bars`: the refusals 12 to 17. `Due`: the verdict that is due on a message, and what comes of a node call. `Sent`: what RELAY and ANSWER do.
+pub mod Rows
+pub mod Bars
+pub mod Due
+pub mod Sent

@@ -1,0 +1,44 @@
+-- What RELAY and ANSWER do (the rules, "Verdicts"), once the clock is taken and the dead rows are freed.
+use Prim.Native.Nat.{ℕ, _^_, _<_}
+use mathlib.Core.Bool.{true, false}
+use mathlib.Core.List.{List}
+use mathlib.Core.Logic.{_≢_, _↔_}
+use mathlib.Core.Path.{_≡_}
+use lib.Count.{ones}
+use lib.ListN.{length}
+use Rattle.options.specs.declared.Span.{Span}
+use Rattle.options.specs.declared.objective.Objective.{Objective}
+use Rattle.node.specs.declared.Record.{Record}
+use Rattle.node.specs.declared.Verdict.the-variants.{Answer}
+use Rattle.node.specs.declared.Reply.the-variants.{Given}
+use Rattle.node.specs.declared.role.Spread.{Spread}
+use Rattle.node.specs.Record.{isUp, clocked, tallied}
+use Rattle.node.specs.Table.{cell, freed}
+use Rattle.node.specs.Role.{spreadOf, keyIn}
+use Rattle.node.specs.Call.{Call, After, afterOf, replies, written, onward, response}
+use Rattle.verdicts.specs.Rows.{Free, HasKey, SameRow}
+
+-- RELAY of s, which was read of the message, with the reply's mask and length, and what is after the call
+pub record Relayed (r : Record) (t : List ℕ) (c : Call) (s : Spread) (mask len : ℕ) (a : After) : Type 0 where
+  -- it fills the lowest free row, and no other
+  pub row : ℕ
+  pub room : row < 64
+  pub free : Free (freed (c .clock) t) row
+  pub lowest : (k : ℕ) → k < row → Free (freed (c .clock) t) k → ⊥
+  pub key : HasKey (a .table) row (keyIn (c .message) s)
+  pub admitted : cell (a .table) row 3 ≡ c .clock
+  pub no-other : (i : ℕ) → i ≢ row → SameRow (a .table) (freed (c .clock) t) i
+  pub sized : length (a .table) ≡ 256
+  -- it goes out by the links up, less the arriving one
+  pub links : (j : ℕ) → isUp mask j ≡ true ↔ ((isUp (r .links) j ≡ true) × (j ≢ c .interface))
+  -- the copies are the ones in that mask
+  pub node : a .called .node ≡ tallied (clocked r (c .clock)) (ones mask)
+  -- the message with that count one lower is in front of the output
+  pub long : len ≡ length (onward (c .message) (s .objective))
+  pub output : a .output ≡ written (onward (c .message) (s .objective)) (c .output)
+
+-- ANSWER to a Discovery: a Response goes back by the arriving interface alone; no row is filled and nothing is tallied
+abbrev pub answerTo : Record → List ℕ → Call → ℕ → Span → Objective → After
+answerTo r t c session initiator o =
+    let bytes = response r (c .message) (spreadOf false session initiator o) in
+    afterOf (replies (Given Answer false (2 ^ c .interface) (length bytes)) (clocked r (c .clock))) (freed (c .clock) t) (written bytes (c .output))
