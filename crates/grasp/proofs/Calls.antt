@@ -11,7 +11,8 @@ use Rattle.node.specs.declared.Called.{Called}
 use Rattle.node.specs.Call.{Call, After, afterOf, nodeCall}
 use Rattle.grasp.specs.declared.call.Answer as A
 use Rattle.grasp.specs.Table.{loadedUpTo, numbersIn, savedUpTo, bytesWith}
-use Rattle.grasp.specs.Call.{answerFrom, tableIn, afterCall, callAnswer, callTable, callOutput}
+use Rattle.grasp.specs.Call.{answerFrom, tableIn, afterCall, callAnswer, callTable, callOutput, hostOf, answerNumbers, hostCall}
+use Rattle.grasp.specs.Records.{nodeOf, nodeNumbers}
 
 module _ (r : Record) (bytes : List ℕ) (c : Call) (b : Called) (t out : List ℕ) (a : A.Answer) (is : a ≡ answerFrom b) where
   -- what follows from what the call gave
@@ -43,3 +44,15 @@ module _ (r : Record) (bytes : List ℕ) (c : Call) (b : Called) (t out : List �
     call-given after none saved =
         let (answered, left) = answers same-call in
         (answered, rw (eq-eqb (length bytes) 2048 sized, ← answered, eq-eqb (a .refusal) 0 none) (saved ∙ ap (λ (z : After). savedUpTo 256 (z .table) bytes) same-call), left)
+
+-- ---- what the host has
+
+module _ (address numbers bytes : List ℕ) (c : Call) (answer : List ℕ) (r : Record) (is : r ≡ nodeOf address numbers) (a : A.Answer) (table out : List ℕ)
+    (answered : a ≡ callAnswer r bytes c) (left : table ≡ callTable r bytes c) (written : out ≡ callOutput r bytes c) where
+  pub host-refused : (a .refusal ≡ 0 → ⊥) → hostOf (a .refusal) numbers table out answer ≡ hostCall address numbers bytes c answer
+  unfolding hostCall pick
+  host-refused ne = rw (← is, ← answered, ← left, ← written, ne-eqb (a .refusal) 0 ne) refl
+
+  pub host-given : (after : List ℕ) → a .refusal ≡ 0 → after ≡ nodeNumbers (a .node) → hostOf 0 after table out (answerNumbers a) ≡ hostCall address numbers bytes c answer
+  unfolding hostCall pick
+  host-given after none e = rw (← is, ← answered, ← left, ← written, eq-eqb (a .refusal) 0 none, e) refl

@@ -1,3 +1,8 @@
+-- `grasp::call::grasp_node_call` meets its contract.
+-- Assumes nothing.
+use Rattle.node.specs.Call.{callOf}
+use Rattle.grasp.specs.Call.{answerNumbers}
+use Rattle.grasp.proofs.Calls.{host-refused, host-given}
 use borrow.Author.Needs.{needs}
 use Rattle.grasp.proofs.call.grasp_node_call.Statement.{statement}
 use Rattle.grasp.proofs.call.grasp_node_call.Tie as tie
@@ -25,7 +30,7 @@ same-length-2 c = search needs
 
 -- src/call.rt:44:9
 returns : tie.Need-returns
-returns c = ?
+returns c = host-refused (c .before .before .before .before .before .before .before .before .before .before .before .before .before .before .args .address .now) (c .before .before .before .before .before .before .before .before .before .before .before .before .before .before .args .numbers .now) (c .before .before .before .before .before .before .before .before .before .before .before .before .before .before .args .bytes .now) (callOf (c .before .before .before .before .before .before .before .before .before .before .before .before .before .before .args .clock) (c .before .before .before .before .before .before .before .before .before .before .before .before .before .before .args .interface) (c .before .before .before .before .before .before .before .before .before .before .before .before .before .before .args .names .now) (c .before .before .before .before .before .before .before .before .before .before .before .before .before .before .args .message .now) (c .before .before .before .before .before .before .before .before .before .before .before .before .before .before .args .out .now)) (c .before .before .before .before .before .before .before .before .before .before .before .before .before .before .args .answer .now) _ (c .before .before .before .before .before .before .before .before .node-of .ensures) _ _ _ (c .before .before .before .before .before .call-with .ensures .0) (c .before .before .before .before .before .call-with .ensures .1 .0) (c .before .before .before .before .before .call-with .ensures .1 .1) (c .if1 .taken)
 
 -- src/call.rt:47:16
 numbers-of-requires : tie.Need-numbers-of-requires
@@ -53,7 +58,8 @@ same-length-4 c = search needs
 
 -- src/call.rt:26:1
 returns-2 : tie.Need-returns-2
-returns-2 c = ?
+unfolding answerNumbers
+returns-2 c = host-given (c .before .before .before .before .before .before .before .before .before .before .before .before .before .before .before .before .before .before .before .before .args .address .now) (c .before .before .before .before .before .before .before .before .before .before .before .before .before .before .before .before .before .before .before .before .args .numbers .now) (c .before .before .before .before .before .before .before .before .before .before .before .before .before .before .before .before .before .before .before .before .args .bytes .now) (callOf (c .before .before .before .before .before .before .before .before .before .before .before .before .before .before .before .before .before .before .before .before .args .clock) (c .before .before .before .before .before .before .before .before .before .before .before .before .before .before .before .before .before .before .before .before .args .interface) (c .before .before .before .before .before .before .before .before .before .before .before .before .before .before .before .before .before .before .before .before .args .names .now) (c .before .before .before .before .before .before .before .before .before .before .before .before .before .before .before .before .before .before .before .before .args .message .now) (c .before .before .before .before .before .before .before .before .before .before .before .before .before .before .before .before .before .before .before .before .args .out .now)) (c .before .before .before .before .before .before .before .before .before .before .before .before .before .before .before .before .before .before .before .before .args .answer .now) _ (c .before .before .before .before .before .before .before .before .before .before .before .before .before .before .node-of .ensures) _ _ _ (c .before .before .before .before .before .before .before .before .before .before .before .call-with .ensures .0) (c .before .before .before .before .before .before .before .before .before .before .before .call-with .ensures .1 .0) (c .before .before .before .before .before .before .before .before .before .before .before .call-with .ensures .1 .1) _ (c .before .before .before .before .before .before .if1 .left) (c .before .before .before .before .numbers-of .ensures)
 
 pub grasp-node-call-spec : {M : Type 1} → statement M
 grasp-node-call-spec =
