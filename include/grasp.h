@@ -24,19 +24,24 @@ extern "C" {
 /* The numbers of the refusals. */
 enum grasp_refusal {
     GRASP_ACCEPTED = 0,
-    GRASP_BAD_SIZE = 1,         /* no bytes, or over 2,048 */
-    GRASP_CUT = 2,              /* the bytes end inside an item */
-    GRASP_RESERVED = 3,         /* additional information 28 to 30, or a two-byte simple value below 32 */
-    GRASP_INDEFINITE = 4,       /* additional information 31, a lone break included */
-    GRASP_LONG_HEAD = 5,        /* a head longer than needed */
-    GRASP_TOO_DEEP = 6,         /* level 9 reached */
-    GRASP_BYTES_AFTER = 7,      /* bytes after the item */
-    GRASP_UNKNOWN_KIND = 8,     /* an array that begins with an unknown kind */
-    GRASP_BAD_SHAPE = 9,        /* any other departure from the message shapes */
-    GRASP_LONG_NAME = 10,       /* an objective's name over 64 bytes */
-    GRASP_BAD_TEXT = 11,        /* a named text that isn't UTF-8 */
-    GRASP_BAD_RECORD = 12,      /* interfaces not 1 to 8, a link at or above them, or tally above 2^63 */
-    GRASP_BAD_LINK = 13,        /* new links with a bit at or above the interfaces */
+    GRASP_BAD_SIZE = 1,     /* no bytes, or over 2,048 */
+    GRASP_CUT = 2,          /* the bytes end inside an item */
+    GRASP_RESERVED = 3,     /* additional information 28 to 30, or a two-byte simple value below 32 */
+    GRASP_INDEFINITE = 4,   /* additional information 31, a lone break included */
+    GRASP_LONG_HEAD = 5,    /* a head longer than needed */
+    GRASP_TOO_DEEP = 6,     /* level 9 reached */
+    GRASP_BYTES_AFTER = 7,  /* bytes after the item */
+    GRASP_UNKNOWN_KIND = 8, /* an array that begins with an unknown kind */
+    GRASP_BAD_SHAPE = 9,    /* any other departure from the message shapes */
+    GRASP_LONG_NAME = 10,   /* an objective's name over 64 bytes */
+    GRASP_BAD_TEXT = 11,    /* a named text that isn't UTF-8 */
+    GRASP_BAD_RECORD = 12,  /* interfaces not 1 to 8, a link at or above them, or tally above 2^63 */
+    GRASP_BAD_LINK = 13, /* arrival on no interface or on a link that is down, or new links with a bit at or
+                            above the interfaces */
+    GRASP_EARLY_CLOCK = 14,     /* clock earlier than the record's */
+    GRASP_BAD_TABLE = 15,       /* table not 2,048 bytes long, or a row bad */
+    GRASP_BAD_NAMES = 16,       /* own names not an array of 0 to 16 texts of at most 64 bytes each */
+    GRASP_SMALL_OUTPUT = 17,    /* the node call's output shorter than 2,048 bytes */
     GRASP_NO_SUCH_MESSAGE = 18, /* writing: no accepted message has this description */
     GRASP_SHORT_OUTPUT = 19,    /* writing: the output is shorter than the encoding */
     GRASP_NOT_ALLOWED = 20      /* negotiation: a step that isn't allowed */
@@ -124,6 +129,32 @@ enum grasp_record_field {
 
 enum { GRASP_ADDRESS_BYTES = 16 };
 
+/* The relay table: 64 rows of four numbers, eight bytes each, the most significant first. A fresh one is all
+ * zeros. */
+enum { GRASP_TABLE_BYTES = 2048 };
+
+/* What a node does with a message. */
+enum grasp_verdict {
+    GRASP_OWN = 1,       /* it began here */
+    GRASP_ANSWER = 2,    /* a Discovery of an own name: send the output back */
+    GRASP_DUPLICATE = 3, /* relayed before, and its row lives */
+    GRASP_LAST = 4,      /* its count is used up */
+    GRASP_NOWHERE = 5,   /* no other link is up */
+    GRASP_NO_ROW = 6,    /* the table is full */
+    GRASP_RELAY = 7,     /* send the output on */
+    GRASP_NOTHING = 8,   /* a Noop */
+    GRASP_HAND = 9       /* for the host */
+};
+
+/* The answer of grasp_node_call. */
+enum grasp_answer_field {
+    GRASP_ANSWER_VERDICT = 0,
+    GRASP_ANSWER_HANDED_UP = 1, /* 1 if the host is to look at the message */
+    GRASP_ANSWER_MASK = 2,      /* send on interface i where bit i is set */
+    GRASP_ANSWER_LENGTH = 3,    /* how many bytes of the output to send */
+    GRASP_ANSWER_FIELDS = 4
+};
+
 /*
  * The state of a negotiation, one for a session. A fresh one is all zeros, and a
  * host begins each session with it; grasp_step changes it.
@@ -191,6 +222,21 @@ uint8_t grasp_fresh(const uint8_t address[GRASP_ADDRESS_BYTES], uint16_t port, u
  */
 uint8_t grasp_set_links(const uint8_t address[GRASP_ADDRESS_BYTES], uint64_t numbers[GRASP_RECORD_FIELDS],
                         uint64_t links);
+
+/*
+ * Says what the node does with a message that came in by an interface, at a clock
+ * in ms. Answers 0, fills the answer, and changes the record's numbers (clock and
+ * tally), the table and, where something is to be sent, the first bytes of the
+ * output; or answers the number of the refusal, 12 to 17 and then 1 to 11, and
+ * leaves all as it was. The names are one CBOR array of the node's own names
+ * (`80`: none). The output must have room for 2,048 bytes. A host begins with
+ * grasp_fresh and a table of zeros, and hands in record and table as the call
+ * before left them.
+ */
+uint8_t grasp_node_call(const uint8_t address[GRASP_ADDRESS_BYTES], uint64_t numbers[GRASP_RECORD_FIELDS],
+                        uint8_t *table, size_t table_size, uint64_t clock, uint64_t interface,
+                        const uint8_t *names, size_t names_len, const uint8_t *message, size_t len,
+                        uint8_t *out, size_t size, uint64_t answer[GRASP_ANSWER_FIELDS]);
 
 /*
  * Takes one step of a negotiation: the message that the len bytes are, sent by
