@@ -8,9 +8,7 @@ use options::Span;
 use options::objective::Objective;
 use shape::Shape;
 
-pub mod fields;
 mod flood;
-pub mod line;
 mod opening;
 mod response;
 mod sequence;

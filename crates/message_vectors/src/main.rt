@@ -52,7 +52,7 @@ fn run(s: &[u8]) {
     match reading {
         Reading::Refused(n) => print_number(b"refused", n as u64),
         Reading::Read(m) => {
-            print_number(b"kind", message::fields::kind_of(m) as u64);
+            print_number(b"kind", contents::fields::kind_of(m) as u64);
             print_message(s, m);
         }
     }

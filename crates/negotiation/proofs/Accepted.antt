@@ -10,7 +10,7 @@ use Rattle.base.specs.Lists.{Every}
 use Rattle.message.specs.declared.Message.{Message}
 use Rattle.message.specs.declared.Reading.{Reading}
 use Rattle.message.specs.Read.{readOf}
-use Rattle.message.specs.Fields.{kindOf}
+use Rattle.contents.specs.Fields.{kindOf}
 use Rattle.negotiation.specs.declared.Side.{Side}
 use Rattle.negotiation.specs.declared.State.{State}
 use Rattle.negotiation.specs.declared.State.the-variants.{Closed}

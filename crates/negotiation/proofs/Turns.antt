@@ -14,7 +14,7 @@ use Rattle.message.specs.declared.Message.the-variants as M
 use Rattle.message.specs.declared.Extra.{Extra}
 use Rattle.message.specs.declared.Reading.{Reading}
 use Rattle.message.specs.Read.{readOf}
-use Rattle.message.specs.Fields.{kindOf, objectiveOf}
+use Rattle.contents.specs.Fields.{kindOf, objectiveOf}
 use Rattle.negotiation.specs.declared.Side.{Side}
 use Rattle.negotiation.specs.declared.State.{State}
 use Rattle.negotiation.specs.declared.State.the-variants.{Fresh, Open, Closed}

@@ -11,9 +11,9 @@ use Rattle.base.specs.Lists.{Every, EachPair, Distinct}
 use Rattle.base.specs.BigEndian.{Bytes}
 use Rattle.grammar.specs.Stands.{held}
 use Rattle.message.specs.declared.Extra.{Extra}
-use Rattle.message.specs.declared.fields.Session.{Session}
+use Rattle.contents.specs.declared.fields.Session.{Session}
 use Rattle.message.specs.declared.Reading.{Reading}
-use Rattle.message.specs.Fields.{kindOf, sessionOf, initiatorOf, objectiveOf}
+use Rattle.contents.specs.Fields.{kindOf, sessionOf, initiatorOf, objectiveOf}
 use Rattle.message.specs.Read.{readOf}
 use Rattle.node.specs.declared.Record.{Record}
 use Rattle.node.specs.declared.Verdict.{Verdict}

@@ -1,11 +1,11 @@
 // Reads a message's raw bytes from standard input and prints one line: `kind 0` or `refused 7`.
-use message::line::Line;
+use contents::line::Line;
 
 fn main() {
     // One byte more than a message has at most, so that a longer input is seen to be longer.
     let mut input = [0u8; 2_049];
     let n = io::read_full(0, &mut input);
-    print(message::line::line_of(&input[..n]));
+    print(contents::line::line_of(&input[..n]));
 }
 
 fn print(line: Line) {

@@ -9,7 +9,7 @@ use Rattle.grammar.specs.Stands.{held}
 use Rattle.message.specs.declared.Series.{Series}
 use Rattle.message.specs.declared.Message.{Message}
 use Rattle.message.specs.declared.Message.the-variants as M
-use Rattle.message.specs.Fields.{kindOf, sessionOf, initiatorOf}
+use Rattle.contents.specs.Fields.{kindOf, sessionOf, initiatorOf}
 use Rattle.writer.specs.Write.{lowered}
 
 -- an objective with another count

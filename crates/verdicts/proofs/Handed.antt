@@ -12,7 +12,7 @@ use Rattle.options.specs.declared.objective.Objective.{Objective}
 use Rattle.message.specs.declared.Message.{Message}
 use Rattle.message.specs.declared.Message.the-variants as M
 use Rattle.message.specs.declared.Reading.{Reading}
-use Rattle.message.specs.Fields.{kindOf}
+use Rattle.contents.specs.Fields.{kindOf}
 use Rattle.message.specs.Read.{readOf}
 use Rattle.node.specs.declared.Record.{Record}
 use Rattle.node.specs.declared.Verdict.{Verdict}

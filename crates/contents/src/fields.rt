@@ -1,8 +1,8 @@
 // What callers need of a message that was read.
 ghost use mathlib.Core.Path.{_≡_};
-ghost use Rattle.message.specs.Fields.{kindOf, sessionOf, initiatorOf, objectiveOf};
-use crate::Extra;
-use crate::Message;
+ghost use Rattle.contents.specs.Fields.{kindOf, sessionOf, initiatorOf, objectiveOf};
+use message::Extra;
+use message::Message;
 use options::Span;
 
 // A session, which a Noop lacks.

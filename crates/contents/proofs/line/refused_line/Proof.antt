@@ -1,13 +1,13 @@
--- `message::line::refused_line` meets its contract.
+-- `contents::line::refused_line` meets its contract.
 -- Assumes nothing.
-use Rattle.message.specs.Line.{refusedLine, padded, decimal}
+use Rattle.contents.specs.Line.{refusedLine, padded, decimal}
 use Rattle.base.specs.Pick.{pick}
 use borrow.Author.Tests.{lt-ltb, le-ltb}
 use borrow.Author.Needs.{needs}
-use Rattle.message.proofs.line.refused_line.Statement.{statement}
-use Rattle.message.proofs.line.refused_line.Tie as tie
-use Rattle.message.proofs.line.refused_line.Reads as reads
-use Rattle.message.proofs.line.refused_line.Lts as lts
+use Rattle.contents.proofs.line.refused_line.Statement.{statement}
+use Rattle.contents.proofs.line.refused_line.Tie as tie
+use Rattle.contents.proofs.line.refused_line.Reads as reads
+use Rattle.contents.proofs.line.refused_line.Lts as lts
 
 -- src/line.rt:51:13
 add-a : tie.Need-add-a

@@ -1,12 +1,12 @@
--- `message::fields::objective_of` meets its contract.
+-- `contents::fields::objective_of` meets its contract.
 -- Assumes nothing.
 use mathlib.Core.Path.{sym, ap}
-use Rattle.message.specs.Fields.{objectiveOf}
+use Rattle.contents.specs.Fields.{objectiveOf}
 use borrow.Author.Needs.{needs}
-use Rattle.message.proofs.fields.objective_of.Statement.{statement}
-use Rattle.message.proofs.fields.objective_of.Tie as tie
-use Rattle.message.proofs.fields.objective_of.Reads as reads
-use Rattle.message.proofs.fields.objective_of.Lts as lts
+use Rattle.contents.proofs.fields.objective_of.Statement.{statement}
+use Rattle.contents.proofs.fields.objective_of.Tie as tie
+use Rattle.contents.proofs.fields.objective_of.Reads as reads
+use Rattle.contents.proofs.fields.objective_of.Lts as lts
 
 -- src/fields.rt:180:26
 enum-told : tie.Need-enum-told

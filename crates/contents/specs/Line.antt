@@ -4,10 +4,10 @@ use mathlib.Core.List.{List, [], _∷_, _++_}
 use lib.ListN.{length, take, replicate}
 use lib.Dec.{ltb}
 use Rattle.base.specs.Pick.{pick}
-use Rattle.message.specs.declared.line.Line.{Line}
+use Rattle.contents.specs.declared.line.Line.{Line}
 use Rattle.message.specs.declared.Reading.{Reading}
-use Rattle.message.specs.Fields.{kindOf}
+use Rattle.contents.specs.Fields.{kindOf}
 use Rattle.message.specs.Read.{readOf}
 
 -- a number below 1,000 in decimal, without leading zeros
 unfoldable pub decimal : ℕ → List ℕ

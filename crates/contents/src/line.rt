@@ -1,7 +1,7 @@
 // What the program `read_message` prints of a message: one line.
 ghost use mathlib.Core.Path.{_≡_};
-ghost use Rattle.message.specs.Line.{kindLine, refusedLine, lineOf};
-use crate::Reading;
+ghost use Rattle.contents.specs.Line.{kindLine, refusedLine, lineOf};
+use message::Reading;
 use crate::fields;
 
 // A line of `len` bytes, its line feed included; the bytes after it are 0.
@@ -14,7 +14,7 @@ pub struct Line {
 pub fn line_of(s: &[u8]) -> Line
     ensures { λ r. ⌜ r ≡ lineOf (now (s .entry)) ⌝ }
 {
-    let reading = crate::read(s);
+    let reading = message::read(s);
     match reading {
         Reading::Refused(number) => refused_line(number),
         Reading::Read(message) => kind_line(fields::kind_of(message)),

@@ -1,12 +1,12 @@
--- `message::fields::initiator_of` meets its contract.
+-- `contents::fields::initiator_of` meets its contract.
 -- Assumes nothing.
 use mathlib.Core.Path.{sym, ap}
-use Rattle.message.specs.Fields.{initiatorOf}
+use Rattle.contents.specs.Fields.{initiatorOf}
 use borrow.Author.Needs.{needs}
-use Rattle.message.proofs.fields.initiator_of.Statement.{statement}
-use Rattle.message.proofs.fields.initiator_of.Tie as tie
-use Rattle.message.proofs.fields.initiator_of.Reads as reads
-use Rattle.message.proofs.fields.initiator_of.Lts as lts
+use Rattle.contents.proofs.fields.initiator_of.Statement.{statement}
+use Rattle.contents.proofs.fields.initiator_of.Tie as tie
+use Rattle.contents.proofs.fields.initiator_of.Reads as reads
+use Rattle.contents.proofs.fields.initiator_of.Lts as lts
 
 -- src/fields.rt:124:26
 enum-told : tie.Need-enum-told

@@ -1,12 +1,12 @@
--- `message::fields::kind_of` meets its contract.
+-- `contents::fields::kind_of` meets its contract.
 -- Assumes nothing.
 use mathlib.Core.Path.{sym, ap}
-use Rattle.message.specs.Fields.{kindOf}
+use Rattle.contents.specs.Fields.{kindOf}
 use borrow.Author.Needs.{needs}
-use Rattle.message.proofs.fields.kind_of.Statement.{statement}
-use Rattle.message.proofs.fields.kind_of.Tie as tie
-use Rattle.message.proofs.fields.kind_of.Reads as reads
-use Rattle.message.proofs.fields.kind_of.Lts as lts
+use Rattle.contents.proofs.fields.kind_of.Statement.{statement}
+use Rattle.contents.proofs.fields.kind_of.Tie as tie
+use Rattle.contents.proofs.fields.kind_of.Reads as reads
+use Rattle.contents.proofs.fields.kind_of.Lts as lts
 
 -- src/fields.rt:19:26
 enum-told : tie.Need-enum-told

@@ -1,15 +1,15 @@
--- `message::line::line_of` meets its contract.
+-- `contents::line::line_of` meets its contract.
 -- Assumes nothing.
-use Rattle.message.specs.Line.{lineOf, lineFrom}
+use Rattle.contents.specs.Line.{lineOf, lineFrom}
 use borrow.Author.Needs.{needs}
-use Rattle.message.proofs.line.line_of.Statement.{statement}
-use Rattle.message.proofs.line.line_of.Tie as tie
-use Rattle.message.proofs.line.line_of.Reads as reads
-use Rattle.message.proofs.line.line_of.Lts as lts
-use Rattle.message.proofs.fields.kind_of.Reads as kind-of-reads
-use Rattle.message.proofs.line.kind_line.Reads as kind-line-reads
-use Rattle.message.proofs.line.refused_line.Reads as refused-line-reads
+use Rattle.contents.proofs.line.line_of.Statement.{statement}
+use Rattle.contents.proofs.line.line_of.Tie as tie
+use Rattle.contents.proofs.line.line_of.Reads as reads
+use Rattle.contents.proofs.line.line_of.Lts as lts
+use Rattle.contents.proofs.fields.kind_of.Reads as kind-of-reads
+use Rattle.contents.proofs.line.kind_line.Reads as kind-line-reads
+use Rattle.contents.proofs.line.refused_line.Reads as refused-line-reads
 use Rattle.message.proofs.read.Reads as read-reads
 
 -- src/line.rt:17:9
 read-requires : tie.Need-read-requires

@@ -1,12 +1,12 @@
--- `message::fields::session_of` meets its contract.
+-- `contents::fields::session_of` meets its contract.
 -- Assumes nothing.
 use mathlib.Core.Path.{sym, ap}
-use Rattle.message.specs.Fields.{sessionOf}
+use Rattle.contents.specs.Fields.{sessionOf}
 use borrow.Author.Needs.{needs}
-use Rattle.message.proofs.fields.session_of.Statement.{statement}
-use Rattle.message.proofs.fields.session_of.Tie as tie
-use Rattle.message.proofs.fields.session_of.Reads as reads
-use Rattle.message.proofs.fields.session_of.Lts as lts
+use Rattle.contents.proofs.fields.session_of.Statement.{statement}
+use Rattle.contents.proofs.fields.session_of.Tie as tie
+use Rattle.contents.proofs.fields.session_of.Reads as reads
+use Rattle.contents.proofs.fields.session_of.Lts as lts
 
 -- src/fields.rt:74:26
 enum-told : tie.Need-enum-told

@@ -2,10 +2,10 @@
 use Prim.Native.Nat.{ℕ}
 use Rattle.options.specs.declared.Span.{Span}
 use Rattle.options.specs.Text.{spanOf}
 use Rattle.message.specs.declared.Message.{Message}
 use Rattle.message.specs.declared.Message.the-variants as M
 use Rattle.message.specs.declared.Extra.{Extra}
-use Rattle.message.specs.declared.fields.Session.{Session}
+use Rattle.contents.specs.declared.fields.Session.{Session}
 
 unfoldable pub kindOf : Message → ℕ
 kindOf M.Noop = 0
