@@ -65,16 +65,18 @@ impl History {
         Some((last, Difference::of_demand(fault)))
     }
 
-    /// The interfaces of a list that demand 3 speaks of: a good fresh record, then nothing but
-    /// calls and settings of links.
+    /// The interfaces of a list that demand 3 speaks of: a fresh record that is not refused, then
+    /// nothing but calls and settings of links.
     fn interfaces(&self) -> Option<u64> {
         let (first, others) = self.steps.split_first()?;
         let Step::Fresh(fresh) = first else {
             return None;
         };
-        let is_good = (1..=8).contains(&fresh.interfaces) && fresh.links >> fresh.interfaces == 0;
+        let mut host = Host::new();
+        first.take::<Second>(&mut host);
         let is_listed = |step: &Step| matches!(step, Step::Call(_) | Step::Links(_));
-        (is_good && others.iter().all(is_listed)).then_some(fresh.interfaces)
+        let speaks = host.returned == 0 && others.iter().all(is_listed);
+        speaks.then_some(fresh.interfaces)
     }
 
     /// The steps up to the failing one, if one fails.

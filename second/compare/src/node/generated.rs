@@ -135,7 +135,7 @@ fn vary(random: &mut Random, step: &mut Step) {
     }
 }
 
-/// Another port and ttl, and seldom an address or links that no interface has.
+/// Another port and ttl, at times another address, and seldom other interfaces or links.
 fn vary_fresh(random: &mut Random, fresh: &mut Fresh) {
     fresh.port = random.number() as u16;
     fresh.ttl = random.number() as u32;
@@ -175,7 +175,7 @@ fn wide(random: &mut Random, number: u64) -> u64 {
     }
 }
 
-/// Up to 17 names from the pieces of a message, which has its own name mostly at the same place.
+/// Up to 17 names, each a piece of the message, so that one may be its objective's.
 fn named(random: &mut Random, message: &[u8]) -> Vec<u8> {
     let mut names = vec![0x80 + random.below(18) as u8];
     for _ in 0..names[0] & 31 {
