@@ -1,12 +1,53 @@
 //! The proved library, as include/grasp.h has it. All unsafe code is here.
 
+use second::node::Given;
+use second::vectors::write::Draft;
+
 use crate::answer::{untouched, Answer, Description, LIST, LIST_AT, LIST_MANY};
 use crate::answer::{LocatorAnswer, PairAnswer, ReadAnswer};
+use crate::guarded::Guarded;
+use crate::node::{Fresh, Host, Node};
+use crate::writing::Written;
 
 extern "C" {
     fn grasp_read(bytes: *const u8, len: usize, fields: *mut u64) -> u8;
     fn grasp_locator(bytes: *const u8, len: usize, at: usize, fields: *mut u64) -> usize;
     fn grasp_pair(bytes: *const u8, len: usize, at: usize, fields: *mut u64) -> usize;
+    fn grasp_write(
+        source: *const u8,
+        len: usize,
+        list: *const u64,
+        numbers: usize,
+        fields: *const u64,
+        out: *mut u8,
+        size: usize,
+        length: *mut u64,
+    ) -> u8;
+    fn grasp_fresh(
+        address: *const u8,
+        port: u16,
+        ttl: u32,
+        interfaces: u64,
+        links: u64,
+        numbers: *mut u64,
+    ) -> u8;
+    fn grasp_set_links(address: *const u8, numbers: *mut u64, links: u64) -> u8;
+    fn grasp_node_call(
+        address: *const u8,
+        numbers: *mut u64,
+        table: *mut u8,
+        table_len: usize,
+        clock: u64,
+        interface: u64,
+        names: *const u8,
+        names_len: usize,
+        message: *const u8,
+        len: usize,
+        out: *mut u8,
+        size: usize,
+        answer: *mut u64,
+    ) -> u8;
+    fn grasp_step(state: *mut u64, bytes: *const u8, len: usize, side: u64) -> u8;
 }
 
 /// What grasp_read answers.
@@ -58,4 +99,84 @@ pub fn description(bytes: &[u8]) -> Description {
         locators,
         pairs,
     }
+}
+
+/// The library's node.
+pub struct Archive;
+
+impl Node for Archive {
+    fn fresh(host: &mut Host, fresh: &Fresh) -> u8 {
+        let numbers = host.numbers.content_mut().as_mut_ptr();
+        // SAFETY: the address has 16 bytes and the record six numbers.
+        unsafe {
+            grasp_fresh(
+                host.address.as_ptr(),
+                fresh.port,
+                fresh.ttl,
+                fresh.interfaces,
+                fresh.links,
+                numbers,
+            )
+        }
+    }
+
+    fn set_links(host: &mut Host, links: u64) -> u8 {
+        let numbers = host.numbers.content_mut().as_mut_ptr();
+        // SAFETY: as above.
+        unsafe { grasp_set_links(host.address.as_ptr(), numbers, links) }
+    }
+
+    fn call(host: &mut Host, given: &Given) -> u8 {
+        let table = &mut host.table.content_mut()[..host.length];
+        let out = host.out.content_mut();
+        // The message follows the names in memory, so that names that are cut have more behind them.
+        let memory = [&given.names[..], &given.message].concat();
+        let (names, message) = memory.split_at(given.names.len());
+        // SAFETY: as above; every slice is as long as said, the answer has four numbers, and all
+        // are memory of their own.
+        unsafe {
+            grasp_node_call(
+                host.address.as_ptr(),
+                host.numbers.content_mut().as_mut_ptr(),
+                table.as_mut_ptr(),
+                table.len(),
+                given.clock,
+                given.interface,
+                names.as_ptr(),
+                names.len(),
+                message.as_ptr(),
+                message.len(),
+                out.as_mut_ptr(),
+                out.len(),
+                host.answer.content_mut().as_mut_ptr(),
+            )
+        }
+    }
+}
+
+/// What grasp_step returns; it changes the state's four numbers.
+pub fn step(state: &mut Guarded<u64>, message: &[u8], side: u64) -> u8 {
+    let state = state.content_mut().as_mut_ptr();
+    // SAFETY: the slice is as long as said, and the state has four numbers.
+    unsafe { grasp_step(state, message.as_ptr(), message.len(), side) }
+}
+
+/// What grasp_write returns and leaves.
+pub fn write(draft: &Draft) -> Written {
+    let mut written = Written::new(draft.out_len);
+    let out = written.out.content_mut();
+    // SAFETY: every slice is as long as said, the block has 19 numbers, and the length is one.
+    written.returned = unsafe {
+        grasp_write(
+            draft.source.as_ptr(),
+            draft.source.len(),
+            draft.list.as_ptr(),
+            draft.list.len(),
+            draft.fields.as_ptr(),
+            out.as_mut_ptr(),
+            out.len(),
+            written.length.content_mut().as_mut_ptr(),
+        )
+    };
+    written
 }

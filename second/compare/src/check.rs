@@ -16,6 +16,17 @@ pub struct Difference {
     pub second: String,
 }
 
+impl Difference {
+    /// The library's answers do not meet demand 3.
+    pub fn of_demand(fault: String) -> Difference {
+        Difference {
+            call: String::from("the whole list"),
+            library: fault,
+            second: String::from("demand 3 holds"),
+        }
+    }
+}
+
 /// The first difference in what is said of the message, or of any of the places.
 pub fn difference(bytes: &[u8], places: &[usize]) -> Option<Difference> {
     let whole = || {

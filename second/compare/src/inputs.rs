@@ -5,6 +5,8 @@ use second::vectors::damage::damaged;
 use second::vectors::message::generated::{long_message, message, near_message};
 use second::vectors::message::{cases, LONGEST};
 
+use crate::shrink::Case;
+
 /// Bytes to read, and others that only follow them in memory.
 #[derive(Clone)]
 pub struct Input {
@@ -32,9 +34,15 @@ impl Input {
     pub fn alone(&self) -> Input {
         Input::new(self.shown().to_vec())
     }
+}
 
-    /// The same without so many of the shown bytes from a place on.
-    pub fn without(&self, from: usize, length: usize) -> Input {
+/// Its pieces are the shown bytes.
+impl Case for Input {
+    fn size(&self) -> usize {
+        self.shown
+    }
+
+    fn without(&self, from: usize, length: usize) -> Input {
         let mut less = self.clone();
         let end = self.shown.min(from + length);
         less.bytes.drain(from..end);

@@ -1,87 +1,157 @@
-//! Reads generated messages by the proved library and by the second program and compares all
-//! that they say.
+//! Compares the proved library with the second program through the archive for C, on stored and
+//! generated inputs: reading, node histories, negotiations and writing.
 
 mod answer;
 mod archive;
 mod check;
 mod expected;
+mod guarded;
 mod inputs;
+mod negotiation;
+mod node;
+mod options;
 mod shrink;
+mod writing;
 
 use std::env;
+use std::fmt::Display;
 use std::process::ExitCode;
 
 use second::random::Random;
 use second::vectors::hex;
 
-use check::{difference, every_place, some_places};
+use check::{difference, every_place, some_places, Difference};
 use inputs::{Input, Inputs};
+use negotiation::{Talk, Talks};
+use node::{Histories, History};
+use options::{Options, USAGE};
+use shrink::{shrink, Case};
+use writing::{Write, Writes};
 
-const USAGE: &str = "usage: compare [--count N] [--seed N]";
-
-/// How many inputs after the first failing one are tried for a shorter one.
+/// How many messages or descriptions, and how many lists, after the first failing one are tried
+/// for a smaller one.
 const MORE: usize = 100_000;
-
-/// What the command line asks for.
-struct Options {
-    count: usize,
-    seed: u64,
-}
+const MORE_LISTS: usize = 1_000;
 
 fn main() -> ExitCode {
-    let arguments: Vec<String> = env::args().skip(1).collect();
-    let Some(options) = options(&arguments) else {
+    let words: Vec<String> = env::args().skip(1).collect();
+    let Some(options) = Options::of(&words) else {
         eprintln!("{USAGE}");
         return ExitCode::from(2);
     };
-    match failing(&options) {
-        None => ExitCode::SUCCESS,
-        Some(input) => {
-            report(&input);
-            ExitCode::FAILURE
-        }
+    let alike = [read, run_histories, run_talks, write].map(|compare| compare(&options));
+    if alike.contains(&false) {
+        ExitCode::FAILURE
+    } else {
+        ExitCode::SUCCESS
     }
 }
 
-fn options(arguments: &[String]) -> Option<Options> {
-    let mut options = Options {
-        count: 100_000,
-        seed: 1,
-    };
-    for pair in arguments.chunks(2) {
-        match pair {
-            [name, number] if name == "--count" => options.count = number.parse().ok()?,
-            [name, number] if name == "--seed" => options.seed = number.parse().ok()?,
-            _ => return None,
-        }
-    }
-    Some(options)
+/// The smallest of the first failing case and of those among so many after it.
+fn smallest<T>(
+    mut cases: impl Iterator<Item = T>,
+    mut failing: impl FnMut(T) -> Option<T>,
+    more: usize,
+    size: impl Fn(&T) -> usize,
+) -> Option<T> {
+    let first = cases.find_map(&mut failing)?;
+    let later = cases.take(more).filter_map(failing);
+    later.chain([first]).min_by_key(size)
 }
 
-/// The shortest input that the two do not read alike, of the first one and some after it.
-fn failing(options: &Options) -> Option<Input> {
+/// Whether all messages are read alike.
+fn read(options: &Options) -> bool {
     let mut random = Random::new(!options.seed);
-    let mut fails = |input: &Input| {
+    let failing = |input: Input| {
         let places = some_places(&mut random, input.shown());
-        difference(input.shown(), &places).is_some()
+        difference(input.shown(), &places).map(|_| input)
     };
-    let mut inputs = Inputs::new(options.seed).take(options.count);
-    let first = inputs.find(&mut fails)?;
-    let later = inputs.take(MORE).filter(fails);
-    later.chain([first]).min_by_key(|input| input.shown().len())
+    let inputs = Inputs::new(options.seed).take(options.count);
+    match smallest(inputs, failing, MORE, Input::size) {
+        None => println!("{} messages are read alike", options.count),
+        Some(input) => {
+            report_input(input);
+            return false;
+        }
+    }
+    true
 }
 
 /// Says the shortest failing input found from this one, and both answers.
-fn report(input: &Input) {
+fn report_input(input: Input) {
     let found = |input: &Input| difference(input.shown(), &every_place(input.shown().len()));
-    let least = shrink::shrink(input.clone(), |input| found(input).is_some());
+    let fails = |input: &Input| found(input).is_some();
+    let alone = input.alone();
+    let least = shrink(if fails(&alone) { alone } else { input }, fails);
     println!("input: {}", hex(least.shown()));
     if !least.hidden().is_empty() {
         println!("followed in memory by: {}", hex(least.hidden()));
     }
     if let Some(difference) = found(&least) {
-        println!("call: {}", difference.call);
-        println!("libgrasp: {}", difference.library);
-        println!("second: {}", difference.second);
+        report(&difference);
     }
+}
+
+/// Whether all node histories go alike.
+fn run_histories(options: &Options) -> bool {
+    let mut calls = 0;
+    let histories = Histories::new(options.seed).take(options.histories);
+    let histories = histories.inspect(|history| calls += history.calls());
+    let failing = |history: History| history.failing();
+    let found = smallest(histories, failing, MORE_LISTS, History::size);
+    let Some(history) = found else {
+        let histories = options.histories;
+        println!("{calls} node calls in {histories} histories are answered alike");
+        return true;
+    };
+    let least = shrink(history, |history| history.difference().is_some());
+    report_list(&least.steps, least.difference());
+    false
+}
+
+/// Whether all lists of negotiation steps go alike.
+fn run_talks(options: &Options) -> bool {
+    let mut steps = 0;
+    let talks = Talks::new(options.seed).take(options.talks);
+    let talks = talks.inspect(|talk| steps += talk.steps());
+    let failing = |talk: Talk| talk.failing();
+    let found = smallest(talks, failing, MORE_LISTS, Talk::size);
+    let Some(talk) = found else {
+        let talks = options.talks;
+        println!("{steps} negotiation steps in {talks} lists are answered alike");
+        return true;
+    };
+    let least = shrink(talk, |talk| talk.difference().is_some());
+    report_list(&least.moves, least.difference());
+    false
+}
+
+/// Whether all descriptions are written alike.
+fn write(options: &Options) -> bool {
+    let writes = Writes::new(options.seed).take(options.writes);
+    let failing = |write: Write| write.difference().map(|_| write);
+    let found = smallest(writes, failing, MORE, Write::size);
+    let Some(write) = found else {
+        println!("{} descriptions are written alike", options.writes);
+        return true;
+    };
+    report_list(&[&write], write.difference().map(|found| (0, found)));
+    false
+}
+
+/// Says every step up to the failing one, and both answers to it.
+fn report_list<T: Display>(steps: &[T], found: Option<(usize, Difference)>) {
+    let Some((place, difference)) = found else {
+        return;
+    };
+    for (number, step) in steps[..=place].iter().enumerate() {
+        println!("{number}: {step}");
+    }
+    report(&difference);
+}
+
+fn report(difference: &Difference) {
+    println!("call: {}", difference.call);
+    println!("libgrasp: {}", difference.library);
+    println!("second: {}", difference.second);
 }

@@ -1,17 +1,20 @@
-//! Makes a failing input shorter.
+//! Makes a failing case smaller.
 
-use crate::inputs::Input;
+/// Something made of pieces that can be taken away.
+pub trait Case {
+    /// How many pieces there are.
+    fn size(&self) -> usize;
 
-/// An input that still fails and does not when any single byte is taken away.
-pub fn shrink(failing: Input, fails: impl Fn(&Input) -> bool) -> Input {
+    /// The same without so many pieces from a place on, or up to the end.
+    fn without(&self, from: usize, length: usize) -> Self;
+}
+
+/// A case that still fails and does not when any single piece is taken away.
+pub fn shrink<T: Case>(failing: T, fails: impl Fn(&T) -> bool) -> T {
     let mut best = failing;
-    let alone = best.alone();
-    if fails(&alone) {
-        best = alone;
-    }
-    let mut length = best.shown().len();
+    let mut length = best.size();
     while length > 0 {
-        match shorter(&best, length, &fails) {
+        match smaller(&best, length, &fails) {
             Some(less) => best = less,
             None => length /= 2,
         }
@@ -19,17 +22,18 @@ pub fn shrink(failing: Input, fails: impl Fn(&Input) -> bool) -> Input {
     best
 }
 
-/// The same without so many bytes at some place, if that still fails.
-fn shorter(input: &Input, length: usize, fails: impl Fn(&Input) -> bool) -> Option<Input> {
-    (0..input.shown().len())
+/// The same without so many pieces at some place, if that still fails.
+fn smaller<T: Case>(case: &T, length: usize, fails: impl Fn(&T) -> bool) -> Option<T> {
+    (0..case.size())
         .step_by(length)
-        .map(|from| input.without(from, length))
+        .map(|from| case.without(from, length))
         .find(|less| fails(less))
 }
 
 #[cfg(test)]
 mod tests {
     use super::*;
+    use crate::inputs::Input;
 
     #[test]
     fn what_matters_is_kept() {

@@ -1,7 +1,7 @@
 //! The lists of `negotiation_vectors`: each takes a fresh state and steps on it; another state may
 //! be put in its place.
 
-mod generated;
+pub mod generated;
 mod steps;
 mod talk;
 

@@ -6,7 +6,7 @@ mod clocks;
 mod combined;
 mod draft;
 mod edges;
-mod generated;
+pub mod generated;
 mod kinds;
 mod links;
 mod names;

@@ -73,7 +73,7 @@ fn told(random: &mut Random, calls: usize, sort: Sort) -> Story {
 }
 
 /// A story whose record and rows are random too.
-fn put(random: &mut Random, calls: usize) -> Story {
+pub fn put(random: &mut Random, calls: usize) -> Story {
     let mut teller = teller(random, FEW);
     teller.clock = 300_000;
     for _ in 0..calls {

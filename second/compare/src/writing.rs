@@ -1,0 +1,126 @@
+//! Descriptions written through the library for C and by the second program.
+
+use std::fmt::{self, Display, Formatter};
+use std::vec::IntoIter;
+
+use second::random::Random;
+use second::vectors::hex;
+use second::vectors::write::generated::{damaged_draft, good_draft};
+use second::vectors::write::{writes, Draft, Outcome};
+
+use crate::archive;
+use crate::check::Difference;
+use crate::guarded::Guarded;
+
+/// A description, and what must come of writing it.
+pub struct Write {
+    draft: Draft,
+    outcome: Outcome,
+}
+
+/// What a call returns and leaves in the output and the length.
+#[derive(PartialEq, Eq)]
+pub struct Written {
+    pub returned: u8,
+    pub out: Guarded<u8>,
+    pub length: Guarded<u64>,
+}
+
+/// The stored descriptions, then generated ones without end.
+pub struct Writes {
+    stored: IntoIter<(Draft, Outcome)>,
+    random: Random,
+}
+
+impl Writes {
+    pub fn new(seed: u64) -> Writes {
+        Writes {
+            stored: writes().into_iter(),
+            random: Random::new(seed),
+        }
+    }
+}
+
+impl Iterator for Writes {
+    type Item = Write;
+
+    fn next(&mut self) -> Option<Write> {
+        if let Some((draft, outcome)) = self.stored.next() {
+            return Some(Write { draft, outcome });
+        }
+        let draft = match self.random.below(2) {
+            0 => good_draft(&mut self.random),
+            _ => damaged_draft(&mut self.random),
+        };
+        let outcome = draft.outcome();
+        Some(Write { draft, outcome })
+    }
+}
+
+impl Written {
+    /// Before a call.
+    pub fn new(size: usize) -> Written {
+        Written {
+            returned: 0,
+            out: Guarded::bytes(size),
+            length: Guarded::numbers(1),
+        }
+    }
+}
+
+impl Write {
+    /// How long it is to read.
+    pub fn size(&self) -> usize {
+        self.draft.source.len() + self.draft.list.len()
+    }
+
+    pub fn difference(&self) -> Option<Difference> {
+        let (library, second) = (archive::write(&self.draft), self.expected());
+        if library.returned != second.returned {
+            return Some(Difference {
+                call: String::from("what is returned"),
+                library: library.returned.to_string(),
+                second: second.returned.to_string(),
+            });
+        }
+        let length = library.length.difference(&second.length, "the length");
+        length.or_else(|| library.out.difference(&second.out, "the output"))
+    }
+
+    fn expected(&self) -> Written {
+        let mut written = Written::new(self.draft.out_len);
+        match &self.outcome {
+            Ok(encoding) => {
+                written.out.put(encoding);
+                written.length.put(&[encoding.len() as u64]);
+            }
+            Err(number) => written.returned = *number,
+        }
+        written
+    }
+}
+
+impl Display for Write {
+    fn fmt(&self, out: &mut Formatter) -> fmt::Result {
+        let draft = &self.draft;
+        write!(out, "grasp_write: fields {:x?}", draft.fields)?;
+        write!(out, " list {:x?}", draft.list)?;
+        write!(out, " source [{}]", hex(&draft.source))?;
+        write!(out, " output of {:x}", draft.out_len)
+    }
+}
+
+#[cfg(test)]
+mod tests {
+    use super::*;
+
+    #[test]
+    fn generated_descriptions_meet_every_answer() {
+        let stored = writes().len();
+        let some = Writes::new(1).skip(stored).take(2_000);
+        let returned: Vec<u8> = some.map(|write| write.expected().returned).collect();
+        for number in [0, 18, 19] {
+            assert!(returned.contains(&number));
+        }
+    }
+}
