@@ -1,8 +1,8 @@
 // What the program `read_message` prints of a message: one line.
 ghost use mathlib.Core.Path.{_≡_};
 ghost use Rattle.contents.specs.Line.{kindLine, refusedLine, lineOf};
-use message::Reading;
 use crate::fields;
+use message::Reading;
 
 // A line of `len` bytes, its line feed included; the bytes after it are 0.
 pub struct Line {

@@ -1,4 +1,4 @@
--- The relay table for C: 2,048 bytes, 256 numbers of eight bytes each, the most significant first (`Bytes` of proofs/ says it by `bigEndian`).
+-- The relay table for C: 2,048 bytes, 256 numbers of eight bytes each, the most significant first.
 use Prim.Native.Nat.{ℕ, zero, suc, _+_, _*_, _/_, _%_}
 use mathlib.Core.List.{List}
 use lib.ListN.{getD, set, replicate}

@@ -45,7 +45,12 @@ pub extern "C" fn grasp_node_call(
     }
     let next = a.node;
     *numbers = records::numbers_of(next);
-    *answer = [a.verdict as u64, a.handed_up as u64, a.mask as u64, a.length];
+    *answer = [
+        a.verdict as u64,
+        a.handed_up as u64,
+        a.mask as u64,
+        a.length,
+    ];
     0
 }
 

@@ -25,14 +25,6 @@ free-is t i = (
   λ h. zeros-free t i (record { first = h .first; second = h .second; third = h .third; clock = h .fourth }),
 )
 
--- a row that isn't free fails the test
-not-free : (t : List ℕ) (i : ℕ) → (Free t i → ⊥) → rowFree t i ≡ false
-not-free t i n = go (true-or-false (rowFree t i))
-  where
-    go : (rowFree t i ≡ true) ⊎ (rowFree t i ≡ false) → rowFree t i ≡ false
-    go (inl e) = absurd (n (free-is t i .0 e))
-    go (inr e) = e
-
 pub free-misses : (t : List ℕ) (i : ℕ) → rowFree t i ≡ false → Free t i → ⊥
 free-misses t i e h = not-both (rowFree t i) (free-is t i .1 h) e
 

@@ -1,4 +1,6 @@
-use mathlib.Core.Path.{refl, sym}
+-- `grasp::call::answer_from` meets its contract.
+-- Assumes nothing.
+use mathlib.Core.Path.{refl}
 use Rattle.grasp.specs.Call.{replyNumbers, answerFrom}
 use borrow.Author.Needs.{needs}
 use Rattle.grasp.proofs.call.answer_from.Statement.{statement}

@@ -1,3 +1,5 @@
+-- `grasp::call::call_with` meets its contract.
+-- Assumes nothing.
 use Rattle.node.specs.Call.{callOf}
 use Rattle.grasp.proofs.Calls.{other-length, call-refused, call-given}
 use borrow.Author.Needs.{needs}

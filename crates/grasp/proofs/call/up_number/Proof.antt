@@ -1,3 +1,5 @@
+-- `grasp::call::up_number` meets its contract.
+-- Assumes nothing.
 use mathlib.Core.Path.{refl}
 use Rattle.grasp.specs.Call.{upNumber}
 use Rattle.grasp.proofs.call.up_number.Statement.{statement}

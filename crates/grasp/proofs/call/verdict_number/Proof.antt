@@ -1,3 +1,5 @@
+-- `grasp::call::verdict_number` meets its contract.
+-- Assumes nothing.
 use mathlib.Core.Path.{refl}
 use Rattle.grasp.specs.Call.{verdictNumber}
 use borrow.Author.Needs.{needs}

@@ -1,3 +1,5 @@
+-- `grasp::table::load` meets its contract. The loop's invariant: the numbers passed are those of the bytes.
+-- Assumes nothing.
 use mathlib.Core.Path.{_≡_, refl, sym, _∙_}
 use Prim.Native.Nat.{_-_, _≤_}
 use native.Mathlib.Nat.{le-antisymm}
