@@ -24,7 +24,7 @@ quiet-requires c κs = search needs
 
 -- src/spread.rt:141:9
 returns : tie.Need-returns
-returns c = last-outcome (c .before .before .before .before .before .before .args .node) (c .before .before .before .before .before .before .args .table .now) (callOf (c .before .before .before .before .before .before .args .node .clock) (c .before .before .before .before .before .before .args .interface) [] (c .before .before .before .before .before .before .args .message .now) (c .before .before .before .before .before .before .args .out .now)) (c .before .before .before .before .before .before .args .s) _ (c .quiet .ensures) (c .before .if1 .taken)
+returns c = last-outcome (c .before .before .before .before .before .before .args .node) (c .before .before .before .before .before .before .args .table .now) (callOf (c .before .before .before .before .before .before .args .node .clock) (c .before .before .before .before .before .before .args .interface) [] (c .before .before .before .before .before .before .args .message .now) (c .before .before .before .before .before .before .args .out .now)) (c .before .before .before .before .before .before .args .s) _ (c .quiet .ensures) (omega (arith, c .before .if1 .taken))
 
 -- src/spread.rt:143:9
 others-requires : tie.Need-others-requires
