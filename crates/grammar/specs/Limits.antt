@@ -1,4 +1,4 @@
--- The rules' limits on texts: named texts are UTF-8 (`Utf8.utf8-exactly` of `cbor` says what that means), and names have at most 64 bytes.
+-- The rules' limits on texts: named texts are UTF-8 (`Utf8Exact.utf8-exactly` of `cbor` says what that means), and names have at most 64 bytes.
 use Prim.Native.Nat.{ℕ, _≤_}
 use mathlib.Core.List.{List, [], _∷_, _++_}
 use mathlib.Core.Bool.{true}

@@ -351,6 +351,6 @@ fresh-tally address port ttl interfaces mask = pick-case (λ (k : Kept). k .node
 -- Demand 3, entire.
 pub demand3 : Demand3
 demand3 = record {
-  node = λ address port ttl interfaces mask made events fits. whole (fresh address port ttl interfaces mask .node) freshTable events (fresh-tally address port ttl interfaces mask) fits;
+  node = λ address port ttl interfaces mask events fits. whole (fresh address port ttl interfaces mask .node) freshTable events (fresh-tally address port ttl interfaces mask) fits;
   negotiation = negotiation-bounded;
 }
