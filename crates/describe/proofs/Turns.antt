@@ -1,15 +1,17 @@
--- The turns of the loops that fill rows.
+-- The turns of the loops that fill rows and put their numbers.
 -- Assumes nothing.
 use mathlib.Core.Path.{_≡_, refl, _∙_}
 use mathlib.Core.List.{List}
-use Prim.Native.Nat.{ℕ, suc, _+_, _-_, _≤_, _<_}
+use Prim.Native.Nat.{ℕ, suc, _+_, _-_, _*_, _≤_, _<_}
 use native.Mathlib.Omega.{arith}
-use lib.ListN.{length, length-set}
+use lib.ListN.{length, length-set, set, getD, drop}
+use lib.Seq.{sets, length-sets, drop-cons}
 use Rattle.options.specs.declared.locator.LocatorRead.{LocatorRead}
 use Rattle.options.specs.declared.pair.PairRead.{PairRead}
-use Rattle.options.specs.Locator.{locatorAt}
+use Rattle.options.specs.Locator.{locatorAt, locatorNumbers}
 use Rattle.options.specs.Pair.{pairAt}
-use Rattle.describe.specs.Rows.{rowsFrom, locatorNumbered, locatorRowFrom, locatorRow, pairNumbered, pairRowFrom, pairRow}
+use Rattle.base.proofs.Parts.{drop-past}
+use Rattle.describe.specs.Rows.{rowsFrom, locatorRowFrom, locatorRow, pairCells, pairRowFrom, pairRow}
 
 -- what is left of the rows is the whole
 pub record Filling (next : ℕ → ℕ) (row : ℕ → ℕ → List ℕ → List ℕ) (n at₀ : ℕ) (list₀ : List ℕ) (i at : ℕ) (list : List ℕ) : Type 0 where
@@ -35,19 +37,38 @@ module _ (next : ℕ → ℕ) (row : ℕ → ℕ → List ℕ → List ℕ) (n a
       record { within = omega arith; same-length = rw g (k ∙ f .same-length); same = rw (e, g) (rw s at (f .same)) }
 
 locator-from-length : (i : ℕ) (list : List ℕ) (x : LocatorRead) → length (locatorRowFrom i list x) ≡ length list
-unfolding locatorRowFrom locatorNumbered
+unfolding locatorRowFrom
 locator-from-length i list (LocatorRead.Bad place) = refl
-locator-from-length i list (LocatorRead.Got l size bad) = simp length-set
+locator-from-length i list (LocatorRead.Got l size bad) = length-sets list (5 * i) (locatorNumbers l)
 
 pub locator-length : (s : List ℕ) (at i : ℕ) (list : List ℕ) → length (locatorRow s at i list) ≡ length list
 unfolding locatorRow
 locator-length s at i list = locator-from-length i list (locatorAt s at)
 
 pair-from-length : (i : ℕ) (list : List ℕ) (x : PairRead) → length (pairRowFrom i list x) ≡ length list
-unfolding pairRowFrom pairNumbered
+unfolding pairRowFrom
 pair-from-length i list (PairRead.Bad place) = refl
-pair-from-length i list (PairRead.Got o tag size bad long) = simp length-set
+pair-from-length i list (PairRead.Got o tag size bad long) = length-sets list (12 * i) (pairCells o tag)
 
 pub pair-length : (s : List ℕ) (at i : ℕ) (list : List ℕ) → length (pairRow s at i list) ≡ length list
 unfolding pairRow
 pair-length s at i list = pair-from-length i list (pairAt s at)
+
+-- ---- numbers put from `at` on: what is left of them, put from here on, gives the whole
+pub record Putting (list₀ : List ℕ) (at : ℕ) (ns : List ℕ) (i : ℕ) (list : List ℕ) : Type 0 where
+  pub within : i ≤ length ns
+  pub same-length : length list ≡ length list₀
+  pub same : sets list (at + i) (drop i ns) ≡ sets list₀ at ns
+
+pub put-begun : (list : List ℕ) (at : ℕ) (ns : List ℕ) → Putting list at ns 0 list
+put-begun list at ns = let e : at + 0 ≡ at = omega arith in record { within = omega arith; same-length = refl; same = rw e }
+
+module _ (list₀ : List ℕ) (at : ℕ) (ns : List ℕ) (i : ℕ) (list : List ℕ) (p : Putting list₀ at ns i list) where
+  pub put-done : length ns ≤ i → list ≡ sets list₀ at ns
+  put-done h = rw (drop-past ns i h) at (p .same)
+
+  pub put-turn : i < length ns → Putting list₀ at ns (i + 1) (set list (at + i) (getD ns i 0))
+  put-turn h =
+      let e : at + (i + 1) ≡ suc (at + i) = omega arith in
+      let n : i + 1 ≡ suc i = omega arith in
+      record { within = omega arith; same-length = length-set list (at + i) (getD ns i 0) ∙ p .same-length; same = rw (e, n) (rw (drop-cons ns i 0 h) at (p .same)) }

@@ -1,9 +1,12 @@
 -- The list of a message that was read: its locators or pairs as rows of numbers, as the writer takes them.
 use Prim.Native.Nat.{ℕ, zero, suc, _+_, _*_, _/_}
 use mathlib.Core.List.{List}
-use lib.ListN.{length, getD, set}
+use lib.ListN.{length, set}
+use lib.Seq.{sets}
 use lib.Dec.{ltb}
 use Rattle.base.specs.Pick.{pick}
+use Rattle.options.specs.declared.objective.Objective.{Objective}
+use Rattle.options.specs.declared.pair.Tag.{Tag}
 use Rattle.options.specs.declared.locator.LocatorRead.{LocatorRead}
 use Rattle.options.specs.declared.pair.PairRead.{PairRead}
 use Rattle.options.specs.Locator.{locatorAt, locatorNumbers}
@@ -20,17 +23,13 @@ rowsFrom next row zero i at list = list
 rowsFrom next row (suc n) i at list = rowsFrom next row n (i + 1) (next at) (row at i list)
 
 -- ---- locators: 5 numbers a row
-unfoldable pub locatorNumbered : ℕ → List ℕ → List ℕ → List ℕ
-locatorNumbered i ns list =
-    set (set (set (set (set list (5 * i) (getD ns 0 0)) (5 * i + 1) (getD ns 1 0)) (5 * i + 2) (getD ns 2 0)) (5 * i + 3) (getD ns 3 0)) (5 * i + 4) (getD ns 4 0)
-
 unfoldable pub locatorNextFrom : ℕ → LocatorRead → ℕ
 locatorNextFrom at (LocatorRead.Bad place) = at
 locatorNextFrom at (LocatorRead.Got l size bad) = at + size
 
 unfoldable pub locatorRowFrom : ℕ → List ℕ → LocatorRead → List ℕ
 locatorRowFrom i list (LocatorRead.Bad place) = list
-locatorRowFrom i list (LocatorRead.Got l size bad) = locatorNumbered i (locatorNumbers l) list
+locatorRowFrom i list (LocatorRead.Got l size bad) = sets list (5 * i) (locatorNumbers l)
 
 -- the place after the one at `at`, and the list with its numbers in row i
 unfoldable pub locatorNext : List ℕ → ℕ → ℕ
@@ -47,9 +46,9 @@ unfoldable pub locatorsFilled : List ℕ → Series → List ℕ → List ℕ
 locatorsFilled s series list = pick (ltb (length list / 5) (series .many)) list (rowsFrom (locatorNext s) (locatorRow s) (series .many) 0 (series .at) list)
 
 -- ---- pairs: 12 numbers a row
-unfoldable pub pairNumbered : ℕ → List ℕ → List ℕ → List ℕ
-pairNumbered i ns list =
-    set (set (set (set (set (set (set (set (set (set (set (set list (12 * i) (getD ns 0 0)) (12 * i + 1) (getD ns 1 0)) (12 * i + 2) (getD ns 2 0)) (12 * i + 3) (getD ns 3 0)) (12 * i + 4) (0)) (12 * i + 5) (getD ns 5 0)) (12 * i + 6) (getD ns 6 0)) (12 * i + 7) (getD ns 7 0)) (12 * i + 8) (getD ns 8 0)) (12 * i + 9) (getD ns 9 0)) (12 * i + 10) (getD ns 10 0)) (12 * i + 11) (getD ns 11 0)
+-- the place of the count's head is 0 in a row
+unfoldable pub pairCells : Objective → Tag → List ℕ
+pairCells o tag = set (pairNumbers o tag) 4 0
 
 unfoldable pub pairNextFrom : ℕ → PairRead → ℕ
 pairNextFrom at (PairRead.Bad place) = at
@@ -57,7 +56,7 @@ pairNextFrom at (PairRead.Got o tag size bad long) = at + size
 
 unfoldable pub pairRowFrom : ℕ → List ℕ → PairRead → List ℕ
 pairRowFrom i list (PairRead.Bad place) = list
-pairRowFrom i list (PairRead.Got o tag size bad long) = pairNumbered i (pairNumbers o tag) list
+pairRowFrom i list (PairRead.Got o tag size bad long) = sets list (12 * i) (pairCells o tag)
 
 -- the place after the one at `at`, and the list with its numbers in row i
 unfoldable pub pairNext : List ℕ → ℕ → ℕ

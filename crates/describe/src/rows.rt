@@ -2,6 +2,7 @@
 ghost use mathlib.Core.Path.{_≡_};
 ghost use Prim.Native.Nat.{_+_, _*_, _≤_};
 ghost use lib.ListN.{length};
+ghost use lib.Seq.{sets};
 ghost use Rattle.describe.specs.Rows.{rowsIn, locatorNext, locatorRow, locatorsEnd, locatorsFilled, pairNext, pairRow, pairsEnd, pairsFilled, rowsEnd, rowsFilled};
 use message::Message;
 use message::Series;
@@ -85,11 +86,7 @@ fn fill_locator(s: &[u8], at: usize, i: usize, list: &mut [u64]) -> usize
             bad: _,
         } => {
             let n = locator::numbers_of(locator);
-            list[5 * i] = n[0];
-            list[5 * i + 1] = n[1];
-            list[5 * i + 2] = n[2];
-            list[5 * i + 3] = n[3];
-            list[5 * i + 4] = n[4];
+            put_numbers(list, 5 * i, &n);
             at + size
         }
     }
@@ -128,20 +125,22 @@ fn fill_pair(s: &[u8], at: usize, i: usize, list: &mut [u64]) -> usize
             bad: _,
             long: _,
         } => {
-            let n = pair::numbers_of(objective, tag);
-            list[12 * i] = n[0];
-            list[12 * i + 1] = n[1];
-            list[12 * i + 2] = n[2];
-            list[12 * i + 3] = n[3];
-            list[12 * i + 4] = 0;
-            list[12 * i + 5] = n[5];
-            list[12 * i + 6] = n[6];
-            list[12 * i + 7] = n[7];
-            list[12 * i + 8] = n[8];
-            list[12 * i + 9] = n[9];
-            list[12 * i + 10] = n[10];
-            list[12 * i + 11] = n[11];
+            let mut n = pair::numbers_of(objective, tag);
+            n[4] = 0;
+            put_numbers(list, 12 * i, &n);
             at + size
         }
+    }
+}
+
+// Numbers in the list from place `at` on.
+fn put_numbers(list: &mut [u64], at: usize, numbers: &[u64])
+    requires { ⌜ at + length (now numbers) ≤ length (now list) ⌝ }
+    ensures { λ _. ⌜ now (list .exit) ≡ sets (now (list .entry)) at (now (numbers .entry)) ⌝ }
+{
+    let mut i: usize = 0;
+    while i < numbers.len() {
+        list[at + i] = numbers[i];
+        i += 1;
     }
 }

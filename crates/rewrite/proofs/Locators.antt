@@ -10,7 +10,7 @@ use native.Mathlib.Decide.{decLt}
 use native.Mathlib.Nat.{add-assoc}
 use native.Mathlib.Omega.{arith}
 use lib.Dec.{eqb, lit≤}
-use lib.ListN.{length, take, drop, set, length-take, length-drop}
+use lib.ListN.{length, take, drop, length-take, length-drop}
 use lib.Seq.{sets, getD-append-add}
 use Rattle.base.specs.Pick.{pick}
 use Rattle.base.specs.BigEndian.{Bytes}
@@ -31,7 +31,7 @@ use Rattle.grammar.proofs.Locators.{locator-read}
 use Rattle.description.specs.declared.rows.Place.{Place}
 use Rattle.description.specs.Grasp as W
 use Rattle.description.specs.Describe.{placeRow, cut, orNull, locOf, placeAt}
-use Rattle.describe.specs.Rows.{locatorNumbered, locatorNextFrom, locatorRowFrom, locatorNext, locatorRow}
+use Rattle.describe.specs.Rows.{locatorNextFrom, locatorRowFrom, locatorNext, locatorRow}
 use Rattle.roundtrip.specs.Plain.{plainMaybe, plainNumber, plainLoc}
 use Rattle.roundtrip.specs.Says.{Inside, PlaceSays}
 use Rattle.rewrite.proofs.Filled.{Tells, Chain}
@@ -67,24 +67,7 @@ text-ok m base s h =
     ok = TextOk m
 
 -- ---- a row
--- five numbers stored one after the other
-five-sets : (l : List ℕ) (k a b c d e : ℕ) → set (set (set (set (set l k a) (k + 1) b) (k + 2) c) (k + 3) d) (k + 4) e ≡ sets l k (a ∷ b ∷ c ∷ d ∷ e ∷ [])
-five-sets l k a b c d e =
-    let e₁ : k + 1 ≡ suc k = omega arith in
-    let e₂ : k + 2 ≡ suc (suc k) = omega arith in
-    let e₃ : k + 3 ≡ suc (suc (suc k)) = omega arith in
-    let e₄ : k + 4 ≡ suc (suc (suc (suc k))) = omega arith in
-    rw (e₁, e₂, e₃, e₄)
-
--- a locator's
-locator-sets : (i : ℕ) (list : List ℕ) (l : Locator) → locatorNumbered i (locatorNumbers l) list ≡ sets list (placeRow * i) (locatorNumbers l)
-unfolding locatorNumbered locatorNumbers
-locator-sets i list (L.V6 at protocol port) = five-sets list (5 * i) 103 at 16 protocol port
-locator-sets i list (L.V4 at protocol port) = five-sets list (5 * i) 104 at 4 protocol port
-locator-sets i list (L.Domain name protocol port) = five-sets list (5 * i) 105 (name .at) (name .len) protocol port
-locator-sets i list (L.Uri uri protocol port) = five-sets list (5 * i) 106 (uri .at) (uri .len) protocol port
-
--- has so many numbers
+-- a locator's numbers are so many
 locator-five : (l : Locator) → length (locatorNumbers l) ≡ placeRow
 unfolding locatorNumbers
 locator-five (L.V6 at protocol port) = refl
@@ -145,7 +128,7 @@ module _ (s : List ℕ) (by : Bytes s) where
   locator-row : (p : ℕ) {l : Locator} {size bad : ℕ} (i : ℕ) (list : List ℕ) → locatorAt s p ≡ LocatorRead.Got l size bad
       → locatorRow s p i list ≡ sets list (placeRow * i) (locatorNumbers l)
   unfolding locatorRow locatorRowFrom
-  locator-row p {l} i list e = ap (locatorRowFrom i list) e ∙ locator-sets i list l
+  locator-row p i list e = ap (locatorRowFrom i list) e
 
   -- and what comes after it
   locator-next : {p e : ℕ} {l : Locator} {bad : ℕ} → p < e → locatorAt s p ≡ LocatorRead.Got l (e - p) bad → locatorNext s p ≡ e

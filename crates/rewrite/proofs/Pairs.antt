@@ -8,13 +8,13 @@ use Prim.Native.Nat.{ℕ, suc, _+_, _*_, _-_, _≤_, _<_}
 use native.Mathlib.Nat.{add-assoc}
 use native.Mathlib.Omega.{arith}
 use borrow.Author.Tests.{ne-eqb}
-use lib.ListN.{length, drop, getD, set, length-drop}
+use lib.ListN.{length, drop, getD, length-drop}
 use lib.Seq.{sets, getD-append-add}
 use Rattle.base.specs.Pick.{pick}
 use Rattle.base.specs.BigEndian.{Bytes}
 use Rattle.base.proofs.Picks.{both}
 use Rattle.cbor.specs.Item.{mostLevels}
-use Rattle.cbor.specs.Tree.{Item, Items, count, depth, depths}
+use Rattle.cbor.specs.Tree.{Item, Items, depth, depths}
 use Rattle.cbor.specs.Token.{tokenAt}
 use Rattle.cbor.proofs.Tokens.{token-end}
 use Rattle.options.specs.declared.locator.Locator.{Locator}
@@ -87,36 +87,9 @@ tag-five (Tag.At (L.V4 at protocol port)) = refl
 tag-five (Tag.At (L.Domain name protocol port)) = refl
 tag-five (Tag.At (L.Uri uri protocol port)) = refl
 
--- a pair's row: its objective's seven numbers, with 0 for the place of the count, and its tag's five
-unfoldable numbersOf : Objective → Tag → List ℕ
-numbersOf o tag = o .name .at ∷ o .name .len ∷ o .flags ∷ o .count ∷ 0 ∷ o .value .at ∷ o .value .len ∷ five (tagNumbers tag)
-
--- twelve numbers stored one after the other
-twelve-sets : (l : List ℕ) (k a b c d e f g h i j m n : ℕ)
-    → set (set (set (set (set (set (set (set (set (set (set (set l k a) (k + 1) b) (k + 2) c) (k + 3) d) (k + 4) e) (k + 5) f) (k + 6) g) (k + 7) h) (k + 8) i) (k + 9) j) (k + 10) m) (k + 11) n
-    ≡ sets l k (a ∷ b ∷ c ∷ d ∷ e ∷ f ∷ g ∷ h ∷ i ∷ j ∷ m ∷ n ∷ [])
-twelve-sets l k a b c d e f g h i j m n =
-    let e₁ : k + 1 ≡ suc k = omega arith in
-    let e₂ : k + 2 ≡ suc (k + 1) = omega arith in
-    let e₃ : k + 3 ≡ suc (k + 2) = omega arith in
-    let e₄ : k + 4 ≡ suc (k + 3) = omega arith in
-    let e₅ : k + 5 ≡ suc (k + 4) = omega arith in
-    let e₆ : k + 6 ≡ suc (k + 5) = omega arith in
-    let e₇ : k + 7 ≡ suc (k + 6) = omega arith in
-    let e₈ : k + 8 ≡ suc (k + 7) = omega arith in
-    let e₉ : k + 9 ≡ suc (k + 8) = omega arith in
-    let e₁₀ : k + 10 ≡ suc (k + 9) = omega arith in
-    let e₁₁ : k + 11 ≡ suc (k + 10) = omega arith in
-    rw (e₁₁, e₁₀, e₉, e₈, e₇, e₆, e₅, e₄, e₃, e₂, e₁)
-
--- those of a row
-pair-sets : (i : ℕ) (list : List ℕ) (o : Objective) (tag : Tag) → R.pairNumbered i (pairNumbers o tag) list ≡ sets list (pairRow * i) (numbersOf o tag)
-unfolding R.pairNumbered pairNumbers numbersOf
-pair-sets i list o tag = twelve-sets list (12 * i) _ _ _ _ _ _ _ _ _ _ _ _
-
--- it has so many numbers
-pair-twelve : (o : Objective) (tag : Tag) → length (numbersOf o tag) ≡ pairRow
-unfolding numbersOf
+-- a pair's row has so many numbers
+pair-twelve : (o : Objective) (tag : Tag) → length (R.pairCells o tag) ≡ pairRow
+unfolding R.pairCells pairNumbers
 pair-twelve o tag = refl
 
 -- what a row is: the number that is kept, the objective and the place
@@ -189,9 +162,9 @@ module _ (s : List ℕ) (by : Bytes s) where
 
   -- one row
   pair-row : (p : ℕ) {o : Objective} {tag : Tag} {size bad long : ℕ} (i : ℕ) (list : List ℕ) → pairAt s p ≡ PairRead.Got o tag size bad long
-      → R.pairRow s p i list ≡ sets list (pairRow * i) (numbersOf o tag)
+      → R.pairRow s p i list ≡ sets list (pairRow * i) (R.pairCells o tag)
   unfolding R.pairRow R.pairRowFrom
-  pair-row p {o} {tag} i list e = ap (R.pairRowFrom i list) e ∙ pair-sets i list o tag
+  pair-row p i list e = ap (R.pairRowFrom i list) e
 
   -- and what comes after it
   pair-next : {p e : ℕ} {o : Objective} {tag : Tag} {bad long : ℕ} → p < e → pairAt s p ≡ PairRead.Got o tag (e - p) bad long → R.pairNext s p ≡ e
@@ -200,8 +173,8 @@ module _ (s : List ℕ) (by : Bytes s) where
 
   -- what the numbers tell
   pair-tells : {obj : Obj} {loc : Option Loc} (o : Objective) (tag : Tag) → Goals s o obj → ((rest : List ℕ) → TagIs s (placeAt (tagNumbers tag ++ rest) 0) loc) → (rest : List ℕ)
-      → Tells rowOf (pairOf s) plainPair (InOrder s) (numbersOf o tag ++ rest) (obj, loc)
-  unfolding numbersOf rowAt entryAt placeAt entryOf goalOf plainPair
+      → Tells rowOf (pairOf s) plainPair (InOrder s) (R.pairCells o tag ++ rest) (obj, loc)
+  unfolding R.pairCells pairNumbers rowAt entryAt placeAt entryOf goalOf plainPair
   pair-tells {loc = loc} o tag goal told rest =
       let tag-is = subst (λ (ns : List ℕ). TagIs s (placeAt (ns ++ rest) 0) loc) (sym (tag-five tag)) (told rest) in
       (ap₂ (λ (x : W.Obj) (y : W.Maybe W.Loc). pair-of x y) (goal .is) (tag-is .is), record { kept = refl; objective = goal .says; locator = tag-is .says })
@@ -218,7 +191,7 @@ module _ (s : List ℕ) (by : Bytes s) where
       let (o, tag, bad, long, read, at, mid, opened, objective, described, _, _) = pair-read (c .first) (omega (arith, d)) i by in
       let text : TagIn s tag = subst (TagOk s) read (tag-ok s p (drop p s) (omega (arith, length-drop p s, c .first .within, advances (c .first)))) in
       let (rows, more) = pairs-rows (omega (arith, d)) (c .rest) is in (
-        numbersOf o tag ∷ rows,
+        R.pairCells o tag ∷ rows,
         Chain.step (pair-twelve o tag) (λ i list. pair-row p i list read) (pair-tells o tag (objective-goals objective) (tag-tells tag text i described))
             (subst (λ (k : ℕ). Pairs k rows ps) (sym (pair-next (advances (c .first)) read)) more),
       )

@@ -1,0 +1,79 @@
+-- `describe::rows::put_numbers` meets its contract. The loop's invariant: what is left of the numbers, put from here on, gives the whole.
+-- Assumes nothing.
+use Prim.Native.Nat.{_-_}
+use native.Mathlib.Omega.{arith}
+use borrow.Author.Needs.{needs}
+use lib.ListN.{length}
+use Rattle.describe.proofs.Turns.{Putting, put-begun, put-done, put-turn}
+use Rattle.describe.proofs.rows.put_numbers.Statement.{statement}
+use Rattle.describe.proofs.rows.put_numbers.Tie as tie
+use Rattle.describe.proofs.rows.put_numbers.Reads as reads
+use Rattle.describe.proofs.rows.put_numbers.Lts as lts
+
+abbrev Inv-loop : tie.InvT-loop
+Inv-loop list₀ at numbers i₀ list i = Putting list₀ at numbers i list
+
+abbrev μ-loop : tie.MeasureT-loop
+μ-loop list₀ at numbers i₀ list i = length numbers - i
+
+-- src/rows.rt:142:5
+loop-holds : tie.Need-loop-holds Inv-loop μ-loop
+loop-holds c = put-begun _ _ _
+
+-- src/rows.rt:143:24
+mul-list : tie.Need-mul-list Inv-loop μ-loop
+mul-list c = search needs
+
+-- src/rows.rt:143:24
+shared-slice-read-list : tie.Need-shared-slice-read-list Inv-loop μ-loop
+shared-slice-read-list c = omega arith
+
+-- src/rows.rt:143:14
+add-list : tie.Need-add-list Inv-loop μ-loop
+add-list c = search needs
+
+-- src/rows.rt:143:9
+mul-list-2 : tie.Need-mul-list-2 Inv-loop μ-loop
+mul-list-2 c = search needs
+
+-- src/rows.rt:143:9
+slice-write-list : tie.Need-slice-write-list Inv-loop μ-loop
+slice-write-list c = omega (arith, c .before .before .loop .inv .same-length)
+
+-- src/rows.rt:144:9
+add-i : tie.Need-add-i Inv-loop μ-loop
+add-i c = search needs
+
+-- src/rows.rt:142:5
+loop-less : tie.Need-loop-less Inv-loop μ-loop
+loop-less c = omega arith
+
+-- src/rows.rt:142:5
+loop-again : tie.Need-loop-again Inv-loop μ-loop
+loop-again c = put-turn _ _ _ _ _ (c .before .before .loop .inv) (omega arith)
+
+-- src/rows.rt:137:1
+same-length : tie.Need-same-length Inv-loop μ-loop
+same-length c = c .before .loop .inv .same-length
+
+-- src/rows.rt:137:1
+returns : tie.Need-returns Inv-loop μ-loop
+returns c = put-done _ _ _ _ _ (c .before .loop .inv) (omega arith)
+
+pub put-numbers-spec : {M : Type 1} → statement M
+put-numbers-spec =
+    tie.close
+    (tie.spec
+    Inv-loop
+    μ-loop
+    loop-holds
+    mul-list
+    shared-slice-read-list
+    add-list
+    mul-list-2
+    slice-write-list
+    add-i
+    loop-less
+    loop-again
+    same-length
+    returns)
