@@ -11,10 +11,10 @@ use Rattle.base.specs.Pick.{pick}
 use Rattle.message.specs.Read.{mostBytes}
 use Rattle.description.specs.declared.Description.{Description}
 use Rattle.writer.specs.declared.Written.{Written}
-use Rattle.writer.specs.Put.{Wrote}
+use Rattle.encode.specs.Put.{Wrote}
 use Rattle.description.specs.Judge.{okDescribed}
 use Rattle.writer.specs.Write.{accepts, handAnswer, handOut, passes, passAnswer, passOut, draftOf, writeAnswer, writeOut}
-use Rattle.writer.proofs.Puts.{finished, drafted, long}
+use Rattle.encode.proofs.Puts.{finished, drafted, long}
 
 -- ---- bytes handed over
 module _ (bs out : List ℕ) where

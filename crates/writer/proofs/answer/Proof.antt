@@ -10,40 +10,28 @@ use Rattle.writer.proofs.Verdicts.{pass-long, passed}
 use borrow.Author.Needs.{needs}
 use Rattle.writer.proofs.answer.Statement.{statement}
 use Rattle.writer.proofs.answer.Tie as tie
-use Rattle.writer.proofs.answer.Reads as reads
-use Rattle.writer.proofs.answer.Lts as lts
-use Rattle.writer.proofs.put.hand.Reads as hand-reads
-use Rattle.writer.proofs.put_answer.Reads as put-answer-reads
 
--- src/lib.rt:81:26
 slice-aggregate-put-answer : tie.Need-slice-aggregate-put-answer
 slice-aggregate-put-answer c = search needs
 
--- src/lib.rt:81:9
 put-answer-requires : tie.Need-put-answer-requires
 put-answer-requires c κs = search needs
 
--- src/lib.rt:83:9
 returns : tie.Need-returns
 returns c = pass-long (c .before .before .put-answer .ensures) (length-replicate {A = ℕ} 2048 0) _ _ (c .if1 .taken)
 
--- src/lib.rt:85:15
 array-share-prefix-draft : tie.Need-array-share-prefix-draft
 array-share-prefix-draft c = search needs
 
--- src/lib.rt:85:15
 slice-aggregate-hand : tie.Need-slice-aggregate-hand
 slice-aggregate-hand c = sym (length-take-le _ _ (omega (arith, (c .before .before .draft2 .given))))
 
--- src/lib.rt:85:5
 hand-requires : tie.Need-hand-requires
 hand-requires c κs = search needs
 
--- src/lib.rt:69:1
 same-length : tie.Need-same-length
 same-length c = search needs
 
--- src/lib.rt:69:1
 returns-2 : tie.Need-returns-2
 returns-2 c = passed (c .before .before .before .before .before .before .before .put-answer .ensures) (length-replicate {A = ℕ} 2048 0) (c .before .before .before .before .before .if1 .left) _ _ refl (c .before .before .hand .ensures .0) (c .before .before .hand .ensures .1)
 

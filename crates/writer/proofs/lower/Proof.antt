@@ -13,56 +13,41 @@ use Rattle.writer.proofs.Verdicts.{pass-long, passed}
 use borrow.Author.Needs.{needs}
 use Rattle.writer.proofs.lower.Statement.{statement}
 use Rattle.writer.proofs.lower.Tie as tie
-use Rattle.writer.proofs.lower.Reads as reads
-use Rattle.writer.proofs.lower.Lts as lts
-use Rattle.writer.proofs.put.hand.Reads as hand-reads
-use Rattle.writer.proofs.put_lowered.Reads as put-lowered-reads
 
--- src/lib.rt:52:9
 returns : tie.Need-returns
 unfolding lowerAnswer lowerOut okLower pick
 returns c = rw (eq-eqb _ _ (c .if1 .taken)) (refl, refl)
 
--- src/lib.rt:55:9
 returns-2 : tie.Need-returns-2
 unfolding lowerAnswer lowerOut okLower pick
 returns-2 c = rw (ne-eqb _ _ (c .before .if1 .left), lt-ltb _ _ (c .if2 .taken)) (refl, refl)
 
--- src/lib.rt:58:9
 returns-3 : tie.Need-returns-3
 unfolding lowerAnswer lowerOut okLower pick
 returns-3 c = rw (ne-eqb _ _ (c .before .before .if1 .left), le-ltb _ _ (c .before .if2 .left), lt-ltb _ _ (c .if3 .taken)) (refl, refl)
 
--- src/lib.rt:61:27
 slice-aggregate-put-lowered : tie.Need-slice-aggregate-put-lowered
 slice-aggregate-put-lowered c = search needs
 
--- src/lib.rt:61:9
 put-lowered-requires : tie.Need-put-lowered-requires
 put-lowered-requires c κs = search needs
 
--- src/lib.rt:63:9
 returns-4 : tie.Need-returns-4
 unfolding lowerAnswer lowerOut okLower pick
 returns-4 c = rw (ne-eqb _ _ (c .before .before .before .before .before .before .if1 .left), le-ltb _ _ (c .before .before .before .before .before .if2 .left), le-ltb _ _ (c .before .before .before .before .if3 .left)) (pass-long (c .before .before .put-lowered .ensures) (length-replicate {A = ℕ} 2048 0) _ _ (c .if4 .taken))
 
--- src/lib.rt:65:15
 array-share-prefix-draft : tie.Need-array-share-prefix-draft
 array-share-prefix-draft c = search needs
 
--- src/lib.rt:65:15
 slice-aggregate-hand : tie.Need-slice-aggregate-hand
 slice-aggregate-hand c = sym (length-take-le _ _ (omega (arith, (c .before .before .draft2 .given))))
 
--- src/lib.rt:65:5
 hand-requires : tie.Need-hand-requires
 hand-requires c κs = search needs
 
--- src/lib.rt:47:1
 same-length : tie.Need-same-length
 same-length c = search needs
 
--- src/lib.rt:47:1
 returns-5 : tie.Need-returns-5
 unfolding lowerAnswer lowerOut okLower pick
 returns-5 c = rw (ne-eqb _ _ (c .before .before .before .before .before .before .before .before .before .before .before .if1 .left), le-ltb _ _ (c .before .before .before .before .before .before .before .before .before .before .if2 .left), le-ltb _ _ (c .before .before .before .before .before .before .before .before .before .if3 .left)) (passed (c .before .before .before .before .before .before .before .put-lowered .ensures) (length-replicate {A = ℕ} 2048 0) (c .before .before .before .before .before .if4 .left) _ _ refl (c .before .before .hand .ensures .0) (c .before .before .hand .ensures .1))
