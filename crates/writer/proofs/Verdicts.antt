@@ -58,6 +58,20 @@ pass-long {l} {l′} {bs} {r} w g test out h =
     let k′ : mostBytes < length bs = omega (arith, long w k) in
     rw (lt-ltb mostBytes (length bs) k′) (refl, refl)
 
+-- ---- bytes whose number is known before they are put
+module _ (bs out : List ℕ) (n : ℕ) (e : n ≡ length bs) where
+  pub pass-over : mostBytes < n → (Written.Refused 18 ≡ passAnswer true bs out) × (out ≡ passOut true bs out)
+  unfolding passAnswer passOut passes pick
+  pass-over h = let k : mostBytes < length bs = omega arith in rw (lt-ltb mostBytes (length bs) k) (refl, refl)
+
+  pub pass-short : n ≤ mostBytes → length out < n → (Written.Refused 19 ≡ passAnswer true bs out) × (out ≡ passOut true bs out)
+  unfolding passAnswer passOut passes pick
+  pass-short h g = let k : length bs ≤ mostBytes = omega arith in rw (le-ltb mostBytes (length bs) k) (hand-short bs out (omega arith))
+
+  pub pass-put : {out′ : List ℕ} {r : ℕ} → n ≤ mostBytes → n ≤ length out → Wrote out out′ 0 bs r → (Written.Length n ≡ passAnswer true bs out) × (out′ ≡ passOut true bs out)
+  unfolding passAnswer passOut passes pick
+  pass-put h g w = let k : length bs ≤ mostBytes = omega arith in rw (le-ltb mostBytes (length bs) k, e) (handed bs out (omega arith) w)
+
 -- ---- the description by itself
 module _ (source list : List ℕ) (m : Description) (out : List ℕ) (b : Bool) (e : b ≡ okDescribed source list m) where
   pub not-described : b ≡ false → (Written.Refused 18 ≡ writeAnswer source list m out) × (out ≡ writeOut source list m out)

@@ -52,12 +52,16 @@ pub fn lower(message: &[u8], at: usize, end: usize, count: u8, out: &mut [u8]) -
     if message.len() < end {
         return Written::Refused(18);
     }
-    let mut draft = [0u8; MOST_BYTES];
-    let len = put_lowered(&mut draft, message, at, end, count);
+    let kept = at + (message.len() - end);
+    let len = kept + cbor::put::head_len((count - 1) as u64);
     if MOST_BYTES < len {
         return Written::Refused(18);
     }
-    hand(&draft[..len], out)
+    if out.len() < len {
+        return Written::Refused(19);
+    }
+    put_lowered(out, message, at, end, count);
+    Written::Length(len)
 }
 
 // A Response with one locator of kind 103 and protocol 6, as a node answers.
@@ -72,12 +76,15 @@ pub fn answer(
     ensures { λ r. ⌜ r ≡ passAnswer true (answerOf session (now (initiator .entry)) ttl (now (address .entry)) port) (now (out .entry)) ⌝ }
     ensures { λ r. ⌜ now (out .exit) ≡ passOut true (answerOf session (now (initiator .entry)) ttl (now (address .entry)) port) (now (out .entry)) ⌝ }
 {
-    let mut draft = [0u8; MOST_BYTES];
-    let len = put_answer(&mut draft, session, initiator, ttl, &address[..], port);
+    let len = answer_len(session, initiator, ttl, address, port);
     if MOST_BYTES < len {
         return Written::Refused(18);
     }
-    hand(&draft[..len], out)
+    if out.len() < len {
+        return Written::Refused(19);
+    }
+    put_answer(out, session, initiator, ttl, &address[..], port);
+    Written::Length(len)
 }
 
 // Whether the reader accepts these bytes.
@@ -112,6 +119,18 @@ fn put_lowered(out: &mut [u8], message: &[u8], at: usize, end: usize, count: u8)
     put::all(out, b, &message[end..])
 }
 
+// How many bytes an answer has: six heads of one or two bytes that are always the same, and what differs.
+fn answer_len(session: u32, initiator: &[u8], ttl: u32, address: &[u8; 16], port: u16) -> usize
+    ensures { λ r. ⌜ r ≡ length (answerOf session (now (initiator .entry)) ttl (now (address .entry)) port) ⌝ }
+{
+    let a = cbor::put::head_len(session as u64);
+    let b = string_len(initiator);
+    let c = cbor::put::head_len(ttl as u64);
+    let d = string_len(&address[..]);
+    let e = cbor::put::head_len(port as u64);
+    6 + a + c + d + e + b
+}
+
 fn put_answer(
     out: &mut [u8],
     session: u32,
@@ -138,6 +157,14 @@ fn put_home(out: &mut [u8], at: usize, address: &[u8], port: u16) -> usize
     let c = put_string(out, b, address);
     let d = cbor::put::head(out, c, 0, 6);
     cbor::put::head(out, d, 0, port as u64)
+}
+
+// How many bytes a byte string with the bytes of s has.
+fn string_len(s: &[u8]) -> usize
+    ensures { λ r. ⌜ r ≡ length (string 2 (now (s .entry))) ⌝ }
+{
+    let head = cbor::put::head_len(s.len() as u64);
+    head + s.len()
 }
 
 // A byte string with the bytes of s.
