@@ -11,10 +11,10 @@ use Rattle.base.specs.Pick.{pick}
 use Rattle.message.specs.Read.{mostBytes}
 use Rattle.description.specs.declared.Description.{Description}
 use Rattle.writer.specs.declared.Written.{Written}
-use Rattle.writer.specs.Put.{Wrote}
+use Rattle.encode.specs.Put.{Wrote}
 use Rattle.description.specs.Judge.{okDescribed}
 use Rattle.writer.specs.Write.{accepts, handAnswer, handOut, passes, passAnswer, passOut, draftOf, writeAnswer, writeOut}
-use Rattle.writer.proofs.Puts.{finished, drafted, long}
+use Rattle.encode.proofs.Puts.{finished, drafted, long}
 
 -- ---- bytes handed over
 module _ (bs out : List ℕ) where
@@ -57,6 +57,20 @@ pass-long {l} {l′} {bs} {r} w g test out h =
     let k : length l < r = omega arith in
     let k′ : mostBytes < length bs = omega (arith, long w k) in
     rw (lt-ltb mostBytes (length bs) k′) (refl, refl)
+
+-- ---- bytes whose number is known before they are put
+module _ (bs out : List ℕ) (n : ℕ) (e : n ≡ length bs) where
+  pub pass-over : mostBytes < n → (Written.Refused 18 ≡ passAnswer true bs out) × (out ≡ passOut true bs out)
+  unfolding passAnswer passOut passes pick
+  pass-over h = let k : mostBytes < length bs = omega arith in rw (lt-ltb mostBytes (length bs) k) (refl, refl)
+
+  pub pass-short : n ≤ mostBytes → length out < n → (Written.Refused 19 ≡ passAnswer true bs out) × (out ≡ passOut true bs out)
+  unfolding passAnswer passOut passes pick
+  pass-short h g = let k : length bs ≤ mostBytes = omega arith in rw (le-ltb mostBytes (length bs) k) (hand-short bs out (omega arith))
+
+  pub pass-put : {out′ : List ℕ} {r : ℕ} → n ≤ mostBytes → n ≤ length out → Wrote out out′ 0 bs r → (Written.Length n ≡ passAnswer true bs out) × (out′ ≡ passOut true bs out)
+  unfolding passAnswer passOut passes pick
+  pass-put h g w = let k : length bs ≤ mostBytes = omega arith in rw (le-ltb mostBytes (length bs) k, e) (handed bs out (omega arith) w)
 
 -- ---- the description by itself
 module _ (source list : List ℕ) (m : Description) (out : List ℕ) (b : Bool) (e : b ≡ okDescribed source list m) where

@@ -1,3 +1,2 @@
--- `Put`: bytes put into a buffer. `Write`: what the writer answers.
-pub mod Put
+-- `Write`: what the writer answers.
 pub mod Write

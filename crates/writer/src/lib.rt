@@ -1,22 +1,17 @@
 // GRASP messages written (RFC 8990), every head in its shortest form: from a description, from a message that is relayed, and a node's answer.
 // What is written goes to the front of the output and the bytes after it stay; on a refusal all of the output stays.
 ghost use mathlib.Core.Path.{_≡_};
-ghost use Rattle.writer.specs.Put.{Wrote};
-ghost use Rattle.description.specs.Grasp.{fixed};
+ghost use Rattle.encode.specs.Put.{Wrote};
+ghost use Rattle.description.specs.Grasp.{string, fixed};
 ghost use mathlib.Core.Bool.{true};
 ghost use Prim.Native.Nat.{_<_, _≤_};
 ghost use lib.ListN.{length};
-ghost use Rattle.writer.specs.Write.{accepts, writeAnswer, writeOut, lowered, lowerAnswer, lowerOut, answerOf, passAnswer, passOut};
+ghost use Rattle.writer.specs.Write.{accepts, writeAnswer, writeOut, lowered, lowerAnswer, lowerOut, answerOf, handAnswer, handOut, passAnswer, passOut};
 use description::Description;
 use description::judge;
+use encode::put;
 use message::MOST_BYTES;
 use message::Reading;
-
-mod kinds;
-mod locator;
-mod objective;
-mod pair;
-mod put;
 
 // How many bytes were written, or the number of the refusal.
 pub enum Written {
@@ -33,14 +28,14 @@ pub fn write(source: &[u8], list: &[u64], m: Description, out: &mut [u8]) -> Wri
         return Written::Refused(18);
     }
     let mut draft = [0u8; MOST_BYTES];
-    let len = kinds::put_message(&mut draft, source, list, m);
+    let len = encode::message(&mut draft, source, list, m);
     if MOST_BYTES < len {
         return Written::Refused(18);
     }
     if !accepts(&draft[..len]) {
         return Written::Refused(18);
     }
-    put::hand(&draft[..len], out)
+    hand(&draft[..len], out)
 }
 
 // The message with its bytes from `at` to `end`, the head of its loop count, replaced by the shortest head of one less.
@@ -57,12 +52,16 @@ pub fn lower(message: &[u8], at: usize, end: usize, count: u8, out: &mut [u8]) -
     if message.len() < end {
         return Written::Refused(18);
     }
-    let mut draft = [0u8; MOST_BYTES];
-    let len = put_lowered(&mut draft, message, at, end, count);
+    let kept = at + (message.len() - end);
+    let len = kept + cbor::put::head_len((count - 1) as u64);
     if MOST_BYTES < len {
         return Written::Refused(18);
     }
-    put::hand(&draft[..len], out)
+    if out.len() < len {
+        return Written::Refused(19);
+    }
+    put_lowered(out, message, at, end, count);
+    Written::Length(len)
 }
 
 // A Response with one locator of kind 103 and protocol 6, as a node answers.
@@ -77,12 +76,15 @@ pub fn answer(
     ensures { λ r. ⌜ r ≡ passAnswer true (answerOf session (now (initiator .entry)) ttl (now (address .entry)) port) (now (out .entry)) ⌝ }
     ensures { λ r. ⌜ now (out .exit) ≡ passOut true (answerOf session (now (initiator .entry)) ttl (now (address .entry)) port) (now (out .entry)) ⌝ }
 {
-    let mut draft = [0u8; MOST_BYTES];
-    let len = put_answer(&mut draft, session, initiator, ttl, &address[..], port);
+    let len = answer_len(session, initiator, ttl, address, port);
     if MOST_BYTES < len {
         return Written::Refused(18);
     }
-    put::hand(&draft[..len], out)
+    if out.len() < len {
+        return Written::Refused(19);
+    }
+    put_answer(out, session, initiator, ttl, &address[..], port);
+    Written::Length(len)
 }
 
 // Whether the reader accepts these bytes.
@@ -96,13 +98,37 @@ fn accepts(s: &[u8]) -> bool
     }
 }
 
+// Bytes handed over to the front of the output; 19 where that is shorter.
+fn hand(bs: &[u8], out: &mut [u8]) -> Written
+    ensures { λ r. ⌜ r ≡ handAnswer (now (bs .entry)) (now (out .entry)) ⌝ }
+    ensures { λ r. ⌜ now (out .exit) ≡ handOut (now (bs .entry)) (now (out .entry)) ⌝ }
+{
+    if out.len() < bs.len() {
+        return Written::Refused(19);
+    }
+    put::all(out, 0, bs);
+    Written::Length(bs.len())
+}
+
 fn put_lowered(out: &mut [u8], message: &[u8], at: usize, end: usize, count: u8) -> usize
     requires { ⌜ (0 < count) × (at ≤ end) × (end ≤ length (now message)) ⌝ }
     ensures { λ r. ⌜ Wrote (now (out .entry)) (now (out .exit)) 0 (lowered (now (message .entry)) at end count) r ⌝ }
 {
     let a = put::all(out, 0, &message[..at]);
-    let b = put::head(out, a, 0, (count - 1) as u64);
+    let b = cbor::put::head(out, a, 0, (count - 1) as u64);
     put::all(out, b, &message[end..])
+}
+
+// How many bytes an answer has: six heads of one or two bytes that are always the same, and what differs.
+fn answer_len(session: u32, initiator: &[u8], ttl: u32, address: &[u8; 16], port: u16) -> usize
+    ensures { λ r. ⌜ r ≡ length (answerOf session (now (initiator .entry)) ttl (now (address .entry)) port) ⌝ }
+{
+    let a = cbor::put::head_len(session as u64);
+    let b = string_len(initiator);
+    let c = cbor::put::head_len(ttl as u64);
+    let d = string_len(&address[..]);
+    let e = cbor::put::head_len(port as u64);
+    6 + a + c + d + e + b
 }
 
 fn put_answer(
@@ -115,18 +141,36 @@ fn put_answer(
 ) -> usize
     ensures { λ r. ⌜ Wrote (now (out .entry)) (now (out .exit)) 0 (answerOf session (now (initiator .entry)) ttl (now (address .entry)) port) r ⌝ }
 {
-    let a = kinds::put_opening(out, 5, 2, session);
-    let b = put::string(out, a, 2, initiator);
-    let c = put::head(out, b, 0, ttl as u64);
-    put_home(out, c, address, port)
+    let a = cbor::put::head(out, 0, 4, 5);
+    let b = cbor::put::head(out, a, 0, 2);
+    let c = cbor::put::head(out, b, 0, session as u64);
+    let d = put_string(out, c, initiator);
+    let e = cbor::put::head(out, d, 0, ttl as u64);
+    put_home(out, e, address, port)
 }
 
 fn put_home(out: &mut [u8], at: usize, address: &[u8], port: u16) -> usize
     ensures { λ r. ⌜ Wrote (now (out .entry)) (now (out .exit)) at (fixed 103 2 (now (address .entry)) 6 port) r ⌝ }
 {
-    let a = put::head(out, at, 4, 4);
-    let b = put::head(out, a, 0, 103);
-    let c = put::string(out, b, 2, address);
-    let d = put::head(out, c, 0, 6);
-    put::head(out, d, 0, port as u64)
+    let a = cbor::put::head(out, at, 4, 4);
+    let b = cbor::put::head(out, a, 0, 103);
+    let c = put_string(out, b, address);
+    let d = cbor::put::head(out, c, 0, 6);
+    cbor::put::head(out, d, 0, port as u64)
+}
+
+// How many bytes a byte string with the bytes of s has.
+fn string_len(s: &[u8]) -> usize
+    ensures { λ r. ⌜ r ≡ length (string 2 (now (s .entry))) ⌝ }
+{
+    let head = cbor::put::head_len(s.len() as u64);
+    head + s.len()
+}
+
+// A byte string with the bytes of s.
+fn put_string(out: &mut [u8], at: usize, s: &[u8]) -> usize
+    ensures { λ r. ⌜ Wrote (now (out .entry)) (now (out .exit)) at (string 2 (now (s .entry))) r ⌝ }
+{
+    let next = cbor::put::head(out, at, 2, s.len() as u64);
+    put::all(out, next, s)
 }

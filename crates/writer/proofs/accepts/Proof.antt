@@ -4,28 +4,20 @@ use Rattle.writer.specs.Write.{accepts, accepted}
 use borrow.Author.Needs.{needs}
 use Rattle.writer.proofs.accepts.Statement.{statement}
 use Rattle.writer.proofs.accepts.Tie as tie
-use Rattle.writer.proofs.accepts.Reads as reads
-use Rattle.writer.proofs.accepts.Lts as lts
-use Rattle.message.proofs.read.Reads as read-reads
 
--- src/lib.rt:92:9
 read-requires : tie.Need-read-requires
 read-requires c κs = search needs
 
--- src/lib.rt:94:32
 enum-told : tie.Need-enum-told
 enum-told c = search needs
 
--- src/lib.rt:95:29
 enum-told-2 : tie.Need-enum-told-2
 enum-told-2 c = search needs
 
--- src/lib.rt:89:1
 returns : tie.Need-returns
 unfolding accepts accepted
 returns c = rw (← (c .before .before .read .ensures), (c .enum-told .given .1))
 
--- src/lib.rt:89:1
 returns-2 : tie.Need-returns-2
 unfolding accepts accepted
 returns-2 c = rw (← (c .before .before .read .ensures), (c .enum-told2 .given .1))

@@ -1,61 +1,29 @@
--- `writer::answer` meets its contract.
+-- `writer::answer` meets its contract: its length is known before anything is put.
 -- Assumes nothing.
-use Prim.Native.Nat.{ℕ}
-use native.Mathlib.Omega.{arith}
-use mathlib.Core.Path.{sym}
-use lib.ListN.{length-replicate}
-use lib.Seq.{length-take-le}
-use mathlib.Core.Path.{refl}
-use Rattle.writer.proofs.Verdicts.{pass-long, passed}
+use Rattle.writer.proofs.Verdicts.{pass-over, pass-short, pass-put}
 use borrow.Author.Needs.{needs}
 use Rattle.writer.proofs.answer.Statement.{statement}
 use Rattle.writer.proofs.answer.Tie as tie
-use Rattle.writer.proofs.answer.Reads as reads
-use Rattle.writer.proofs.answer.Lts as lts
-use Rattle.writer.proofs.put.hand.Reads as hand-reads
-use Rattle.writer.proofs.put_answer.Reads as put-answer-reads
 
--- src/lib.rt:81:26
-slice-aggregate-put-answer : tie.Need-slice-aggregate-put-answer
-slice-aggregate-put-answer c = search needs
+answer-len-requires : tie.Need-answer-len-requires
+answer-len-requires c κs = search needs
 
--- src/lib.rt:81:9
+returns : tie.Need-returns
+returns c = pass-over _ _ _ (c .before .answer-len .ensures) (c .if1 .taken)
+
+returns-2 : tie.Need-returns-2
+returns-2 c = pass-short _ _ _ (c .before .before .answer-len .ensures) (c .before .if1 .left) (c .if2 .taken)
+
 put-answer-requires : tie.Need-put-answer-requires
 put-answer-requires c κs = search needs
 
--- src/lib.rt:83:9
-returns : tie.Need-returns
-returns c = pass-long (c .before .before .put-answer .ensures) (length-replicate {A = ℕ} 2048 0) _ _ (c .if1 .taken)
-
--- src/lib.rt:85:15
-array-share-prefix-draft : tie.Need-array-share-prefix-draft
-array-share-prefix-draft c = search needs
-
--- src/lib.rt:85:15
-slice-aggregate-hand : tie.Need-slice-aggregate-hand
-slice-aggregate-hand c = sym (length-take-le _ _ (omega (arith, (c .before .before .draft2 .given))))
-
--- src/lib.rt:85:5
-hand-requires : tie.Need-hand-requires
-hand-requires c κs = search needs
-
--- src/lib.rt:69:1
 same-length : tie.Need-same-length
 same-length c = search needs
 
--- src/lib.rt:69:1
-returns-2 : tie.Need-returns-2
-returns-2 c = passed (c .before .before .before .before .before .before .before .put-answer .ensures) (length-replicate {A = ℕ} 2048 0) (c .before .before .before .before .before .if1 .left) _ _ refl (c .before .before .hand .ensures .0) (c .before .before .hand .ensures .1)
+returns-3 : tie.Need-returns-3
+returns-3 c = pass-put _ _ _ (c .before .before .before .before .before .before .before .answer-len .ensures) (c .before .before .before .before .before .before .if1 .left) (c .before .before .before .before .before .if2 .left) (c .before .before .put-answer .ensures)
 
 pub answer-spec : {M : Type 1} → statement M
 answer-spec =
     tie.close
-    (tie.spec
-    slice-aggregate-put-answer
-    put-answer-requires
-    returns
-    array-share-prefix-draft
-    slice-aggregate-hand
-    hand-requires
-    same-length
-    returns-2)
+    (tie.spec answer-len-requires returns returns-2 put-answer-requires same-length returns-3)

@@ -1,71 +1,66 @@
--- `writer::lower` meets its contract.
+-- `writer::lower` meets its contract: the tests are those of `lowerAnswer`, on a length that is known before anything is put.
 -- Assumes nothing.
-use Prim.Native.Nat.{ℕ}
-use native.Mathlib.Omega.{arith}
-use mathlib.Core.Path.{sym}
-use lib.ListN.{length-replicate}
-use lib.Seq.{length-take-le}
 use mathlib.Core.Path.{refl}
-use Rattle.base.specs.Pick.{pick}
+use native.Mathlib.Omega.{arith}
 use borrow.Author.Tests.{lt-ltb, le-ltb, eq-eqb, ne-eqb}
+use Rattle.base.specs.Pick.{pick}
 use Rattle.writer.specs.Write.{okLower, lowerAnswer, lowerOut}
-use Rattle.writer.proofs.Verdicts.{pass-long, passed}
+use Rattle.writer.proofs.Lengths.{head-few, lowered-length}
+use Rattle.writer.proofs.Verdicts.{pass-over, pass-short, pass-put}
 use borrow.Author.Needs.{needs}
 use Rattle.writer.proofs.lower.Statement.{statement}
 use Rattle.writer.proofs.lower.Tie as tie
-use Rattle.writer.proofs.lower.Reads as reads
-use Rattle.writer.proofs.lower.Lts as lts
-use Rattle.writer.proofs.put.hand.Reads as hand-reads
-use Rattle.writer.proofs.put_lowered.Reads as put-lowered-reads
 
--- src/lib.rt:52:9
 returns : tie.Need-returns
 unfolding lowerAnswer lowerOut okLower pick
 returns c = rw (eq-eqb _ _ (c .if1 .taken)) (refl, refl)
 
--- src/lib.rt:55:9
 returns-2 : tie.Need-returns-2
 unfolding lowerAnswer lowerOut okLower pick
 returns-2 c = rw (ne-eqb _ _ (c .before .if1 .left), lt-ltb _ _ (c .if2 .taken)) (refl, refl)
 
--- src/lib.rt:58:9
 returns-3 : tie.Need-returns-3
 unfolding lowerAnswer lowerOut okLower pick
 returns-3 c = rw (ne-eqb _ _ (c .before .before .if1 .left), le-ltb _ _ (c .before .if2 .left), lt-ltb _ _ (c .if3 .taken)) (refl, refl)
 
--- src/lib.rt:61:27
-slice-aggregate-put-lowered : tie.Need-slice-aggregate-put-lowered
-slice-aggregate-put-lowered c = search needs
+sub-kept : tie.Need-sub-kept
+sub-kept c = search needs
 
--- src/lib.rt:61:9
+add-kept : tie.Need-add-kept
+add-kept c = search needs
+
+sub-head-len : tie.Need-sub-head-len
+sub-head-len c = search needs
+
+cast-head-len : tie.Need-cast-head-len
+cast-head-len c = search needs
+
+head-len-requires : tie.Need-head-len-requires
+head-len-requires c κs = search needs
+
+add-len : tie.Need-add-len
+add-len c = omega (arith, head-few _ _ (c .head-len .ensures))
+
+returns-4 : tie.Need-returns-4
+unfolding lowerAnswer lowerOut okLower pick
+returns-4 c = rw (ne-eqb _ _ (c .before .before .before .before .if1 .left), le-ltb _ _ (c .before .before .before .if2 .left), le-ltb _ _ (c .before .before .if3 .left))
+    (pass-over _ _ _ (lowered-length _ _ _ _ _ (c .before .before .before .if2 .left) (c .before .before .if3 .left) (c .before .head-len .ensures)) (c .if4 .taken))
+
+returns-5 : tie.Need-returns-5
+unfolding lowerAnswer lowerOut okLower pick
+returns-5 c = rw (ne-eqb _ _ (c .before .before .before .before .before .if1 .left), le-ltb _ _ (c .before .before .before .before .if2 .left), le-ltb _ _ (c .before .before .before .if3 .left))
+    (pass-short _ _ _ (lowered-length _ _ _ _ _ (c .before .before .before .before .if2 .left) (c .before .before .before .if3 .left) (c .before .before .head-len .ensures)) (c .before .if4 .left) (c .if5 .taken))
+
 put-lowered-requires : tie.Need-put-lowered-requires
 put-lowered-requires c κs = search needs
 
--- src/lib.rt:63:9
-returns-4 : tie.Need-returns-4
-unfolding lowerAnswer lowerOut okLower pick
-returns-4 c = rw (ne-eqb _ _ (c .before .before .before .before .before .before .if1 .left), le-ltb _ _ (c .before .before .before .before .before .if2 .left), le-ltb _ _ (c .before .before .before .before .if3 .left)) (pass-long (c .before .before .put-lowered .ensures) (length-replicate {A = ℕ} 2048 0) _ _ (c .if4 .taken))
-
--- src/lib.rt:65:15
-array-share-prefix-draft : tie.Need-array-share-prefix-draft
-array-share-prefix-draft c = search needs
-
--- src/lib.rt:65:15
-slice-aggregate-hand : tie.Need-slice-aggregate-hand
-slice-aggregate-hand c = sym (length-take-le _ _ (omega (arith, (c .before .before .draft2 .given))))
-
--- src/lib.rt:65:5
-hand-requires : tie.Need-hand-requires
-hand-requires c κs = search needs
-
--- src/lib.rt:47:1
 same-length : tie.Need-same-length
 same-length c = search needs
 
--- src/lib.rt:47:1
-returns-5 : tie.Need-returns-5
+returns-6 : tie.Need-returns-6
 unfolding lowerAnswer lowerOut okLower pick
-returns-5 c = rw (ne-eqb _ _ (c .before .before .before .before .before .before .before .before .before .before .before .if1 .left), le-ltb _ _ (c .before .before .before .before .before .before .before .before .before .before .if2 .left), le-ltb _ _ (c .before .before .before .before .before .before .before .before .before .if3 .left)) (passed (c .before .before .before .before .before .before .before .put-lowered .ensures) (length-replicate {A = ℕ} 2048 0) (c .before .before .before .before .before .if4 .left) _ _ refl (c .before .before .hand .ensures .0) (c .before .before .hand .ensures .1))
+returns-6 c = rw (ne-eqb _ _ (c .before .before .before .before .before .before .before .before .before .if1 .left), le-ltb _ _ (c .before .before .before .before .before .before .before .before .if2 .left), le-ltb _ _ (c .before .before .before .before .before .before .before .if3 .left))
+    (pass-put _ _ _ (lowered-length _ _ _ _ _ (c .before .before .before .before .before .before .before .before .if2 .left) (c .before .before .before .before .before .before .before .if3 .left) (c .before .before .before .before .before .before .head-len .ensures)) (c .before .before .before .before .before .if4 .left) (c .before .before .before .before .if5 .left) (c .before .before .put-lowered .ensures))
 
 pub lower-spec : {M : Type 1} → statement M
 lower-spec =
@@ -74,11 +69,14 @@ lower-spec =
     returns
     returns-2
     returns-3
-    slice-aggregate-put-lowered
-    put-lowered-requires
+    sub-kept
+    add-kept
+    sub-head-len
+    cast-head-len
+    head-len-requires
+    add-len
     returns-4
-    array-share-prefix-draft
-    slice-aggregate-hand
-    hand-requires
+    returns-5
+    put-lowered-requires
     same-length
-    returns-5)
+    returns-6)

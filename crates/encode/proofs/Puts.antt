@@ -1,0 +1,141 @@
+-- Steps of an encoder: a byte, a head, bytes, two steps in a row, no step, and what stands in the buffer at the end.
+-- Assumes nothing.
+use Prim.Native.Nat.{ℕ, suc, _+_, _≤_, _<_}
+use mathlib.Core.Path.{_≡_, refl, sym, ap, ap₂, _∙_}
+use mathlib.Core.Bool.{Bool, true, false}
+use mathlib.Core.List.{List, [], _∷_, _++_}
+use native.Mathlib.Nat.{add-zero, add-suc, suc-add, zero-add}
+use native.Mathlib.Omega.{arith}
+use lib.Dec.{ltb, leb}
+use lib.ListN.{length, take, drop, set, replicate, length-append, length-drop, length-set, length-replicate}
+use lib.Seq.{sets, sets-eq, length-sets, take-append-seam}
+use borrow.Author.Tests.{ltb-true, ltb-false, leb-true, le-ltb, le-leb, lt-leb}
+use Rattle.base.specs.Pick.{pick}
+use Rattle.cbor.specs.Put.{head, put, headFits, headEnd, headPut}
+use Rattle.encode.specs.Put.{allEnd, allPut, frontEnd, frontPut, Wrote}
+
+put-put : (l : List ℕ) (at : ℕ) (a b : List ℕ) → put (put l at a) (at + length a) b ≡ put l at (a ++ b)
+unfolding put
+put-put l at [] b = ap (λ (k : ℕ). sets l k b) (add-zero at)
+put-put l at (x ∷ a) b = ap (λ (k : ℕ). sets (sets (set l at x) (suc at) a) k b) (add-suc at (length a) ∙ sym (suc-add at (length a))) ∙ put-put (set l at x) (suc at) a b
+
+-- two steps in a row
+pub then : {l l′ l″ : List ℕ} {at m r : ℕ} {a b : List ℕ} → Wrote l l′ at a m → Wrote l′ l″ m b r → Wrote l l″ at (a ++ b) r
+then {l} {l′} {l″} {at} {m} {r} {a} {b} v w =
+    record {
+      same = w .same ∙ v .same;
+      fits = λ h.
+          let e : length (a ++ b) ≡ length a + length b = length-append a b in
+          let x = v .fits (omega arith) in
+          let y = w .fits (omega (arith, x .0)) in
+          (omega (arith, x .0, y .0), y .1 ∙ ap₂ (λ (t : List ℕ) (k : ℕ). put t k b) (x .1) (x .0) ∙ put-put l at a b);
+      over = λ h. late (ltb (length l) (at + length a)) refl (rw length-append at h);
+    }
+  where
+    late : (t : Bool) → ltb (length l) (at + length a) ≡ t → length l < at + (length a + length b) → length l < r
+    late true e h = let p = v .over (ltb-true _ _ e) in let q = w .over (omega arith) in omega arith
+    late false e h = let p = v .fits (ltb-false (length l) (at + length a) e) in let q = w .over (omega (arith, p .0)) in omega arith
+
+-- no step
+pub still : (l : List ℕ) (at : ℕ) → Wrote l l at [] at
+unfolding put
+still l at = record { same = refl; fits = λ h. (sym (add-zero at), refl); over = λ h. omega (arith, h) }
+
+-- one byte past the buffer's end, and one in the buffer
+pub byte-over : (l : List ℕ) (at b : ℕ) → length l ≤ at → Wrote l l at (b ∷ []) (length l + 1)
+byte-over l at b g = record { same = refl; fits = λ h. absurd (omega arith); over = λ h. omega arith }
+
+pub byte-in : (l : List ℕ) (at b : ℕ) → at < length l → Wrote l (set l at b) at (b ∷ []) (at + 1)
+unfolding put
+byte-in l at b g = record { same = length-set l at b; fits = λ h. (refl, refl); over = λ h. absurd (omega arith) }
+
+-- the shortest head
+pub head-in : (l l′ : List ℕ) (at major arg r : ℕ) → major < 7 → r ≡ headEnd l at major arg → l′ ≡ headPut l at major arg → Wrote l l′ at (head major arg) r
+unfolding headEnd headPut headFits put pick
+head-in l l′ at major arg r m e p =
+    let m6 : major ≤ 6 = omega arith in
+    let e′ : r ≡ pick (leb (at + length (head major arg)) (length l)) (at + length (head major arg)) (length l + 1) = rw (le-ltb 6 major m6) at e in
+    let p′ : l′ ≡ pick (leb (at + length (head major arg)) (length l)) (put l at (head major arg)) l = rw (le-ltb 6 major m6) at p in
+    record {
+      same = ap length p′ ∙ kept (leb (at + length (head major arg)) (length l));
+      fits = λ h. (rw (le-leb (at + length (head major arg)) (length l) h) at e′, rw (le-leb (at + length (head major arg)) (length l) h) at p′);
+      over = λ h. let q : r ≡ length l + 1 = rw (lt-leb (at + length (head major arg)) (length l) h) at e′ in omega arith;
+    }
+  where
+    kept : (t : Bool) → length (pick t (put l at (head major arg)) l) ≡ length l
+    kept true = length-sets l at (head major arg)
+    kept false = refl
+
+-- bytes
+pub all-in : {l l′ bs : List ℕ} {at r : ℕ} → r ≡ allEnd l at bs → l′ ≡ allPut l at bs → Wrote l l′ at bs r
+unfolding allEnd allPut put pick
+all-in {l} {l′} {bs} {at} {r} e p =
+    record {
+      same = ap length p ∙ kept (leb (at + length bs) (length l));
+      fits = λ h. (rw (le-leb (at + length bs) (length l) h) at e, rw (le-leb (at + length bs) (length l) h) at p);
+      over = λ h. let q : r ≡ length l + 1 = rw (lt-leb (at + length bs) (length l) h) at e in omega arith;
+    }
+  where
+    kept : (t : Bool) → length (pick t (put l at bs) l) ≡ length l
+    kept true = length-sets l at bs
+    kept false = refl
+
+-- bytes put at the front: their number, and what stands in the buffer
+pub finished : {l l′ bs : List ℕ} {r : ℕ} → Wrote l l′ 0 bs r → length bs ≤ length l → (r ≡ length bs) × (l′ ≡ bs ++ drop (length bs) l)
+unfolding put
+finished {l} {l′} {bs} w k =
+    let x = w .fits (omega arith) in
+    (omega (arith, x .0), x .1 ∙ sets-eq bs l 0 (omega arith) ∙ ap (λ (n : ℕ). bs ++ drop n l) (zero-add (length bs)))
+
+-- a draft that ends in time is the bytes, and one that doesn't is too short for them
+pub drafted : {l l′ bs : List ℕ} {r : ℕ} → Wrote l l′ 0 bs r → r ≤ length l → (take r l′ ≡ bs) × (length bs ≤ length l)
+drafted {l} {l′} {bs} {r} w h = go (ltb (length l) (length bs)) refl
+  where
+    go : (t : Bool) → ltb (length l) (length bs) ≡ t → (take r l′ ≡ bs) × (length bs ≤ length l)
+    go true p = absurd (omega (arith, w .over (omega (arith, ltb-true (length l) (length bs) p))))
+    go false p =
+        let k : length bs ≤ length l = ltb-false (length l) (length bs) p in
+        let x = finished w k in
+        (ap₂ take (x .0) (x .1) ∙ take-append-seam bs (drop (length bs) l), k)
+
+pub long : {l l′ bs : List ℕ} {r : ℕ} → Wrote l l′ 0 bs r → length l < r → length l < length bs
+long {l} {l′} {bs} {r} w k = go (ltb (length l) (length bs)) refl
+  where
+    go : (t : Bool) → ltb (length l) (length bs) ≡ t → length l < length bs
+    go true p = ltb-true (length l) (length bs) p
+    go false p = absurd (omega (arith, ltb-false (length l) (length bs) p, w .fits (omega (arith, ltb-false (length l) (length bs) p)) .0))
+
+-- ---- a message at the front of a buffer
+pub front-in : {l l′ bs : List ℕ} {r : ℕ} → Wrote l l′ 0 bs r → r ≤ length l → (r ≡ frontEnd l bs) × (l′ ≡ frontPut l bs)
+unfolding frontEnd frontPut pick
+front-in {l} {l′} {bs} w h =
+    let k : length bs ≤ length l = drafted w h .1 in
+    rw (le-leb (length bs) (length l) k) (finished w k)
+
+pub front-over : {l l′ l″ bs : List ℕ} {r : ℕ} → Wrote l l′ 0 bs r → length l′ < r → l″ ≡ replicate (length l′) 0
+    → (length l″ + 1 ≡ frontEnd l bs) × (l″ ≡ frontPut l bs)
+unfolding frontEnd frontPut pick
+front-over {l} {l′} {l″} {bs} {r} w h e =
+    let k : length l < length bs = long w (omega (arith, w .same)) in
+    let n : length l′ ≡ length l = w .same in
+    rw (lt-leb (length bs) (length l) k) (rw (e, length-replicate, n), rw n at e)
+
+-- and as a step
+pub front-step : {l l′ bs : List ℕ} {r : ℕ} → r ≡ frontEnd l bs → l′ ≡ frontPut l bs → Wrote l l′ 0 bs r
+unfolding frontEnd frontPut put pick
+front-step {l} {l′} {bs} {r} e p =
+    record {
+      same = ap length p ∙ kept (leb (length bs) (length l)) refl;
+      fits = λ h.
+          let k : length bs ≤ length l = omega arith in
+          let e′ : r ≡ length bs = rw (le-leb (length bs) (length l) k) at e in
+          let p′ : l′ ≡ bs ++ drop (length bs) l = rw (le-leb (length bs) (length l) k) at p in
+          (omega arith, p′ ∙ sym (sets-eq bs l 0 h ∙ ap (λ (n : ℕ). bs ++ drop n l) (zero-add (length bs))));
+      over = λ h.
+          let k : length l < length bs = omega arith in
+          let e′ : r ≡ length l + 1 = rw (lt-leb (length bs) (length l) k) at e in omega arith;
+    }
+  where
+    kept : (t : Bool) → leb (length bs) (length l) ≡ t → length (pick t (bs ++ drop (length bs) l) (replicate (length l) 0)) ≡ length l
+    kept true q = length-append bs (drop (length bs) l) ∙ omega (arith, leb-true (length bs) (length l) q, length-drop (length bs) l)
+    kept false q = length-replicate {A = ℕ} (length l) 0

@@ -1,0 +1,28 @@
+-- `encode::kinds::put_decline` meets its contract.
+-- Assumes nothing.
+use Rattle.description.specs.Grasp.{encodeMsg, howMany, reason}
+use Rattle.encode.proofs.Puts.{then}
+use mathlib.Core.List.{append-nil}
+use borrow.Author.Needs.{needs}
+use Rattle.encode.proofs.kinds.put_decline.Statement.{statement}
+use Rattle.encode.proofs.kinds.put_decline.Tie as tie
+
+put-opening-requires : tie.Need-put-opening-requires
+put-opening-requires c κs = search needs
+
+head-requires : tie.Need-head-requires
+head-requires c κs = search needs
+
+head-requires-2 : tie.Need-head-requires-2
+head-requires-2 c κs = search needs
+
+same-length : tie.Need-same-length
+same-length c = search needs
+
+returns : tie.Need-returns
+unfolding encodeMsg howMany reason
+returns c = rw (append-nil) (then (then (c .before .before .before .before .before .before .before .before .before .before .put-opening .ensures) (c .before .before .before .before .before .before .head .ensures)) (c .before .before .head2 .ensures))
+
+pub put-decline-spec : {M : Type 1} → statement M
+put-decline-spec =
+    tie.close (tie.spec put-opening-requires head-requires head-requires-2 same-length returns)

@@ -1,0 +1,28 @@
+-- `encode::kinds::put_discovery` meets its contract.
+-- Assumes nothing.
+use Rattle.description.specs.Grasp.{encodeMsg}
+use Rattle.encode.proofs.Puts.{then}
+use borrow.Author.Needs.{needs}
+use Rattle.encode.proofs.kinds.put_discovery.Statement.{statement}
+use Rattle.encode.proofs.kinds.put_discovery.Tie as tie
+
+put-opening-requires : tie.Need-put-opening-requires
+put-opening-requires c κs = search needs
+
+part-string-requires : tie.Need-part-string-requires
+part-string-requires c κs = search needs
+
+put-goal-requires : tie.Need-put-goal-requires
+put-goal-requires c κs = search needs
+
+same-length : tie.Need-same-length
+same-length c = search needs
+
+returns : tie.Need-returns
+unfolding encodeMsg
+returns c = then (then (c .before .before .before .before .before .before .before .before .before .before .put-opening .ensures) (c .before .before .before .before .before .before .part-string .ensures)) (c .before .before .put-goal .ensures)
+
+pub put-discovery-spec : {M : Type 1} → statement M
+put-discovery-spec =
+    tie.close
+    (tie.spec put-opening-requires part-string-requires put-goal-requires same-length returns)

@@ -1,0 +1,23 @@
+-- `encode::kinds::put_exchange` meets its contract.
+-- Assumes nothing.
+use Rattle.description.specs.Grasp.{encodeMsg}
+use Rattle.encode.proofs.Puts.{then}
+use borrow.Author.Needs.{needs}
+use Rattle.encode.proofs.kinds.put_exchange.Statement.{statement}
+use Rattle.encode.proofs.kinds.put_exchange.Tie as tie
+
+put-opening-requires : tie.Need-put-opening-requires
+put-opening-requires c κs = search needs
+
+put-goal-requires : tie.Need-put-goal-requires
+put-goal-requires c κs = search needs
+
+same-length : tie.Need-same-length
+same-length c = search needs
+
+returns : tie.Need-returns
+unfolding encodeMsg
+returns c = then (c .before .before .before .before .before .before .put-opening .ensures) (c .before .before .put-goal .ensures)
+
+pub put-exchange-spec : {M : Type 1} → statement M
+put-exchange-spec = tie.close (tie.spec put-opening-requires put-goal-requires same-length returns)

@@ -1,0 +1,40 @@
+-- `encode::kinds::put_invalid` meets its contract.
+-- Assumes nothing.
+use Rattle.description.specs.Grasp.{encodeMsg}
+use Rattle.encode.proofs.Puts.{then}
+use Rattle.description.specs.Describe.{cut}
+use Rattle.encode.proofs.Spans.{more-le}
+use native.Mathlib.Omega.{arith}
+use borrow.Author.Needs.{needs}
+use Rattle.encode.proofs.kinds.put_invalid.Statement.{statement}
+use Rattle.encode.proofs.kinds.put_invalid.Tie as tie
+
+one-more-requires : tie.Need-one-more-requires
+one-more-requires c κs = search needs
+
+add-put-opening : tie.Need-add-put-opening
+add-put-opening c = omega (arith, (c .before .one-more .ensures), more-le (cut (c .before .before .before .before .args .source .now) (c .before .before .before .before .args .item)))
+
+put-opening-requires : tie.Need-put-opening-requires
+put-opening-requires c κs = search needs
+
+part-requires : tie.Need-part-requires
+part-requires c κs = search needs
+
+same-length : tie.Need-same-length
+same-length c = search needs
+
+returns : tie.Need-returns
+unfolding encodeMsg
+returns c = rw (← (c .before .before .before .before .before .before .before .before .one-more .ensures)) (then (c .before .before .before .before .before .before .put-opening .ensures) (c .before .before .part .ensures))
+
+pub put-invalid-spec : {M : Type 1} → statement M
+put-invalid-spec =
+    tie.close
+    (tie.spec
+    one-more-requires
+    add-put-opening
+    put-opening-requires
+    part-requires
+    same-length
+    returns)

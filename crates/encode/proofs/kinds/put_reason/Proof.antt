@@ -1,0 +1,37 @@
+-- `encode::kinds::put_reason` meets its contract.
+-- Assumes nothing.
+use Rattle.description.specs.Grasp.{encodeMsg, howMany, reason}
+use Rattle.encode.proofs.Puts.{then}
+use borrow.Author.Needs.{needs}
+use Rattle.encode.proofs.kinds.put_reason.Statement.{statement}
+use Rattle.encode.proofs.kinds.put_reason.Tie as tie
+
+put-opening-requires : tie.Need-put-opening-requires
+put-opening-requires c κs = search needs
+
+head-requires : tie.Need-head-requires
+head-requires c κs = search needs
+
+head-requires-2 : tie.Need-head-requires-2
+head-requires-2 c κs = search needs
+
+part-string-requires : tie.Need-part-string-requires
+part-string-requires c κs = search needs
+
+same-length : tie.Need-same-length
+same-length c = search needs
+
+returns : tie.Need-returns
+unfolding encodeMsg howMany reason
+returns c = then (then (then (c .before .before .before .before .before .before .before .before .before .before .before .before .before .before .put-opening .ensures) (c .before .before .before .before .before .before .before .before .before .before .head .ensures)) (c .before .before .before .before .before .before .head2 .ensures)) (c .before .before .part-string .ensures)
+
+pub put-reason-spec : {M : Type 1} → statement M
+put-reason-spec =
+    tie.close
+    (tie.spec
+    put-opening-requires
+    head-requires
+    head-requires-2
+    part-string-requires
+    same-length
+    returns)

@@ -1,0 +1,59 @@
+-- `encode::kinds::put_response` meets its contract.
+-- Assumes nothing.
+use Rattle.description.specs.Grasp.{encodeMsg}
+use Rattle.encode.proofs.Puts.{then}
+use Rattle.encode.proofs.Rows.{targets-few, extra-few, targets-many, extra-many}
+use native.Mathlib.Omega.{arith}
+use borrow.Author.Needs.{needs}
+use Rattle.encode.proofs.kinds.put_response.Statement.{statement}
+use Rattle.encode.proofs.kinds.put_response.Tie as tie
+
+target-items-requires : tie.Need-target-items-requires
+target-items-requires c κs = search needs
+
+how-many-requires : tie.Need-how-many-requires
+how-many-requires c κs = search needs
+
+add-put-opening : tie.Need-add-put-opening
+add-put-opening c = omega (arith, targets-few _ _ _ (c .before .before .target-items .ensures), extra-few _ _ (c .before .how-many .ensures))
+
+add-put-opening-2 : tie.Need-add-put-opening-2
+add-put-opening-2 c = omega (arith, targets-few _ _ _ (c .before .before .target-items .ensures), extra-few _ _ (c .before .how-many .ensures))
+
+put-opening-requires : tie.Need-put-opening-requires
+put-opening-requires c κs = search needs
+
+part-string-requires : tie.Need-part-string-requires
+part-string-requires c κs = search needs
+
+head-requires : tie.Need-head-requires
+head-requires c κs = search needs
+
+put-targets-requires : tie.Need-put-targets-requires
+put-targets-requires c κs = search needs
+
+put-extra-requires : tie.Need-put-extra-requires
+put-extra-requires c κs = search needs
+
+same-length : tie.Need-same-length
+same-length c = search needs
+
+returns : tie.Need-returns
+unfolding encodeMsg
+returns c = rw (← targets-many, ← extra-many, ← (c .before .before .before .before .before .before .before .before .before .before .before .before .before .before .before .before .before .before .before .before .before .target-items .ensures), ← (c .before .before .before .before .before .before .before .before .before .before .before .before .before .before .before .before .before .before .before .before .how-many .ensures)) (then (then (then (then (c .before .before .before .before .before .before .before .before .before .before .before .before .before .before .before .before .before .before .put-opening .ensures) (c .before .before .before .before .before .before .before .before .before .before .before .before .before .before .part-string .ensures)) (c .before .before .before .before .before .before .before .before .before .before .head .ensures)) (c .before .before .before .before .before .before .put-targets .ensures)) (c .before .before .put-extra .ensures))
+
+pub put-response-spec : {M : Type 1} → statement M
+put-response-spec =
+    tie.close
+    (tie.spec
+    target-items-requires
+    how-many-requires
+    add-put-opening
+    add-put-opening-2
+    put-opening-requires
+    part-string-requires
+    head-requires
+    put-targets-requires
+    put-extra-requires
+    same-length
+    returns)

@@ -1,0 +1,23 @@
+-- `encode::kinds::put_wait` meets its contract.
+-- Assumes nothing.
+use Rattle.description.specs.Grasp.{encodeMsg}
+use Rattle.encode.proofs.Puts.{then}
+use borrow.Author.Needs.{needs}
+use Rattle.encode.proofs.kinds.put_wait.Statement.{statement}
+use Rattle.encode.proofs.kinds.put_wait.Tie as tie
+
+put-opening-requires : tie.Need-put-opening-requires
+put-opening-requires c κs = search needs
+
+head-requires : tie.Need-head-requires
+head-requires c κs = search needs
+
+same-length : tie.Need-same-length
+same-length c = search needs
+
+returns : tie.Need-returns
+unfolding encodeMsg
+returns c = then (c .before .before .before .before .before .before .put-opening .ensures) (c .before .before .head .ensures)
+
+pub put-wait-spec : {M : Type 1} → statement M
+put-wait-spec = tie.close (tie.spec put-opening-requires head-requires same-length returns)

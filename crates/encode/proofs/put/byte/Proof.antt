@@ -1,0 +1,29 @@
+-- `encode::put::byte` meets its contract.
+-- Assumes nothing.
+use Rattle.encode.proofs.Puts.{byte-over, byte-in}
+use native.Mathlib.Omega.{arith}
+use borrow.Author.Needs.{needs}
+use Rattle.encode.proofs.put.byte.Statement.{statement}
+use Rattle.encode.proofs.put.byte.Tie as tie
+
+add-result : tie.Need-add-result
+add-result c = search needs
+
+returns : tie.Need-returns
+returns c = byte-over _ _ _ (c .if1 .taken)
+
+slice-write-out : tie.Need-slice-write-out
+slice-write-out c = search needs
+
+add-result-2 : tie.Need-add-result-2
+add-result-2 c = search needs
+
+same-length : tie.Need-same-length
+same-length c = search needs
+
+returns-2 : tie.Need-returns-2
+returns-2 c = byte-in _ _ _ (omega arith)
+
+pub byte-spec : {M : Type 1} → statement M
+byte-spec =
+    tie.close (tie.spec add-result returns slice-write-out add-result-2 same-length returns-2)

@@ -1,0 +1,2 @@
+-- `Put`: bytes put into a buffer.
+pub mod Put

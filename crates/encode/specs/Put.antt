@@ -1,0 +1,28 @@
+-- Bytes put into a buffer. No step asks for room: a step that would end after the buffer answers more than the buffer's length.
+use Prim.Native.Nat.{ℕ, _+_, _≤_, _<_}
+use mathlib.Core.Path.{_≡_}
+use mathlib.Core.List.{List, _++_}
+use lib.ListN.{length, drop, replicate}
+use lib.Dec.{leb}
+use Rattle.base.specs.Pick.{pick}
+use Rattle.cbor.specs.Put.{put}
+
+-- ---- `put::all`: bs stored from `at` on, and nothing where they don't fit
+unfoldable pub allEnd : List ℕ → ℕ → List ℕ → ℕ
+allEnd l at bs = pick (leb (at + length bs) (length l)) (at + length bs) (length l + 1)
+
+unfoldable pub allPut : List ℕ → ℕ → List ℕ → List ℕ
+allPut l at bs = pick (leb (at + length bs) (length l)) (put l at bs) l
+
+-- ---- `message`: bs at the front of the buffer, which is cleared where they don't fit
+unfoldable pub frontEnd : List ℕ → List ℕ → ℕ
+frontEnd l bs = pick (leb (length bs) (length l)) (length bs) (length l + 1)
+
+unfoldable pub frontPut : List ℕ → List ℕ → List ℕ
+frontPut l bs = pick (leb (length bs) (length l)) (bs ++ drop (length bs) l) (replicate (length l) 0)
+
+-- ---- a step among several, of which one that doesn't fit promises nothing of the bytes: from l, bs put at `at` gave l′, and ends at r
+pub record Wrote (l l′ : List ℕ) (at : ℕ) (bs : List ℕ) (r : ℕ) : Type 0 where
+  pub same : length l′ ≡ length l
+  pub fits : at + length bs ≤ length l → (r ≡ at + length bs) × (l′ ≡ put l at bs)
+  pub over : length l < at + length bs → length l < r

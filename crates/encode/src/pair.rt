@@ -1,0 +1,49 @@
+// The pairs of a Flood put (RFC 8990, section 2.8.11), from rows of twelve numbers.
+ghost use Prim.Native.Nat.{_+_, _*_, _≤_};
+ghost use lib.ListN.{length};
+ghost use Rattle.encode.specs.Put.{Wrote};
+ghost use Rattle.description.specs.Grasp.{locOrEmpty, encodePair, encodePairs};
+ghost use Rattle.description.specs.Describe.{pairRow, locOrNone, rowPair, pairsOf};
+use crate::locator;
+use crate::objective;
+use crate::put;
+use description::rows;
+use description::rows::ENTRY_ROW;
+use description::rows::PAIR_ROW;
+use description::rows::Place;
+
+// The pairs of the list.
+pub(crate) fn put_pairs(out: &mut [u8], at: usize, source: &[u8], list: &[u64]) -> usize
+    ensures { λ r. ⌜ Wrote (now (out .entry)) (now (out .exit)) at (encodePairs (pairsOf (now (source .entry)) (now (list .entry)))) r ⌝ }
+{
+    let rows = list.len() / PAIR_ROW;
+    let mut end = at;
+    let mut i: usize = 0;
+    while i < rows {
+        end = put_pair(out, end, source, list, i);
+        i += 1;
+    }
+    end
+}
+
+pub(crate) fn put_pair(out: &mut [u8], at: usize, source: &[u8], list: &[u64], i: usize) -> usize
+    requires { ⌜ pairRow * i + pairRow ≤ length (now list) ⌝ }
+    ensures { λ r. ⌜ Wrote (now (out .entry)) (now (out .exit)) at (encodePair (rowPair (now (source .entry)) (now (list .entry)) i)) r ⌝ }
+{
+    let o = rows::entry_at(list, PAIR_ROW * i);
+    let p = rows::place_at(list, PAIR_ROW * i + ENTRY_ROW);
+    let a = put::head(out, at, 4, 2);
+    let b = objective::put_entry(out, a, source, o);
+    put_place_or_empty(out, b, source, p)
+}
+
+// A locator, or an empty array where its kind is 0.
+pub(crate) fn put_place_or_empty(out: &mut [u8], at: usize, source: &[u8], p: Place) -> usize
+    ensures { λ r. ⌜ Wrote (now (out .entry)) (now (out .exit)) at (locOrEmpty (locOrNone (now (source .entry)) p)) r ⌝ }
+{
+    let kind = p.kind;
+    if kind == 0 {
+        return put::head(out, at, 4, 0);
+    }
+    locator::put_place(out, at, source, p)
+}

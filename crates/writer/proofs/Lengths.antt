@@ -1,0 +1,53 @@
+-- How many bytes a relayed message and a node's answer have, by arithmetic.
+-- Assumes nothing.
+use Prim.Native.Nat.{ℕ, _+_, _-_, _≤_, _<_}
+use mathlib.Core.Path.{_≡_, refl, _∙_}
+use mathlib.Core.List.{List, _++_}
+use native.Mathlib.Omega.{arith}
+use lib.ListN.{length, take, drop, length-append, length-drop}
+use lib.Seq.{length-take-le}
+use Rattle.base.specs.Pick.{pick}
+use Rattle.cbor.specs.Tree.{shortest}
+use Rattle.cbor.specs.Put.{head}
+use Rattle.cbor.proofs.HeadExact.{length-head, shortest-case}
+use Rattle.description.specs.Grasp.{string, reached, fixed, opening}
+use Rattle.writer.specs.Write.{lowered, answerOf}
+use Rattle.writer.proofs.Home.{answer-is}
+
+pub length-shortest : (major arg : ℕ) → length (head major arg) ≡ 1 + shortest arg
+unfolding head
+length-shortest major arg = length-head major (shortest arg) arg
+
+-- a head is of at most nine bytes
+shortest-few : (arg : ℕ) → shortest arg ≤ 8
+shortest-few arg = shortest-case (λ w. w ≤ 8) arg (λ _. omega arith) (λ _ _. omega arith) (λ _ _. omega arith) (λ _ _. omega arith) (λ _. omega arith)
+
+pub head-few : (arg n : ℕ) → n ≡ 1 + shortest arg → n ≤ 9
+head-few arg n e = omega (arith, shortest-few arg)
+
+pub string-length : (s : List ℕ) (n : ℕ) → n ≡ 1 + shortest (length s) → n + length s ≡ length (string 2 s)
+unfolding string
+string-length s n e = rw (length-append (head 2 (length s)) s, length-shortest, e)
+
+pub string-few : (s : List ℕ) (n : ℕ) → n ≡ length (string 2 s) → n ≤ 9 + length s
+string-few s n e = omega (arith, string-length s (1 + shortest (length s)) refl, shortest-few (length s))
+
+pub lowered-length : (message : List ℕ) (at end count n : ℕ) → at ≤ end → end ≤ length message → n ≡ 1 + shortest (count - 1)
+    → at + (length message - end) + n ≡ length (lowered message at end count)
+unfolding lowered
+lowered-length message at end count n h k e =
+    rw (length-append (take at message ++ head 0 (count - 1)) (drop end message), length-append (take at message) (head 0 (count - 1)), length-take-le at message (omega arith), length-drop end message, length-shortest 0 (count - 1), e)
+    (omega arith)
+
+-- the heads of an answer that are always the same
+same-heads : (shortest 5 ≡ 0) × (shortest 2 ≡ 0) × (shortest 4 ≡ 0) × (shortest 103 ≡ 1) × (shortest 6 ≡ 0)
+unfolding shortest pick
+same-heads = (refl, refl, refl, refl, refl)
+
+pub answer-length : (session : ℕ) (initiator : List ℕ) (ttl : ℕ) (address : List ℕ) (port : ℕ) (a b c d e : ℕ)
+    → a ≡ 1 + shortest session → b ≡ length (string 2 initiator) → c ≡ 1 + shortest ttl → d ≡ length (string 2 address) → e ≡ 1 + shortest port
+    → 6 + a + c + d + e + b ≡ length (answerOf session initiator ttl address port)
+unfolding opening fixed reached
+answer-length session initiator ttl address port a b c d e ea eb ec ed ee =
+    simp (answer-is, length-append, length-shortest, ← ea, ← eb, ← ec, ← ed, ← ee)
+    (omega (arith, same-heads .0, same-heads .1, same-heads .2, same-heads .3, same-heads .4))
