@@ -9,11 +9,12 @@ use native.Mathlib.Nat.{add-sub-cancel-left}
 use native.Mathlib.Omega.{arith}
 use lib.ListN.{length, take, drop}
 use borrow.Author.Tests.{eq-eqb, ne-eqb}
+use Rattle.options.specs.Text.{held}
 use Rattle.base.specs.Pick.{pick}
 use Rattle.options.specs.declared.Span.{Span}
-use Rattle.description.specs.Describe.{placeRow, pairRow, cut}
+use Rattle.description.specs.Describe.{placeRow, pairRow}
 use Rattle.description.specs.Judge.{okValue, allFrom, okRow, okRows, okPair, okPairs}
-use Rattle.description.proofs.Cuts.{cut-none, cut-rest, cut-part}
+use Rattle.description.proofs.Held.{held-none, held-rest, held-part}
 
 module _ (p : ℕ → Bool) (n i : ℕ) where
   left : i < n → n - i ≡ suc (n - (i + 1))
@@ -49,13 +50,12 @@ module _ (source list : List ℕ) where
   pairs-bad h = rw (ne-eqb (length list % pairRow) 0 h)
 
 module _ (source : List ℕ) (s : Span) where
-  pub value-none : length source < s .at → true ≡ okValue (cut source s)
+  pub value-none : length source < s .at → true ≡ okValue (held source s)
   unfolding okValue pick
-  value-none h = rw (cut-none source s h)
+  value-none h = rw (held-none source s h)
 
-  pub value-rest : (r : Bool) → length source - s .at < s .len → r ≡ okValue (take (length source - s .at) (drop (s .at) source)) → r ≡ okValue (cut source s)
-  value-rest r h e = rw (cut-rest source s h, ← cut-part source s) e
+  pub value-rest : (r : Bool) → length source - s .at < s .len → r ≡ okValue (take (length source - s .at) (drop (s .at) source)) → r ≡ okValue (held source s)
+  value-rest r h e = rw (held-rest source s h, ← held-part source s) e
 
-  pub value-in : (r : Bool) → r ≡ okValue (take (s .at + s .len - s .at) (drop (s .at) source)) → r ≡ okValue (cut source s)
-  unfolding cut
+  pub value-in : (r : Bool) → r ≡ okValue (take (s .at + s .len - s .at) (drop (s .at) source)) → r ≡ okValue (held source s)
   value-in r e = rw (add-sub-cancel-left (s .at) (s .len)) at e

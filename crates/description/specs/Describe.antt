@@ -3,10 +3,10 @@
 use Prim.Native.Nat.{ℕ, zero, suc, _+_, _*_, _/_}
 use mathlib.Core.Bool.{Bool, true, false}
 use mathlib.Core.List.{List, [], _∷_, _++_}
-use lib.ListN.{length, take, drop, getD}
+use lib.ListN.{length, getD}
 use lib.Dec.{eqb}
 use Rattle.base.specs.Pick.{pick}
-use Rattle.options.specs.declared.Span.{Span}
+use Rattle.options.specs.Text.{held}
 use Rattle.description.specs.declared.Goal.{Goal}
 use Rattle.description.specs.declared.rows.Entry.{Entry}
 use Rattle.description.specs.declared.rows.Place.{Place}
@@ -33,16 +33,12 @@ unfoldable pub upTo : {A : Type 0} → (ℕ → A) → ℕ → List A
 upTo f zero = []
 upTo f (suc n) = upTo f n ++ (f n ∷ [])
 
--- the bytes of the source that a span covers
-unfoldable pub cut : List ℕ → Span → List ℕ
-cut source s = take (s .len) (drop (s .at) source)
-
 -- an objective in the numbers of a row
 unfoldable pub entryOf : Goal → Entry
 entryOf o = record { name = o .name; flags = o .flags; count = o .count; value = o .value }
 
 unfoldable pub objOf : List ℕ → Entry → Obj
-objOf source o = record { name = cut source (o .name); flags = o .flags; count = o .count; value = cut source (o .value) }
+objOf source o = record { name = held source (o .name); flags = o .flags; count = o .count; value = held source (o .value) }
 
 -- a number, or null where it is the one that stands for null
 unfoldable pub orNull : ℕ → ℕ → Maybe ℕ
@@ -51,10 +47,10 @@ orNull null n = pick (eqb n null) Maybe.none (Maybe.some n)
 -- protocol 0 and port 65,536 stand for null in a URI
 unfoldable pub locOf : List ℕ → Place → Loc
 locOf source p =
-    pick (eqb (p .kind) 103) (Loc.v6 (cut source (p .content)) (p .protocol) (p .port))
-    (pick (eqb (p .kind) 104) (Loc.v4 (cut source (p .content)) (p .protocol) (p .port))
-    (pick (eqb (p .kind) 105) (Loc.domain (cut source (p .content)) (p .protocol) (p .port))
-    (Loc.uri (cut source (p .content)) (orNull 0 (p .protocol)) (orNull 65536 (p .port)))))
+    pick (eqb (p .kind) 103) (Loc.v6 (held source (p .content)) (p .protocol) (p .port))
+    (pick (eqb (p .kind) 104) (Loc.v4 (held source (p .content)) (p .protocol) (p .port))
+    (pick (eqb (p .kind) 105) (Loc.domain (held source (p .content)) (p .protocol) (p .port))
+    (Loc.uri (held source (p .content)) (orNull 0 (p .protocol)) (orNull 65536 (p .port)))))
 
 -- a locator in five numbers, from place k on: kind, place and length of its address or text, protocol, port
 unfoldable pub placeAt : List ℕ → ℕ → Place
@@ -104,17 +100,17 @@ pairsOf source list = upTo (rowPair source list) (length list / pairRow)
 unfoldable pub endOf : List ℕ → ℕ → Ending → Msg
 endOf source session E.Accept = Msg.accept session
 endOf source session E.Decline = Msg.decline session Maybe.none
-endOf source session (E.Reason t) = Msg.decline session (Maybe.some (cut source t))
+endOf source session (E.Reason t) = Msg.decline session (Maybe.some (held source t))
 
 unfoldable pub msgOf : List ℕ → List ℕ → Description → Msg
 msgOf source list D.Noop = Msg.noop
-msgOf source list (D.Discovery s i o) = Msg.discovery s (cut source i) (objOf source (entryOf o))
-msgOf source list (D.Response s i t d o) = Msg.response s (cut source i) t (targetsOf source list d) (extraOf source o)
+msgOf source list (D.Discovery s i o) = Msg.discovery s (held source i) (objOf source (entryOf o))
+msgOf source list (D.Response s i t d o) = Msg.response s (held source i) t (targetsOf source list d) (extraOf source o)
 msgOf source list (D.RequestNegotiation s o) = Msg.exchange 3 s (objOf source (entryOf o))
 msgOf source list (D.RequestSynchronization s o) = Msg.exchange 4 s (objOf source (entryOf o))
 msgOf source list (D.Negotiate s o) = Msg.exchange 5 s (objOf source (entryOf o))
 msgOf source list (D.End s e) = endOf source s e
 msgOf source list (D.Wait s t) = Msg.wait s t
 msgOf source list (D.Synch s o) = Msg.exchange 8 s (objOf source (entryOf o))
-msgOf source list (D.Flood s i t) = Msg.flood s (cut source i) t (pairsOf source list)
-msgOf source list (D.Invalid s v) = Msg.invalid s (cut source v)
+msgOf source list (D.Flood s i t) = Msg.flood s (held source i) t (pairsOf source list)
+msgOf source list (D.Invalid s v) = Msg.invalid s (held source v)

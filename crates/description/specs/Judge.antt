@@ -5,6 +5,7 @@ use mathlib.Core.Bool.{Bool, true, false}
 use mathlib.Core.List.{List}
 use lib.ListN.{length, getD}
 use lib.Dec.{ltb, eqb}
+use Rattle.options.specs.Text.{held}
 use Rattle.base.specs.Pick.{pick}
 use Rattle.cbor.specs.declared.item.ItemRead.{ItemRead}
 use Rattle.cbor.specs.Item.{firstItem}
@@ -17,7 +18,7 @@ use Rattle.description.specs.declared.Ending.{Ending}
 use Rattle.description.specs.declared.Ending.the-variants as E
 use Rattle.description.specs.declared.Description.{Description}
 use Rattle.description.specs.declared.Description.the-variants as D
-use Rattle.description.specs.Describe.{placeRow, pairRow, entryRow, cut, entryOf, placeAt, entryAt}
+use Rattle.description.specs.Describe.{placeRow, pairRow, entryRow, entryOf, placeAt, entryAt}
 
 -- the bytes are one item and nothing else
 unfoldable pub alone : ℕ → ItemRead → Bool
@@ -28,14 +29,14 @@ unfoldable pub whole : List ℕ → Bool
 whole bs = alone (length bs) (firstItem 0 bs)
 
 unfoldable pub inside : List ℕ → Span → Bool
-inside source s = eqb (length (cut source s)) (s .len)
+inside source s = eqb (length (held source s)) (s .len)
 
 -- no bytes, or one item
 unfoldable pub okValue : List ℕ → Bool
 okValue bs = pick (eqb (length bs) 0) true (whole bs)
 
 unfoldable pub okItem : List ℕ → Span → Bool
-okItem source v = pick (inside source v) (okValue (cut source v)) false
+okItem source v = pick (inside source v) (okValue (held source v)) false
 
 unfoldable pub okEntry : List ℕ → Entry → Bool
 okEntry source o = pick (inside source (o .name)) (okItem source (o .value)) false

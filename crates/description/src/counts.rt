@@ -1,8 +1,9 @@
 // How many items of an array the parts of a description are.
 ghost use mathlib.Core.Path.{_≡_};
 ghost use mathlib.Core.List.{[]};
+ghost use Rattle.options.specs.Text.{held};
 ghost use Rattle.description.specs.Grasp.{oneMore, howMany, targetItems};
-ghost use Rattle.description.specs.Describe.{cut, targetsOf, extraOf};
+ghost use Rattle.description.specs.Describe.{targetsOf, extraOf};
 use crate::Extra;
 use crate::rows::PLACE_ROW;
 use crate::spans;
@@ -30,7 +31,7 @@ pub fn how_many(extra: Extra) -> u64
 
 // 1 for a span that covers something, else 0.
 pub fn one_more(source: &[u8], s: Span) -> u64
-    ensures { λ r. ⌜ r ≡ oneMore (cut (now (source .entry)) s) ⌝ }
+    ensures { λ r. ⌜ r ≡ oneMore (held (now (source .entry)) s) ⌝ }
 {
     if spans::covered(source, s) == 0 {
         return 0;

@@ -2,7 +2,8 @@
 ghost use mathlib.Core.Path.{_≡_};
 ghost use Prim.Native.Nat.{_+_, _*_, _≤_};
 ghost use lib.ListN.{length};
-ghost use Rattle.description.specs.Describe.{placeRow, pairRow, cut, entryOf};
+ghost use Rattle.options.specs.Text.{held};
+ghost use Rattle.description.specs.Describe.{placeRow, pairRow, entryOf};
 ghost use Rattle.description.specs.Judge.{whole, inside, okValue, okItem, okEntry, okPlace, blank, okNoneOr, okRow, okRows, okPair, okPairs, okExtra, okEnding, okDiscovery, okResponse, okFlood, okParts, hasList, okList, okDescribed};
 use crate::Description;
 use crate::Ending;
@@ -260,7 +261,7 @@ fn is_inside(source: &[u8], s: Span) -> bool
 }
 
 fn ok_value(source: &[u8], s: Span) -> bool
-    ensures { λ r. ⌜ r ≡ okValue (cut (now (source .entry)) s) ⌝ }
+    ensures { λ r. ⌜ r ≡ okValue (held (now (source .entry)) s) ⌝ }
 {
     let from = s.at;
     let len = s.len;

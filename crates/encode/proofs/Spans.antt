@@ -4,15 +4,13 @@ use Prim.Native.Nat.{ℕ, _+_, _-_, _≤_, _<_}
 use mathlib.Core.List.{List, [], _∷_}
 use native.Mathlib.Nat.{add-sub-cancel-left}
 use native.Mathlib.Omega.{arith}
-use lib.ListN.{length, take, drop, getD}
-use lib.Seq.{take-all, take-suc}
-use native.Mathlib.Numerals.{add-one}
+use lib.ListN.{length, take, drop}
+use Rattle.options.specs.Text.{held}
 use Rattle.options.specs.declared.Span.{Span}
 use Rattle.encode.specs.Put.{Wrote}
 use Rattle.description.specs.Grasp.{oneMore}
-use Rattle.description.specs.Describe.{cut}
-use Rattle.description.proofs.Cuts.{cut-none, cut-rest, cut-part}
-use Rattle.encode.proofs.Puts.{then, still}
+use Rattle.description.proofs.Held.{held-none, held-rest, held-part}
+use Rattle.encode.proofs.Puts.{still}
 
 pub more-le : (bs : List ℕ) → oneMore bs ≤ 1
 unfolding oneMore
@@ -20,14 +18,13 @@ more-le [] = omega arith
 more-le (x ∷ bs) = omega arith
 
 -- a span outside the source, one that reaches past its end, and one inside
-pub part-none : (l : List ℕ) (at : ℕ) (source : List ℕ) (s : Span) → length source < s .at → Wrote l l at (cut source s) at
-part-none l at source s h = rw (cut-none source s h) (still l at)
+pub part-none : (l : List ℕ) (at : ℕ) (source : List ℕ) (s : Span) → length source < s .at → Wrote l l at (held source s) at
+part-none l at source s h = rw (held-none source s h) (still l at)
 
 pub part-rest : {l l′ : List ℕ} {at r : ℕ} (source : List ℕ) (s : Span) → length source - s .at < s .len
-    → Wrote l l′ at (take (length source - s .at) (drop (s .at) source)) r → Wrote l l′ at (cut source s) r
-part-rest source s h w = rw (cut-rest source s h) (rw (cut-part source s) at w)
+    → Wrote l l′ at (take (length source - s .at) (drop (s .at) source)) r → Wrote l l′ at (held source s) r
+part-rest source s h w = rw (held-rest source s h) (rw (held-part source s) at w)
 
 pub part-in : {l l′ : List ℕ} {at r : ℕ} (source : List ℕ) (s : Span)
-    → Wrote l l′ at (take (s .at + s .len - s .at) (drop (s .at) source)) r → Wrote l l′ at (cut source s) r
-unfolding cut
+    → Wrote l l′ at (take (s .at + s .len - s .at) (drop (s .at) source)) r → Wrote l l′ at (held source s) r
 part-in source s w = rw (add-sub-cancel-left (s .at) (s .len)) at w

@@ -1,7 +1,8 @@
 // The eleven kinds put (RFC 8990, section 2.8), each from the front of the buffer.
+ghost use Rattle.options.specs.Text.{held};
 ghost use Rattle.encode.specs.Put.{Wrote};
 ghost use Rattle.description.specs.Grasp.{Maybe, Msg, opening, encodeMsg, encodeObj, encodeTargets, maybeObj};
-ghost use Rattle.description.specs.Describe.{cut, entryOf, objOf, targetsOf, pairsOf, extraOf, endOf, msgOf};
+ghost use Rattle.description.specs.Describe.{entryOf, objOf, targetsOf, pairsOf, extraOf, endOf, msgOf};
 use crate::locator;
 use crate::objective;
 use crate::pair;
@@ -87,7 +88,7 @@ pub(crate) fn put_discovery(
     initiator: Span,
     o: Goal,
 ) -> usize
-    ensures { λ r. ⌜ Wrote (now (out .entry)) (now (out .exit)) 0 (encodeMsg (Msg.discovery session (cut (now (source .entry)) initiator) (objOf (now (source .entry)) (entryOf o)))) r ⌝ }
+    ensures { λ r. ⌜ Wrote (now (out .entry)) (now (out .exit)) 0 (encodeMsg (Msg.discovery session (held (now (source .entry)) initiator) (objOf (now (source .entry)) (entryOf o)))) r ⌝ }
 {
     let a = put_opening(out, 4, 1, session);
     let b = put::part_string(out, a, 2, source, initiator);
@@ -104,7 +105,7 @@ pub(crate) fn put_response(
     divert: bool,
     extra: Extra,
 ) -> usize
-    ensures { λ r. ⌜ Wrote (now (out .entry)) (now (out .exit)) 0 (encodeMsg (Msg.response session (cut (now (source .entry)) initiator) ttl (targetsOf (now (source .entry)) (now (list .entry)) divert) (extraOf (now (source .entry)) extra))) r ⌝ }
+    ensures { λ r. ⌜ Wrote (now (out .entry)) (now (out .exit)) 0 (encodeMsg (Msg.response session (held (now (source .entry)) initiator) ttl (targetsOf (now (source .entry)) (now (list .entry)) divert) (extraOf (now (source .entry)) extra))) r ⌝ }
 {
     let targets = counts::target_items(list, divert);
     let more = counts::how_many(extra);
@@ -177,7 +178,7 @@ pub(crate) fn put_decline(out: &mut [u8], session: u32) -> usize
 }
 
 pub(crate) fn put_reason(out: &mut [u8], source: &[u8], session: u32, text: Span) -> usize
-    ensures { λ r. ⌜ Wrote (now (out .entry)) (now (out .exit)) 0 (encodeMsg (Msg.decline session (Maybe.some (cut (now (source .entry)) text)))) r ⌝ }
+    ensures { λ r. ⌜ Wrote (now (out .entry)) (now (out .exit)) 0 (encodeMsg (Msg.decline session (Maybe.some (held (now (source .entry)) text)))) r ⌝ }
 {
     let a = put_opening(out, 3, 6, session);
     let b = put::head(out, a, 4, 2);
@@ -200,7 +201,7 @@ pub(crate) fn put_flood(
     initiator: Span,
     ttl: u32,
 ) -> usize
-    ensures { λ r. ⌜ Wrote (now (out .entry)) (now (out .exit)) 0 (encodeMsg (Msg.flood session (cut (now (source .entry)) initiator) ttl (pairsOf (now (source .entry)) (now (list .entry))))) r ⌝ }
+    ensures { λ r. ⌜ Wrote (now (out .entry)) (now (out .exit)) 0 (encodeMsg (Msg.flood session (held (now (source .entry)) initiator) ttl (pairsOf (now (source .entry)) (now (list .entry))))) r ⌝ }
 {
     let rows = (list.len() / PAIR_ROW) as u64;
     let a = put_opening(out, 4 + rows, 9, session);
@@ -210,7 +211,7 @@ pub(crate) fn put_flood(
 }
 
 pub(crate) fn put_invalid(out: &mut [u8], source: &[u8], session: u32, item: Span) -> usize
-    ensures { λ r. ⌜ Wrote (now (out .entry)) (now (out .exit)) 0 (encodeMsg (Msg.invalid session (cut (now (source .entry)) item))) r ⌝ }
+    ensures { λ r. ⌜ Wrote (now (out .entry)) (now (out .exit)) 0 (encodeMsg (Msg.invalid session (held (now (source .entry)) item))) r ⌝ }
 {
     let more = counts::one_more(source, item);
     let a = put_opening(out, 2 + more, 99, session);

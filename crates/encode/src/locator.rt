@@ -1,9 +1,10 @@
 // Locators put (RFC 8990, section 2.9.5), from rows of five numbers.
 ghost use Prim.Native.Nat.{_+_, _*_, _<_, _≤_};
 ghost use lib.ListN.{length};
+ghost use Rattle.options.specs.Text.{held};
 ghost use Rattle.encode.specs.Put.{Wrote};
 ghost use Rattle.description.specs.Grasp.{numberOrNull, reached, fixed, encodeLoc, encodeLocs};
-ghost use Rattle.description.specs.Describe.{placeRow, cut, orNull, locOf, rowLoc, locsOf};
+ghost use Rattle.description.specs.Describe.{placeRow, orNull, locOf, rowLoc, locsOf};
 use crate::put;
 use description::rows;
 use description::rows::PLACE_ROW;
@@ -60,7 +61,7 @@ pub(crate) fn put_fixed(
     p: Place,
 ) -> usize
     requires { ⌜ major < 7 ⌝ }
-    ensures { λ r. ⌜ Wrote (now (out .entry)) (now (out .exit)) at (fixed kind major (cut (now (source .entry)) (p .content)) (p .protocol) (p .port)) r ⌝ }
+    ensures { λ r. ⌜ Wrote (now (out .entry)) (now (out .exit)) at (fixed kind major (held (now (source .entry)) (p .content)) (p .protocol) (p .port)) r ⌝ }
 {
     let a = put_reached(out, at, kind, major, source, p.content);
     let b = put::head(out, a, 0, p.protocol);
@@ -77,7 +78,7 @@ pub(crate) fn put_reached(
     s: Span,
 ) -> usize
     requires { ⌜ major < 7 ⌝ }
-    ensures { λ r. ⌜ Wrote (now (out .entry)) (now (out .exit)) at (reached kind major (cut (now (source .entry)) s)) r ⌝ }
+    ensures { λ r. ⌜ Wrote (now (out .entry)) (now (out .exit)) at (reached kind major (held (now (source .entry)) s)) r ⌝ }
 {
     let a = put::head(out, at, 4, 4);
     let b = put::head(out, a, 0, kind);

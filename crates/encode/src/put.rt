@@ -4,10 +4,10 @@ ghost use mathlib.Core.Path.{_≡_};
 ghost use mathlib.Core.List.{[], _∷_};
 ghost use Prim.Native.Nat.{_<_};
 ghost use lib.ListN.{length};
+ghost use Rattle.options.specs.Text.{held};
 ghost use Rattle.cbor.specs.Put.{head};
 ghost use Rattle.encode.specs.Put.{allEnd, allPut, Wrote};
 ghost use Rattle.description.specs.Grasp.{string};
-ghost use Rattle.description.specs.Describe.{cut};
 use description::spans;
 use options::Span;
 
@@ -61,7 +61,7 @@ fn copy(to: &mut [u8], s: &[u8])
 
 // The bytes of a span.
 pub(crate) fn part(out: &mut [u8], at: usize, source: &[u8], s: Span) -> usize
-    ensures { λ r. ⌜ Wrote (now (out .entry)) (now (out .exit)) at (cut (now (source .entry)) s) r ⌝ }
+    ensures { λ r. ⌜ Wrote (now (out .entry)) (now (out .exit)) at (held (now (source .entry)) s) r ⌝ }
 {
     let from = s.at;
     let len = s.len;
@@ -79,7 +79,7 @@ pub(crate) fn part(out: &mut [u8], at: usize, source: &[u8], s: Span) -> usize
 // A byte string (major type 2) or a text (3) with the bytes of a span.
 pub(crate) fn part_string(out: &mut [u8], at: usize, major: u8, source: &[u8], s: Span) -> usize
     requires { ⌜ major < 7 ⌝ }
-    ensures { λ r. ⌜ Wrote (now (out .entry)) (now (out .exit)) at (string major (cut (now (source .entry)) s)) r ⌝ }
+    ensures { λ r. ⌜ Wrote (now (out .entry)) (now (out .exit)) at (string major (held (now (source .entry)) s)) r ⌝ }
 {
     let n = spans::covered(source, s);
     let next = head(out, at, major, n as u64);

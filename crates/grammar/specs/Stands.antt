@@ -12,7 +12,7 @@ use Rattle.options.specs.declared.locator.Locator.{Locator}
 use Rattle.options.specs.declared.locator.Locator.the-variants as L
 use Rattle.options.specs.declared.objective.Objective.{Objective}
 use Rattle.options.specs.declared.pair.Tag.{Tag}
-use Rattle.options.specs.Text.{spanOf}
+use Rattle.options.specs.Text.{spanOf, held}
 use Rattle.grammar.specs.Cddl.{uint, text, Loc, Obj}
 
 -- the item x stands in the bytes s from p to e
@@ -34,10 +34,6 @@ pub record ArrayHead (s : List ℕ) (p q n : ℕ) : Type 0 where
   pub right : Right 4 width n
   pub is : drop p s ≡ headBytes 4 width n ++ drop q s
   pub end : q ≡ p + length (headBytes 4 width n)
-
--- the bytes that a span holds
-abbrev pub held : List ℕ → Span → List ℕ
-held s span = take (span .len) (drop (span .at) s)
 
 -- a URI's protocol and port, where 0 and 65,536 stand for null
 unfoldable pub orNull : ℕ → ℕ → Option ℕ

@@ -10,6 +10,7 @@ use native.Mathlib.Omega.{arith}
 use lib.ListN.{length, take, drop, length-map}
 use lib.Seq.{take-append-seam}
 use lib.Pow.{pow-mono}
+use Rattle.options.specs.Text.{held}
 use Rattle.base.specs.Pick.{pick}
 use Rattle.base.specs.Lists.{Every, EachPair, Distinct}
 use Rattle.base.specs.BigEndian.{Bytes}
@@ -17,7 +18,6 @@ use Rattle.base.proofs.Picks.{pick-case}
 use Rattle.base.proofs.Bools.{not-both}
 use Rattle.base.proofs.Lists.{every-imp, every-chosen, pairs-chosen}
 use Rattle.base.proofs.Pigeonhole.{pigeonhole}
-use Rattle.grammar.specs.Stands.{held}
 use Rattle.negotiation.proofs.Turns.{negotiation-bounded}
 use Rattle.node.specs.declared.Record.{Record}
 use Rattle.node.specs.declared.Kept.{Kept}

@@ -9,10 +9,11 @@ use native.Mathlib.Omega.{arith}
 use lib.Dec.{eqb}
 use lib.ListN.{length, getD, drop}
 use borrow.Author.Tests.{eq-eqb, ne-eqb}
+use Rattle.options.specs.Text.{contentIn}
 use Rattle.base.proofs.Parts.{drop-past}
 use Rattle.cbor.specs.declared.token.Token.{Token}
 use Rattle.cbor.specs.Token.{tokenAt}
-use Rattle.names.specs.Names.{contentOf, goodName, goodNames, sameBytes, ownFrom}
+use Rattle.names.specs.Names.{goodName, goodNames, sameBytes, ownFrom}
 
 -- ---- bytes
 
@@ -75,7 +76,7 @@ module _ (s : List ℕ) (at left : ℕ) (t : Token) (is : t ≡ tokenAt s at) (m
       go zero h = absurd (omega arith)
       go (suc n) h = let less : suc n - 1 ≡ n = omega arith in rw (← is, good, less) refl
 
-  pub own-here : (name : List ℕ) → sameBytes (contentOf s t) name ≡ true → ownFrom s name left at ≡ true
+  pub own-here : (name : List ℕ) → sameBytes (contentIn s t) name ≡ true → ownFrom s name left at ≡ true
   unfolding ownFrom
   own-here name here = go left more
     where
@@ -83,7 +84,7 @@ module _ (s : List ℕ) (at left : ℕ) (t : Token) (is : t ≡ tokenAt s at) (m
       go zero h = absurd (omega arith)
       go (suc n) h = rw (← is, here) refl
 
-  pub own-next : (name : List ℕ) → sameBytes (contentOf s t) name ≡ false → ownFrom s name left at ≡ ownFrom s name (left - 1) (t .next)
+  pub own-next : (name : List ℕ) → sameBytes (contentIn s t) name ≡ false → ownFrom s name left at ≡ ownFrom s name (left - 1) (t .next)
   unfolding ownFrom
   own-next name other = go left more
     where

@@ -1,8 +1,8 @@
 -- A node's own names (the rules, refusal 16): one CBOR array that passes refusals 1 to 7, with 0 to 16 items, each a UTF-8 text of at most 64 bytes.
-use Prim.Native.Nat.{ℕ, zero, suc, _-_}
+use Prim.Native.Nat.{ℕ, zero, suc}
 use mathlib.Core.Bool.{Bool, true, false, not, _&&_, _||_}
 use mathlib.Core.List.{List, [], _∷_}
-use lib.ListN.{length, take, drop}
+use lib.ListN.{length}
 use lib.Dec.{ltb, leb, eqb}
 use Rattle.base.specs.Pick.{pick}
 use Rattle.cbor.specs.declared.item.ItemRead.{ItemRead}
@@ -10,24 +10,17 @@ use Rattle.cbor.specs.declared.token.Token.{Token}
 use Rattle.cbor.specs.Item.{firstItem}
 use Rattle.cbor.specs.Token.{tokenAt}
 use Rattle.cbor.specs.Utf8.{isUtf8}
+use Rattle.options.specs.Text.{contentIn}
+use Rattle.options.specs.Objective.{mostName}
+use Rattle.message.specs.Read.{mostBytes}
 
--- house limits
-abbrev pub mostBytes : ℕ
-mostBytes = 2048
-
+-- house limit
 abbrev pub mostNames : ℕ
 mostNames = 16
 
-abbrev pub mostName : ℕ
-mostName = 64
-
--- the bytes of a string
-unfoldable pub contentOf : List ℕ → Token → List ℕ
-contentOf s t = take (t .next - t .body) (drop (t .body) s)
-
 -- a UTF-8 text of at most 64 bytes
 unfoldable pub goodName : List ℕ → Token → Bool
-goodName s t = eqb (t .major) 3 && leb (t .arg) mostName && isUtf8 (contentOf s t)
+goodName s t = eqb (t .major) 3 && leb (t .arg) mostName && isUtf8 (contentIn s t)
 
 -- n good names from `at` on
 unfoldable pub goodNames : List ℕ → ℕ → ℕ → Bool
@@ -57,7 +50,7 @@ sameBytes (x ∷ xs) (y ∷ ys) = eqb x y && sameBytes xs ys
 -- one of n names from `at` on is `name`
 unfoldable pub ownFrom : List ℕ → List ℕ → ℕ → ℕ → Bool
 ownFrom s name zero at = false
-ownFrom s name (suc n) at = sameBytes (contentOf s (tokenAt s at)) name || ownFrom s name n (tokenAt s at .next)
+ownFrom s name (suc n) at = sameBytes (contentIn s (tokenAt s at)) name || ownFrom s name n (tokenAt s at .next)
 
 -- one of the names s is `name`
 unfoldable pub isOwn : List ℕ → List ℕ → Bool

@@ -6,13 +6,11 @@ use cbor::item::ItemRead;
 use cbor::token;
 use cbor::token::Token;
 use cbor::utf8;
+use message::MOST_BYTES;
+use options::objective::MOST_NAME;
 
-// House limit: how many bytes own names have at most.
-pub const MOST_BYTES: usize = 2_048;
 // House limit: how many own names there are at most.
 pub const MOST_NAMES: u64 = 16;
-// House limit: how many bytes a name has at most.
-pub const MOST_NAME: u64 = 64;
 
 // 16: not one array that passes refusals 1 to 7, of 0 to 16 items, each a UTF-8 text of at most 64 bytes.
 pub fn are_bad(s: &[u8]) -> bool

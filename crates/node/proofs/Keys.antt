@@ -12,10 +12,10 @@ use lib.ListN.{length, getD, drop}
 use lib.Seq.{getD-take, getD-drop}
 use lib.Pow.{high}
 use borrow.Author.Tests.{eq-eqb, ne-eqb}
+use Rattle.options.specs.Text.{held}
 use Rattle.base.specs.Pick.{pick}
 use Rattle.base.specs.BigEndian.{bigEndian}
 use Rattle.base.proofs.Picks.{both}
-use Rattle.grammar.specs.Stands.{held}
 use Rattle.node.specs.declared.role.Spread.{Spread}
 use Rattle.node.specs.declared.table.Key.{Key}
 use Rattle.node.specs.Table.{tagIn, rowLife}

@@ -9,10 +9,10 @@ use lib.Count.{ones}
 use lib.Dec.{leb}
 use lib.ListN.{length}
 use borrow.Author.Tests.{eq-eqb, ne-eqb, le-leb, lt-leb, ltb-false, leb-false, not-false}
+use Rattle.options.specs.Text.{held}
 use Rattle.base.specs.Pick.{pick}
 use Rattle.base.proofs.Picks.{pick-case}
 use Rattle.base.proofs.Bools.{or-left, or-right}
-use Rattle.grammar.specs.Stands.{held}
 use Rattle.message.specs.declared.Message.{Message}
 use Rattle.message.specs.declared.Reading.{Reading}
 use Rattle.message.specs.Read.{mostBytes, readOf}

@@ -9,6 +9,7 @@ use native.Mathlib.Omega.{arith}
 use lib.ListN.{length, take, drop, length-append, length-drop}
 use lib.Seq.{length-take-le}
 use borrow.Author.Tests.{le-ltb}
+use Rattle.options.specs.Text.{held}
 use Rattle.base.specs.Pick.{pick}
 use Rattle.base.specs.BigEndian.{Bytes}
 use Rattle.base.proofs.Picks.{both}
@@ -16,7 +17,6 @@ use Rattle.cbor.specs.Put.{head}
 use Rattle.cbor.specs.Tree.{shortest}
 use Rattle.cbor.proofs.HeadExact.{length-head}
 use Rattle.options.specs.declared.Span.{Span}
-use Rattle.grammar.specs.Stands.{held}
 use Rattle.message.specs.Read.{mostBytes}
 use Rattle.description.specs.Grasp.{string, reached, fixed, encodeLoc, encodeLocs, targetItems, howMany, encodeTargets, maybeObj, opening, encodeMsg}
 use Rattle.writer.specs.declared.Written.{Written}

@@ -7,9 +7,9 @@ use Prim.Native.Nat.{_≤_, _<_}
 use lib.ListN.{length, drop}
 use lib.Count.{ones}
 use lib.Dec.{ltb, leb, eqb}
+use Rattle.options.specs.Text.{held}
 use Rattle.base.specs.Pick.{pick}
 use Rattle.options.specs.declared.objective.Objective.{Objective}
-use Rattle.grammar.specs.Stands.{held}
 use Rattle.message.specs.declared.Reading.{Reading}
 use Rattle.message.specs.Read.{mostBytes, readOf}
 use Rattle.writer.specs.Write.{lowered, answerOf}

@@ -6,10 +6,10 @@ use mathlib.Core.Logic.{_≢_}
 use mathlib.Core.Path.{_≡_}
 use lib.ListN.{length, take}
 use lib.Dec.{eqb}
+use Rattle.options.specs.Text.{held}
 use Rattle.base.specs.Pick.{pick}
 use Rattle.base.specs.Lists.{Every, EachPair, Distinct}
 use Rattle.base.specs.BigEndian.{Bytes}
-use Rattle.grammar.specs.Stands.{held}
 use Rattle.message.specs.declared.Extra.{Extra}
 use Rattle.contents.specs.declared.fields.Session.{Session}
 use Rattle.message.specs.declared.Reading.{Reading}

@@ -6,7 +6,7 @@ ghost use mathlib.Core.List.{[]};
 ghost use lib.Count.{ones};
 ghost use mathlib.Core.Bool.{not, _&&_, false};
 ghost use Prim.Native.Nat.{_^_};
-ghost use Rattle.grammar.specs.Stands.{held};
+ghost use Rattle.options.specs.Text.{held};
 ghost use Rattle.message.specs.Read.{mostBytes};
 ghost use Rattle.names.specs.Names.{sameBytes, isOwn};
 ghost use Rattle.node.specs.declared.Reply.the-variants.{Given};

@@ -16,6 +16,10 @@ unless test else rest = pick test rest else
 abbrev pub spanOf : ℕ → ℕ → Span
 spanOf at len = record { at = at; len = len }
 
+-- the bytes that a span holds
+abbrev pub held : List ℕ → Span → List ℕ
+held s span = take (span .len) (drop (span .at) s)
+
 -- the bytes of a string
 abbrev pub contentIn : List ℕ → Token → List ℕ
 contentIn s t = take (t .next - t .body) (drop (t .body) s)

@@ -22,7 +22,8 @@ use Rattle.grammar.proofs.Bridge.{array-token, token-heading, advances}
 use Rattle.grammar.proofs.Pieces.{array-at}
 use Rattle.exact.proofs.Whole.{whole}
 use Rattle.exact.proofs.Answers.{stands, walked}
-use Rattle.names.specs.Names.{mostBytes, mostNames, goodNames, arrayBad, framedBad, namesBad, ownFrom, isOwn}
+use Rattle.message.specs.Read.{mostBytes}
+use Rattle.names.specs.Names.{mostNames, goodNames, arrayBad, framedBad, namesBad, ownFrom, isOwn}
 use Rattle.own_names.specs.Own.{TextItems, TextArray, OwnNames}
 use Rattle.own_names.proofs.Texts.{texts-counted, names-sound, names-complete, own-sound, own-complete}
 

@@ -10,6 +10,7 @@ use native.Mathlib.Omega.{arith}
 use lib.ListN.{length}
 use lib.Dec.{leb, eqb}
 use borrow.Author.Tests.{eqb-true, leb-true, le-leb, eq-eqb}
+use Rattle.options.specs.Text.{contentIn}
 use Rattle.base.specs.BigEndian.{Bytes}
 use Rattle.base.specs.Lists.{Every}
 use Rattle.base.proofs.Bools.{and-left, and-right, and-true, or-true, not-both}
@@ -22,7 +23,8 @@ use Rattle.grammar.specs.Limits.{Utf8, Short}
 use Rattle.grammar.specs.Stands.{Stands, StandAll}
 use Rattle.grammar.proofs.Bridge.{split, join, none, token-heading, text-token}
 use Rattle.grammar.proofs.Pieces.{text-at}
-use Rattle.names.specs.Names.{mostName, contentOf, goodName, goodNames, sameBytes, ownFrom}
+use Rattle.options.specs.Objective.{mostName}
+use Rattle.names.specs.Names.{goodName, goodNames, sameBytes, ownFrom}
 use Rattle.own_names.specs.Own.{TextItems}
 
 -- as many texts as items
@@ -57,11 +59,11 @@ pub record NamesHere (s : List ℕ) (p n : ℕ) : Type 0 where
 module _ {s : List ℕ} (b : Bytes s) where
   -- a good name, and then others
   name-sound : {p n : ℕ} (t : Token) → p ≤ length s → t ≡ tokenAt s p → goodName s t ≡ true → (t .next ≤ length s → NamesHere s (t .next) n) → NamesHere s p (suc n)
-  unfolding goodName contentOf count
+  unfolding goodName count
   name-sound {p} {n} t low is good others =
       let kind = eqb (t .major) 3 in
       let fits = leb (t .arg) mostName in
-      let utf8 = isUtf8 (contentOf s t) in
+      let utf8 = isUtf8 (contentIn s t) in
       let front = and-left (kind && fits) utf8 good in
       let text : t .major ≡ 3 = eqb-true (t .major) 3 (and-left kind fits front) in
       let h = token-heading s p t b low is (omega arith) in
@@ -70,7 +72,7 @@ module _ {s : List ℕ} (b : Bytes s) where
       record {
         end = rest .end;
         items = Items.more _ (rest .items);
-        names = contentOf s t ∷ rest .names;
+        names = contentIn s t ∷ rest .names;
         stand = join (item .stands) (rest .stand);
         are = TextItems.more (rest .are);
         many = ap suc (rest .many);
@@ -92,10 +94,9 @@ record TextRead (s : List ℕ) (p e : ℕ) (bs : List ℕ) : Type 0 where
   pub major : tokenAt s p .major ≡ 3
   pub arg : tokenAt s p .arg ≡ length bs
   pub next : tokenAt s p .next ≡ e
-  pub content : contentOf s (tokenAt s p) ≡ bs
+  pub content : contentIn s (tokenAt s p) ≡ bs
 
 text-read : {s : List ℕ} {p e w : ℕ} {bs : List ℕ} → Stands s p e (text w bs) → TextRead s p e bs
-unfolding contentOf
 text-read {e = e} {bs = bs} a =
     let t = text-token a in
     let size : e - t .body ≡ length bs = omega (arith, t .end) in
@@ -110,7 +111,7 @@ name-complete : {s : List ℕ} {p e : ℕ} {name : List ℕ} → TextRead s p e 
 unfolding goodName
 name-complete {s} {p} t utf8 short =
     let w = tokenAt s p in
-    and-true (eqb (w .major) 3 && leb (w .arg) mostName) (isUtf8 (contentOf s w))
+    and-true (eqb (w .major) 3 && leb (w .arg) mostName) (isUtf8 (contentIn s w))
     (and-true (eqb (w .major) 3) (leb (w .arg) mostName) (eq-eqb (w .major) 3 (t .major)) (le-leb (w .arg) mostName (omega (arith, t .arg))))
     (ap isUtf8 (t .content) ∙ utf8)
 
@@ -149,8 +150,8 @@ own-sound name TextItems.empty stand own = absurd (not-both false own refl)
 own-sound {s} {p} name (TextItems.more {xs = xs} are) stand own =
     let c = split stand in
     let t = text-read (c .first) in
-    elim (or-true (sameBytes (contentOf s (tokenAt s p)) name) (ownFrom s name (count xs) (tokenAt s p .next)) own) [
-      | inl here ↦ List·Memᴰ·head (sym (sym (t .content) ∙ same-sound (contentOf s (tokenAt s p)) name here))
+    elim (or-true (sameBytes (contentIn s (tokenAt s p)) name) (ownFrom s name (count xs) (tokenAt s p .next)) own) [
+      | inl here ↦ List·Memᴰ·head (sym (sym (t .content) ∙ same-sound (contentIn s (tokenAt s p)) name here))
       | inr later ↦ List·Memᴰ·tail (own-sound name are (c .rest) (rw (t .next) at later))
     ]
 
@@ -159,8 +160,8 @@ pub own-complete : {s : List ℕ} {p e : ℕ} {xs : Items} {names : List (List �
 unfolding ownFrom count
 own-complete {s} {p} name (TextItems.more {xs = xs} are) stand (List·Memᴰ·head e) =
     let t = text-read (split stand .first) in
-    rw (same-complete (contentOf s (tokenAt s p)) name (t .content ∙ sym e)) refl
+    rw (same-complete (contentIn s (tokenAt s p)) name (t .content ∙ sym e)) refl
 own-complete {s} {p} name (TextItems.more {xs = xs} are) stand (List·Memᴰ·tail m) =
     let c = split stand in
     let later : ownFrom s name (count xs) (tokenAt s p .next) ≡ true = rw (text-read (c .first) .next) (own-complete name are (c .rest) m) in
-    rw later (B.or-true (sameBytes (contentOf s (tokenAt s p)) name))
+    rw later (B.or-true (sameBytes (contentIn s (tokenAt s p)) name))

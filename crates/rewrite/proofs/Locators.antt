@@ -30,7 +30,7 @@ use Rattle.grammar.proofs.Bridge.{split, advances}
 use Rattle.grammar.proofs.Locators.{locator-read}
 use Rattle.description.specs.declared.rows.Place.{Place}
 use Rattle.description.specs.Grasp as W
-use Rattle.description.specs.Describe.{placeRow, cut, orNull, locOf, placeAt}
+use Rattle.description.specs.Describe.{placeRow, orNull, locOf, placeAt}
 use Rattle.describe.specs.Rows.{locatorNextFrom, locatorRowFrom, locatorNext, locatorRow}
 use Rattle.roundtrip.specs.Plain.{plainMaybe, plainNumber, plainLoc}
 use Rattle.roundtrip.specs.Says.{Inside, PlaceSays}
@@ -105,7 +105,7 @@ pub record PlaceIs (m : List ℕ) (p : Place) (loc : Loc) : Type 0 where
   pub says : PlaceSays m p
 
 pub placed : {m : List ℕ} {x : Item} (l : Locator) → TextIn m l → LocatorItem x (S.locOf m l) → (rest : List ℕ) → PlaceIs m (placeAt (locatorNumbers l ++ rest) 0) (S.locOf m l)
-unfolding locatorNumbers placeAt locOf S.locOf plainLoc cut pick
+unfolding locatorNumbers placeAt locOf S.locOf plainLoc pick
 placed (L.V6 at protocol port) t (LocatorItem.v6 n _ _) rest =
     record { is = refl; says = record { least = lit≤ tt; most = lit≤ tt; content = address-in _ at 16 (lit≤ tt) n } }
 placed (L.V4 at protocol port) t (LocatorItem.v4 n _ _) rest =

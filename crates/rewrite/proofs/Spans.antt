@@ -12,12 +12,12 @@ use lib.Seq.{take-at, drop-at, take-length}
 use Rattle.cbor.specs.Tree.{Item, encode}
 use Rattle.options.specs.declared.Span.{Span}
 use Rattle.options.specs.declared.objective.Objective.{Objective}
-use Rattle.options.specs.Text.{spanOf}
+use Rattle.options.specs.Text.{spanOf, held}
 use Rattle.grammar.specs.Cddl.{Obj}
 use Rattle.grammar.specs.Stands.{Stands, ValueIs, ObjectiveIs}
 use Rattle.grammar.proofs.Bridge.{text-token}
 use Rattle.description.specs.Grasp as W
-use Rattle.description.specs.Describe.{cut, entryOf, objOf}
+use Rattle.description.specs.Describe.{entryOf, objOf}
 use Rattle.describe.specs.Describe.{goalOf}
 use Rattle.roundtrip.specs.Plain.{plainItem, plainObj}
 use Rattle.roundtrip.specs.Says.{Inside, EntrySays}
@@ -25,11 +25,10 @@ use Rattle.roundtrip.specs.Says.{Inside, EntrySays}
 -- a span of these bytes
 pub record Cuts (s : List ℕ) (span : Span) (bs : List ℕ) : Type 0 where
   pub inside : Inside s span
-  pub is : cut s span ≡ bs
+  pub is : held s span ≡ bs
 
 -- the content of a string that stands before e
 pub string-cuts : {s : List ℕ} {p e w : ℕ} {t : Bool} {bs : List ℕ} {span : Span} → Stands s p e (Item.string t w bs) → span ≡ spanOf (e - length bs) (length bs) → Cuts s span bs
-unfolding cut
 string-cuts {s} {e = e} {bs = bs} {span} a q =
     let string = text-token a in
     let place : e - length bs ≡ string .body = omega (arith, string .end) in
@@ -38,7 +37,7 @@ string-cuts {s} {e = e} {bs = bs} {span} a q =
 
 -- an item, or none
 pub value-cuts : {s : List ℕ} {span : Span} {v : Option Item} → ValueIs s span v → Cuts s span (plainItem v)
-unfolding cut plainItem
+unfolding plainItem
 value-cuts {s} {span} (ValueIs.absent e) = record { inside = inl e; is = ap (λ (k : ℕ). take k (drop (span .at) s)) e }
 value-cuts {s} {span} (ValueIs.present {x} a) = record {
   inside = inr (a .within);
@@ -47,7 +46,6 @@ value-cuts {s} {span} (ValueIs.present {x} a) = record {
 
 -- the end of the bytes
 pub end-cuts : {s : List ℕ} {span : Span} (before bs : List ℕ) → before ++ bs ≡ s → span ≡ spanOf (length s - length bs) (length bs) → Cuts s span bs
-unfolding cut
 end-cuts {s} {span} before bs e q =
     let sum : length s ≡ length before + length bs = ap length (sym e) ∙ length-append before bs in
     let place : length before ≡ length s - length bs = omega arith in

@@ -6,6 +6,7 @@ use Prim.Native.Nat.{ℕ, _+_, _*_, _/_, _<_}
 use native.Mathlib.Omega.{arith}
 use lib.Dec.{eqb, lit<}
 use lib.ListN.{length}
+use Rattle.options.specs.Text.{held}
 use Rattle.base.specs.BigEndian.{Bytes, bytesOf}
 use Rattle.base.specs.Lists.{Every}
 use Rattle.base.proofs.Picks.{both}
@@ -21,11 +22,11 @@ use Rattle.description.specs.declared.Ending.the-variants as E
 use Rattle.description.specs.declared.Description.{Description}
 use Rattle.description.specs.declared.Description.the-variants as D
 use Rattle.description.specs.Grasp.{Maybe, Loc, Pair, string, numberOrNull, reached, fixed, encodeLoc, encodeLocs, encodeObj, maybeObj, locOrEmpty, encodePair, encodePairs, encodeTargets, reason, opening, encodeMsg}
-use Rattle.description.specs.Describe.{placeRow, pairRow, entryRow, cut, entryOf, objOf, orNull, locOf, placeAt, entryAt, rowLoc, locsOf, targetsOf, extraOf, locOrNone, rowPair, pairsOf, endOf, msgOf}
+use Rattle.description.specs.Describe.{placeRow, pairRow, entryRow, entryOf, objOf, orNull, locOf, placeAt, entryAt, rowLoc, locsOf, targetsOf, extraOf, locOrNone, rowPair, pairsOf, endOf, msgOf}
 use Rattle.roundtrip.proofs.Bytes.{bytes-append, bytes-more, bytes-none, bytes-of}
 use Rattle.roundtrip.proofs.Script.{info-least}
 use Rattle.roundtrip.proofs.Once.{Told}
-use Rattle.roundtrip.proofs.Judged.{bytes-cut, up-to-exactly}
+use Rattle.roundtrip.proofs.Judged.{bytes-held, up-to-exactly}
 
 -- ---- the kind
 -- an End's
@@ -101,20 +102,20 @@ opening-bytes n kind session = then (then (array-bytes n) (number-bytes kind)) (
 
 module _ (source : List ℕ) (b : Bytes source) where
   -- strings of the source
-  string-bytes : (major : ℕ) (s : Span) → major < 7 → AllBytes (string major (cut source s))
+  string-bytes : (major : ℕ) (s : Span) → major < 7 → AllBytes (string major (held source s))
   unfolding string
-  string-bytes major s h = then (head-bytes major (length (cut source s)) h) (record { are = bytes-cut source s b })
+  string-bytes major s h = then (head-bytes major (length (held source s)) h) (record { are = bytes-held source s b })
 
   -- a text
-  text-bytes : (s : Span) → AllBytes (string 3 (cut source s))
+  text-bytes : (s : Span) → AllBytes (string 3 (held source s))
   text-bytes s = string-bytes 3 s (lit< tt)
 
   -- an address
-  address-bytes : (s : Span) → AllBytes (string 2 (cut source s))
+  address-bytes : (s : Span) → AllBytes (string 2 (held source s))
   address-bytes s = string-bytes 2 s (lit< tt)
 
   -- a locator with a protocol and a port
-  fixed-bytes : (kind major : ℕ) (s : Span) (p q : ℕ) → major < 7 → AllBytes (fixed kind major (cut source s) p q)
+  fixed-bytes : (kind major : ℕ) (s : Span) (p q : ℕ) → major < 7 → AllBytes (fixed kind major (held source s) p q)
   unfolding fixed reached
   fixed-bytes kind major s p q h = then (then (then (then (array-bytes 4) (number-bytes kind)) (string-bytes major s h)) (number-bytes p)) (number-bytes q)
 
@@ -131,7 +132,7 @@ module _ (source : List ℕ) (b : Bytes source) where
   objective-bytes : (o : Entry) → AllBytes (encodeObj (objOf source o))
   unfolding objOf encodeObj
   objective-bytes o =
-      then (then (then (then (array-bytes _) (text-bytes (o .name))) (number-bytes (o .flags))) (number-bytes (o .count))) (record { are = bytes-cut source (o .value) b })
+      then (then (then (then (array-bytes _) (text-bytes (o .name))) (number-bytes (o .flags))) (number-bytes (o .count))) (record { are = bytes-held source (o .value) b })
 
   -- the locators of a list
   rows-bytes : (list : List ℕ) → AllBytes (encodeLocs (locsOf source list))
@@ -177,7 +178,7 @@ module _ (source : List ℕ) (b : Bytes source) where
       then (then (then (opening-bytes _ 9 s) (address-bytes i)) (number-bytes t))
       (pairs-bytes (pairsOf source list)
       (up-to-exactly (λ p. AllBytes (encodePair p)) (rowPair source list) (length list / pairRow) .1 (λ i l. pair-bytes list i)))
-  message-bytes list (D.Invalid s v) = then (opening-bytes _ 99 s) (record { are = bytes-cut source v b })
+  message-bytes list (D.Invalid s v) = then (opening-bytes _ 99 s) (record { are = bytes-held source v b })
 
   -- What is written for a source of bytes is made of bytes.
   pub draft-bytes : (list : List ℕ) (d : Description) → Bytes (encodeMsg (msgOf source list d))

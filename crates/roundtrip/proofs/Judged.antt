@@ -12,6 +12,7 @@ use lib.Dec.{ltb, eqb, lit<}
 use lib.ListN.{length, take, drop, getD, length-take, length-drop}
 use lib.Seq.{take-length}
 use borrow.Author.Tests.{ltb-false, eqb-true, eqb-false, le-ltb, eq-eqb}
+use Rattle.options.specs.Text.{held}
 use Rattle.base.specs.Pick.{pick}
 use Rattle.base.specs.BigEndian.{Bytes}
 use Rattle.base.specs.Lists.{Every}
@@ -32,7 +33,7 @@ use Rattle.description.specs.declared.Ending.{Ending}
 use Rattle.description.specs.declared.Ending.the-variants as E
 use Rattle.description.specs.declared.Description.{Description}
 use Rattle.description.specs.declared.Description.the-variants as D
-use Rattle.description.specs.Describe.{placeRow, pairRow, entryRow, upTo, cut, entryOf, objOf, placeAt, entryAt, rowPair, pairsOf, extraOf, endOf, msgOf}
+use Rattle.description.specs.Describe.{placeRow, pairRow, entryRow, upTo, entryOf, objOf, placeAt, entryAt, rowPair, pairsOf, extraOf, endOf, msgOf}
 use Rattle.description.specs.Judge.{okDiscovery, okResponse, okFlood, okParts, hasList, okList, okDescribed, alone, whole, inside, okValue, okItem, okEntry, okPlace, blank, okNoneOr, allFrom, okRow, okRows, okPair, okPairs, okExtra, okEnding}
 use Rattle.roundtrip.specs.Says.{Inside, EntrySays, PlaceSays, Blank, PairSays, Rows, ExtraSays, EndingSays, PartsSay}
 use Rattle.roundtrip.proofs.Script.{Valued}
@@ -74,8 +75,8 @@ retold f g h = (λ p. g (f .0 p), λ b. f .1 (h b))
 -- ---- spans and values
 -- a span in the source
 inside-exactly : (source : List ℕ) (s : Span) → inside source s ≡ true ↔ Inside source s
-unfolding inside cut
-inside-exactly source s = retold (equal-exactly (length (cut source s)) (s .len)) there back
+unfolding inside
+inside-exactly source s = retold (equal-exactly (length (held source s)) (s .len)) there back
   where
     there : length (take (s .len) (drop (s .at) source)) ≡ s .len → Inside source s
     there e =
@@ -132,9 +133,8 @@ bytes-front (suc n) (x ∷ s) b zero = b 0
 bytes-front (suc n) (x ∷ s) b (suc i) = bytes-front n s (λ j. b (suc j)) i
 
 -- a span's
-pub bytes-cut : (source : List ℕ) (s : Span) → Bytes source → Bytes (cut source s)
-unfolding cut
-bytes-cut source s b = bytes-front (s .len) (drop (s .at) source) (bytes-drop (s .at) source b)
+pub bytes-held : (source : List ℕ) (s : Span) → Bytes source → Bytes (held source s)
+bytes-held source s b = bytes-front (s .len) (drop (s .at) source) (bytes-drop (s .at) source b)
 
 -- ---- rows
 -- each of the first n
@@ -179,12 +179,12 @@ list-exactly list = retold (equal-exactly (length list) 0) (no-bytes list) (ap l
 module _ (source : List ℕ) (b : Bytes source) where
   -- ---- the parts
   -- an item
-  item-exactly : (v : Span) → okItem source v ≡ true ↔ (Inside source v × Valued (cut source v))
+  item-exactly : (v : Span) → okItem source v ≡ true ↔ (Inside source v × Valued (held source v))
   unfolding okItem
-  item-exactly v = and-exactly (inside-exactly source v) (value-exactly (cut source v) (bytes-cut source v b))
+  item-exactly v = and-exactly (inside-exactly source v) (value-exactly (held source v) (bytes-held source v b))
 
   -- an objective
-  entry-exactly : (o : Entry) → okEntry source o ≡ true ↔ (EntrySays source o × Valued (cut source (o .value)))
+  entry-exactly : (o : Entry) → okEntry source o ≡ true ↔ (EntrySays source o × Valued (held source (o .value)))
   unfolding okEntry
   entry-exactly o =
       retold (and-exactly (inside-exactly source (o .name)) (item-exactly (o .value)))
@@ -270,7 +270,7 @@ module _ (source : List ℕ) (b : Bytes source) where
 
   -- ---- descriptions
   -- an objective, and no list
-  exchange-exactly : (list : List ℕ) (o : Entry) → pick (eqb (length list) 0) (okEntry source o) false ≡ true ↔ (((list ≡ []) × EntrySays source o) × Valued (cut source (o .value)))
+  exchange-exactly : (list : List ℕ) (o : Entry) → pick (eqb (length list) 0) (okEntry source o) false ≡ true ↔ (((list ≡ []) × EntrySays source o) × Valued (held source (o .value)))
   exchange-exactly list o =
       retold (and-exactly (list-exactly list) (entry-exactly o)) (λ h. ((h .0, h .1 .0), h .1 .1)) (λ h. (h .0 .0, (h .0 .1, h .1)))
 

@@ -10,6 +10,7 @@ use lib.Dec.{lit<}
 use lib.ListN.{length, take, drop, length-append}
 use borrow.Author.Tests.{ne-eqb, le-ltb}
 use lib.Seq.{take-at, drop-append-add, drop-at}
+use Rattle.options.specs.Text.{held}
 use Rattle.base.specs.Pick.{pick}
 use Rattle.base.specs.BigEndian.{Bytes}
 use Rattle.cbor.specs.Put.{head}
@@ -20,7 +21,6 @@ use Rattle.options.specs.declared.Span.{Span}
 use Rattle.options.specs.declared.objective.Objective.{Objective}
 use Rattle.grammar.specs.Cddl.{Msg}
 use Rattle.grammar.specs.Limits.{TextsGood, NamesGood, textsOf, namesOf, pairsTexts, pairTexts, pairsNames}
-use Rattle.grammar.specs.Stands.{held}
 use Rattle.grammar.proofs.Bridge.{text-token}
 use Rattle.message.specs.declared.Extra.{Extra}
 use Rattle.message.specs.declared.Message.{Message}

@@ -10,19 +10,19 @@ use native.Mathlib.Omega.{arith}
 use lib.Dec.{ltb, leb, eqb}
 use lib.ListN.{length}
 use borrow.Author.Tests.{leb-true, eqb-true, le-leb, eq-eqb, ne-eqb}
+use Rattle.options.specs.Text.{held, contentIn}
 use Rattle.base.specs.Pick.{pick}
 use Rattle.base.proofs.Picks.{pick-case}
 use Rattle.base.proofs.Bools.{and-left, and-right, and-true, not-both, or-true}
 use Rattle.options.specs.declared.Span.{Span}
 use Rattle.options.specs.declared.objective.Objective.{Objective}
-use Rattle.grammar.specs.Stands.{held}
 use Rattle.message.specs.declared.Message.{Message}
 use Rattle.message.specs.declared.Message.the-variants as M
 use Rattle.message.specs.declared.Series.{Series}
 use Rattle.message.specs.declared.Reading.{Reading}
 use Rattle.message.specs.Read.{readOf}
 use Rattle.cbor.specs.Token.{tokenAt}
-use Rattle.names.specs.Names.{mostNames, contentOf, sameBytes, ownFrom, isOwn}
+use Rattle.names.specs.Names.{mostNames, sameBytes, ownFrom, isOwn}
 use Rattle.node.specs.declared.Record.{Record}
 use Rattle.node.specs.declared.Verdict.{Verdict}
 use Rattle.node.specs.declared.Verdict.the-variants.{Own, Answer, Duplicate, Last, Nowhere, NoRow, Relay, Noop, Hand}
@@ -78,17 +78,17 @@ own-from s name (suc n) at = (λ e. there (own-from s name n (tokenAt s at .next
     Rest = ownFrom s name n (tokenAt s at .next) ≡ true ↔ List·Memᴰ name (namesFrom s n (tokenAt s at .next))
 
     here : Bool
-    here = sameBytes (contentOf s (tokenAt s at)) name
+    here = sameBytes (contentIn s (tokenAt s at)) name
 
     rest : Bool
     rest = ownFrom s name n (tokenAt s at .next)
 
-    there : Rest → (here ≡ true) ⊎ (rest ≡ true) → List·Memᴰ name (contentOf s (tokenAt s at) ∷ namesFrom s n (tokenAt s at .next))
-    there ih (inl e) = List·Memᴰ·head (sym (same-bytes (contentOf s (tokenAt s at)) name .0 e))
+    there : Rest → (here ≡ true) ⊎ (rest ≡ true) → List·Memᴰ name (contentIn s (tokenAt s at) ∷ namesFrom s n (tokenAt s at .next))
+    there ih (inl e) = List·Memᴰ·head (sym (same-bytes (contentIn s (tokenAt s at)) name .0 e))
     there ih (inr e) = List·Memᴰ·tail (ih .0 e)
 
-    back : Rest → List·Memᴰ name (contentOf s (tokenAt s at) ∷ namesFrom s n (tokenAt s at .next)) → (here || rest) ≡ true
-    back ih (List·Memᴰ·head e) = rw (same-bytes (contentOf s (tokenAt s at)) name .1 (sym e)) refl
+    back : Rest → List·Memᴰ name (contentIn s (tokenAt s at) ∷ namesFrom s n (tokenAt s at .next)) → (here || rest) ≡ true
+    back ih (List·Memᴰ·head e) = rw (same-bytes (contentIn s (tokenAt s at)) name .1 (sym e)) refl
     back ih (List·Memᴰ·tail m) = rw (ih .1 m) (or-last here)
       where
         or-last : (b : Bool) → (b || true) ≡ true

@@ -6,17 +6,17 @@ use mathlib.Core.Logic.{_≢_, _⊎_}
 use mathlib.Core.Path.{_≡_}
 use lib.ListN.{length}
 use lib.Dec.{ltb}
+use Rattle.options.specs.Text.{held, contentIn}
 use Rattle.base.specs.Pick.{pick}
 use Rattle.cbor.specs.Token.{tokenAt}
 use Rattle.options.specs.declared.Span.{Span}
 use Rattle.options.specs.declared.objective.Objective.{Objective}
-use Rattle.grammar.specs.Stands.{held}
 use Rattle.message.specs.declared.Message.{Message}
 use Rattle.message.specs.declared.Message.the-variants as M
 use Rattle.message.specs.declared.Series.{Series}
 use Rattle.message.specs.declared.Reading.{Reading}
 use Rattle.message.specs.Read.{readOf}
-use Rattle.names.specs.Names.{mostNames, contentOf}
+use Rattle.names.specs.Names.{mostNames}
 use Rattle.node.specs.declared.Record.{Record}
 use Rattle.node.specs.declared.Verdict.{Verdict}
 use Rattle.node.specs.declared.Verdict.the-variants.{Own, Answer, Duplicate, Last, Nowhere, NoRow, Relay, Noop, Hand}
@@ -36,7 +36,7 @@ Ours r c initiator = held (c .message) initiator ≡ r .address
 -- n names, one after the other from `at` on
 unfoldable pub namesFrom : List ℕ → ℕ → ℕ → List (List ℕ)
 namesFrom s zero at = []
-namesFrom s (suc n) at = contentOf s (tokenAt s at) ∷ namesFrom s n (tokenAt s at .next)
+namesFrom s (suc n) at = contentIn s (tokenAt s at) ∷ namesFrom s n (tokenAt s at .next)
 
 -- the names in an array of at most 16
 unfoldable pub namesIn : List ℕ → List (List ℕ)

@@ -6,7 +6,7 @@ use native.Mathlib.Omega.{arith}
 use borrow.Author.Needs.{needs}
 use borrow.Author.Tests.{lt-ltb, le-ltb}
 use Rattle.base.specs.Pick.{pick}
-use Rattle.names.specs.Names.{isOwn, ownFrom, contentOf}
+use Rattle.names.specs.Names.{isOwn, ownFrom}
 use Rattle.names.proofs.Walks.{own-here, own-next}
 use Rattle.names.proofs.are_with.Statement.{statement}
 use Rattle.names.proofs.are_with.Tie as tie
@@ -56,7 +56,7 @@ are-same-requires c κs = search needs
 
 -- src/lib.rt:94:13
 returns-2 : tie.Need-returns-2 Inv-loop μ-loop
-unfolding isOwn pick contentOf
+unfolding isOwn pick
 returns-2 c = rw (sym (c .before .before .before .before .before .before .before .before .token-at .ensures .is), le-ltb 16 _ (c .before .before .before .before .before .before .if1 .left), sym (c .before .before .before .before .before .loop .inv) ∙ own-here (c .before .before .before .before .before .before .before .before .before .before .before .args .s .now) (c .before .before .before .before .before .loop .at) (c .before .before .before .before .before .loop .left) _ (c .before .before .before .token-at2 .ensures .is) (c .before .before .before .before .loop-test .taken) (c .before .before .before .before .before .before .before .before .before .before .before .args .name .now) (sym (c .before .are-same .ensures) ∙ c .if2 .taken)) refl
 
 -- src/lib.rt:97:9
@@ -69,7 +69,6 @@ loop-less c = omega arith
 
 -- src/lib.rt:89:5
 loop-again : tie.Need-loop-again Inv-loop μ-loop
-unfolding contentOf
 loop-again c = sym (own-next (c .before .before .before .before .before .before .before .before .before .before .before .args .s .now) (c .before .before .before .before .before .loop .at) (c .before .before .before .before .before .loop .left) _ (c .before .before .before .token-at2 .ensures .is) (c .before .before .before .before .loop-test .taken) (c .before .before .before .before .before .before .before .before .before .before .before .args .name .now) (sym (c .before .are-same .ensures) ∙ c .if2 .left)) ∙ c .before .before .before .before .before .loop .inv
 
 -- src/lib.rt:80:1

@@ -10,7 +10,7 @@ use Rattle.description.proofs.judge.ok_bytes.Reads as ok-bytes-reads
 
 -- src/judge.rt:260:9
 returns : tie.Need-returns
-returns c = value-none _ _ (c .if1 .taken)
+returns c = value-none (c .before .before .args .source .now) (c .before .before .args .s) (c .if1 .taken)
 
 -- src/judge.rt:262:16
 sub-room : tie.Need-sub-room
@@ -34,7 +34,7 @@ ok-bytes-requires c κs = search needs
 
 -- src/judge.rt:264:9
 returns-2 : tie.Need-returns-2
-returns-2 c = value-rest _ _ _ (c .before .before .if2 .taken) (c .ok-bytes .ensures)
+returns-2 c = value-rest (c .before .before .before .before .before .args .source .now) (c .before .before .before .before .before .args .s) _ (c .before .before .if2 .taken) (c .ok-bytes .ensures)
 
 -- src/judge.rt:266:15
 add-end : tie.Need-add-end
@@ -58,7 +58,7 @@ ok-bytes-requires-2 c κs = search needs
 
 -- src/judge.rt:254:1
 returns-3 : tie.Need-returns-3
-returns-3 c = value-in _ _ _ (c .ok-bytes2 .ensures)
+returns-3 c = value-in (c .before .before .before .before .before .args .source .now) (c .before .before .before .before .before .args .s) _ (c .ok-bytes2 .ensures)
 
 pub ok-value-spec : {M : Type 1} → statement M
 ok-value-spec =

@@ -1,6 +1,6 @@
 -- `description::spans::covered` meets its contract.
 -- Assumes nothing.
-use Rattle.description.proofs.Cuts.{cut-none, length-cut, length-cut-in}
+use Rattle.description.proofs.Held.{held-none, length-held, length-held-in}
 use mathlib.Core.Path.{sym, ap}
 use lib.ListN.{length}
 use borrow.Author.Needs.{needs}
@@ -11,7 +11,7 @@ use Rattle.description.proofs.spans.covered.Lts as lts
 
 -- src/spans.rt:13:9
 returns : tie.Need-returns
-returns c = sym (ap length (cut-none _ _ (c .if1 .taken)))
+returns c = sym (ap length (held-none (c .before .args .source .now) (c .before .args .s) (c .if1 .taken)))
 
 -- src/spans.rt:15:16
 sub-room : tie.Need-sub-room
@@ -19,11 +19,11 @@ sub-room c = search needs
 
 -- src/spans.rt:17:9
 returns-2 : tie.Need-returns-2
-returns-2 c = length-cut _ _ (c .if2 .taken)
+returns-2 c = length-held (c .before .before .before .args .source .now) (c .before .before .before .args .s) (c .if2 .taken)
 
 -- src/spans.rt:8:1
 returns-3 : tie.Need-returns-3
-returns-3 c = length-cut-in _ _ (c .if2 .left)
+returns-3 c = length-held-in (c .before .before .before .args .source .now) (c .before .before .before .args .s) (c .if2 .left)
 
 pub covered-spec : {M : Type 1} → statement M
 covered-spec = tie.close (tie.spec returns sub-room returns-2 returns-3)

@@ -1,8 +1,8 @@
 -- `encode::kinds::put_invalid` meets its contract.
 -- Assumes nothing.
+use Rattle.options.specs.Text.{held}
 use Rattle.description.specs.Grasp.{encodeMsg}
 use Rattle.encode.proofs.Puts.{then}
-use Rattle.description.specs.Describe.{cut}
 use Rattle.encode.proofs.Spans.{more-le}
 use native.Mathlib.Omega.{arith}
 use borrow.Author.Needs.{needs}
@@ -13,7 +13,7 @@ one-more-requires : tie.Need-one-more-requires
 one-more-requires c κs = search needs
 
 add-put-opening : tie.Need-add-put-opening
-add-put-opening c = omega (arith, (c .before .one-more .ensures), more-le (cut (c .before .before .before .before .args .source .now) (c .before .before .before .before .args .item)))
+add-put-opening c = omega (arith, (c .before .one-more .ensures), more-le (held (c .before .before .before .before .args .source .now) (c .before .before .before .before .args .item)))
 
 put-opening-requires : tie.Need-put-opening-requires
 put-opening-requires c κs = search needs

@@ -1,7 +1,8 @@
 -- `encode::objective::put_entry` meets its contract.
 -- Assumes nothing.
+use Rattle.options.specs.Text.{held}
 use Rattle.description.specs.Grasp.{encodeObj}
-use Rattle.description.specs.Describe.{cut, objOf}
+use Rattle.description.specs.Describe.{objOf}
 use Rattle.encode.proofs.Puts.{then}
 use native.Mathlib.Omega.{arith}
 use Rattle.encode.proofs.Spans.{more-le}
@@ -13,7 +14,7 @@ one-more-requires : tie.Need-one-more-requires
 one-more-requires c κs = search needs
 
 add-head : tie.Need-add-head
-add-head c = omega (arith, (c .before .one-more .ensures), more-le (cut (c .before .before .before .before .args .source .now) (c .before .before .before .before .args .o .value)))
+add-head c = omega (arith, (c .before .one-more .ensures), more-le (held (c .before .before .before .before .args .source .now) (c .before .before .before .before .args .o .value)))
 
 head-requires : tie.Need-head-requires
 head-requires c κs = search needs
