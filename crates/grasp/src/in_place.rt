@@ -3,10 +3,10 @@
 ghost use mathlib.Core.Path.{_≡_};
 ghost use Rattle.node.specs.Record.{keeps, setLinks};
 ghost use Rattle.node.specs.Call.{callOf};
-ghost use Rattle.grasp.specs.Call.{leftOf, callLeft};
-ghost use Rattle.grasp.specs.InPlace.{freshOver};
-use crate::call;
-use node::Kept;
+ghost use Rattle.host.specs.Call.{leftOf, callLeft};
+ghost use Rattle.host.specs.Records.{freshOver};
+use host::call;
+use host::records;
 use node::Record;
 
 // 0 and a fresh record, or 12.
@@ -21,7 +21,7 @@ pub extern "C" fn grasp_record_fresh(
 ) -> u8
     ensures { λ r. ⌜ keeps r (now (node .exit)) ≡ freshOver (now (node .entry)) (now (address .entry)) port ttl interfaces links ⌝ }
 {
-    let kept = fresh_over(*node, address, port, ttl, interfaces, links);
+    let kept = records::fresh_over(*node, address, port, ttl, interfaces, links);
     *node = kept.node;
     kept.refusal
 }
@@ -53,23 +53,4 @@ pub extern "C" fn grasp_record_call(
     let kept = call::call_into(*node, bytes, clock, interface, names, message, out, answer);
     *node = kept.node;
     kept.refusal
-}
-
-// A fresh record, or 12 and the one that was there.
-fn fresh_over(
-    node: Record,
-    address: &[u8; 16],
-    port: u16,
-    ttl: u32,
-    interfaces: u64,
-    links: u64,
-) -> Kept
-    ensures { λ r. ⌜ r ≡ freshOver node (now (address .entry)) port ttl interfaces links ⌝ }
-{
-    let kept = Record::fresh(*address, port, ttl, interfaces, links);
-    let refusal = kept.refusal;
-    if refusal != 0 {
-        return Kept { refusal, node };
-    }
-    kept
 }

@@ -45,12 +45,12 @@ use Rattle.node.proofs.Record.Laws as T′
 use Rattle.node.proofs.Kept as S
 use Rattle.node.proofs.Kept.Laws as S′
 use Rattle.node.specs.Call.{callOf}
-use Rattle.grasp.specs.Call.{leftOf, callLeft}
+use Rattle.host.specs.Call.{leftOf, callLeft}
 use Rattle.grasp.proofs.InPlace.{others, stayed, vals, kept, small, opened, closed, answered, to-step, to-exit, Ends, ends, meets}
-use Rattle.grasp.proofs.call.call_into as step
-use Rattle.grasp.proofs.call.call_into.Symbol as step-def
-use Rattle.grasp.proofs.call.call_into.Symbol.{name as #step}
-use Rattle.grasp.proofs.call.call_into.Met as step-thm
+use Rattle.host.proofs.call.call_into as step
+use Rattle.host.proofs.call.call_into.Symbol as step-def
+use Rattle.host.proofs.call.call_into.Symbol.{name as #step}
+use Rattle.host.proofs.call.call_into.Met as step-thm
 use Rattle.grasp.proofs.in_place.grasp_record_call.Key.{name as #f}
 use Rattle.grasp.proofs.in_place.grasp_record_call as f
 use Rattle.grasp.proofs.in_place.grasp_record_call.Statement as stated
@@ -144,4 +144,4 @@ grasp-record-call-spec 𝓤 H 𝓜 𝓖 𝓡 =
     (λ κs. (ptr-vals, (slice-vals, (uint-vals w64, (uint-vals w64, (slice-vals, (slice-vals, (slice-vals, (ptr-vals, tt)))))))))
     (λ κs. (mut-tells (named 0) (κs .0) T.the-row, (mut-slice-tells (named 1) (κs .1 .0) u8, (uint-tells w64, (uint-tells w64, (shr-slice-tells (named 2) (κs .1 .1 .0) u8, (shr-slice-tells (named 3) (κs .1 .1 .1 .0) u8, (mut-slice-tells (named 4) (κs .1 .1 .1 .1 .0) u8, (mut-tells (named 5) (κs .1 .1 .1 .1 .1 .0) (Array u64 4), tt)))))))))
     (λ κs qs bounds a _ are. via 𝓤 _ (fst∗ 𝓤 _ (emp 𝓤)) (walk 𝓤 H (𝓖 .A) W (𝓜 .mem) (𝓡 .run) κs qs a are (𝓣 .C) (𝓣 .Λ) (fmOf 𝓤 H (W .laws) 𝓣)
-    (cited 𝓤 H (Step 𝓤 H (𝓖 .A) (𝓜 .mem) (𝓡 .run)) 𝓜 𝓡 code.env #step step-def.routine code.calls-grasp·call·call-into (step-thm.met 𝓤 H 𝓜 𝓖 𝓡))))))
+    (cited 𝓤 H (Step 𝓤 H (𝓖 .A) (𝓜 .mem) (𝓡 .run)) 𝓜 𝓡 code.env #step step-def.routine code.calls-host·call·call-into (step-thm.met 𝓤 H 𝓜 𝓖 𝓡))))))

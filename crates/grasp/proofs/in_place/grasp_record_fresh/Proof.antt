@@ -43,12 +43,12 @@ use Rattle.node.proofs.Record as T
 use Rattle.node.proofs.Record.Laws as T′
 use Rattle.node.proofs.Kept as S
 use Rattle.node.proofs.Kept.Laws as S′
-use Rattle.grasp.specs.InPlace.{freshOver}
+use Rattle.host.specs.Records.{freshOver}
 use Rattle.grasp.proofs.InPlace.{others, stayed, vals, kept, small, opened, closed, answered, to-step, to-exit, Ends, ends, meets}
-use Rattle.grasp.proofs.in_place.fresh_over as step
-use Rattle.grasp.proofs.in_place.fresh_over.Symbol as step-def
-use Rattle.grasp.proofs.in_place.fresh_over.Symbol.{name as #step}
-use Rattle.grasp.proofs.in_place.fresh_over.Met as step-thm
+use Rattle.host.proofs.records.fresh_over as step
+use Rattle.host.proofs.records.fresh_over.Symbol as step-def
+use Rattle.host.proofs.records.fresh_over.Symbol.{name as #step}
+use Rattle.host.proofs.records.fresh_over.Met as step-thm
 use Rattle.grasp.proofs.in_place.grasp_record_fresh.Key.{name as #f}
 use Rattle.grasp.proofs.in_place.grasp_record_fresh as f
 use Rattle.grasp.proofs.in_place.grasp_record_fresh.Statement as stated
@@ -136,4 +136,4 @@ grasp-record-fresh-spec 𝓤 H 𝓜 𝓖 𝓡 =
     (λ κs. (ptr-vals, (ptr-vals, (uint-vals w16, (uint-vals w32, (uint-vals w64, (uint-vals w64, tt)))))))
     (λ κs. (mut-tells (named 0) (κs .0) T.the-row, (shr-tells (named 1) (κs .1 .0) (Array u8 16), (uint-tells w16, (uint-tells w32, (uint-tells w64, (uint-tells w64, tt)))))))
     (λ κs qs bounds a _ are. via 𝓤 _ (fst∗ 𝓤 _ (emp 𝓤)) (walk 𝓤 H (𝓖 .A) W (𝓜 .mem) (𝓡 .run) κs qs a are (𝓣 .C) (𝓣 .Λ) (fmOf 𝓤 H (W .laws) 𝓣)
-    (cited 𝓤 H (Step 𝓤 H (𝓖 .A) (𝓜 .mem) (𝓡 .run)) 𝓜 𝓡 code.env #step step-def.routine code.calls-grasp·in-place·fresh-over (step-thm.met 𝓤 H 𝓜 𝓖 𝓡))))))
+    (cited 𝓤 H (Step 𝓤 H (𝓖 .A) (𝓜 .mem) (𝓡 .run)) 𝓜 𝓡 code.env #step step-def.routine code.calls-host·records·fresh-over (step-thm.met 𝓤 H 𝓜 𝓖 𝓡))))))
