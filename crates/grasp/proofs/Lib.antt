@@ -1,4 +1,3 @@
--- `Fields`: the loop over a block's places. `Numbers`: the relay table between its bytes and its numbers. `Calls`: the ways of the node call.
-mod Fields
-mod Numbers
+-- `Calls`: the node call over a record of numbers. `InPlace`: what the proofs by hand of the functions that change a record in place share.
 mod Calls
+mod InPlace

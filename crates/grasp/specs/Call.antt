@@ -1,64 +1,12 @@
--- The node call for C: its answer as numbers, and the table's bytes and the output after it.
+-- What `grasp_node_call` answers and leaves, where the host keeps the record as its address and six numbers.
 use Prim.Native.Nat.{ℕ}
-use mathlib.Core.Bool.{Bool, true, false}
-use mathlib.Core.List.{List, [], _∷_}
-use lib.ListN.{length}
-use lib.Dec.{eqb}
-use Rattle.base.specs.Pick.{pick}
-use Rattle.node.specs.declared.Record.{Record}
-use Rattle.node.specs.declared.Verdict.{Verdict}
-use Rattle.node.specs.declared.Verdict.the-variants.{Own, Answer, Duplicate, Last, Nowhere, NoRow, Relay, Noop, Hand}
-use Rattle.node.specs.declared.Reply.{Reply}
-use Rattle.node.specs.declared.Reply.the-variants.{Refused, Given}
-use Rattle.node.specs.declared.Called.{Called}
-use Rattle.node.specs.Call.{Call, After, nodeCall}
-use Rattle.grasp.specs.declared.call.Answer as A
-use Rattle.grasp.specs.Table.{numbersIn, bytesWith}
-use Rattle.grasp.specs.Records.{nodeOf, nodeNumbers}
+use mathlib.Core.List.{List}
+use Rattle.node.specs.Record.{keeps}
+use Rattle.node.specs.Call.{Call}
+use Rattle.host.specs.Records.{nodeOf, numbersAfter}
+use Rattle.host.specs.Call.{callLeft}
 
--- the verdicts in the rules' order, from 1
-unfoldable pub verdictNumber : Verdict → ℕ
-verdictNumber Own = 1
-verdictNumber Answer = 2
-verdictNumber Duplicate = 3
-verdictNumber Last = 4
-verdictNumber Nowhere = 5
-verdictNumber NoRow = 6
-verdictNumber Relay = 7
-verdictNumber Noop = 8
-verdictNumber Hand = 9
-
-unfoldable pub upNumber : Bool → ℕ
-upNumber true = 1
-upNumber false = 0
-
--- a reply beside a record
-unfoldable pub replyNumbers : Reply → Record → A.Answer
-replyNumbers (Refused number) r = record { refusal = number; verdict = 0; «handed_up» = 0; mask = 0; length = 0; node = r }
-replyNumbers (Given v up mask len) r = record { refusal = 0; verdict = verdictNumber v; «handed_up» = upNumber up; mask = mask; length = len; node = r }
-
-unfoldable pub answerFrom : Called → A.Answer
-answerFrom b = replyNumbers (b .reply) (b .node)
-
--- the table that the bytes hold; of another length, one that is refused with 15 in its turn
-unfoldable pub tableIn : List ℕ → List ℕ
-tableIn bytes = pick (eqb (length bytes) 2048) (numbersIn bytes) (0 ∷ [])
-
-module _ (r : Record) (bytes : List ℕ) (c : Call) where
-  unfoldable pub afterCall : After
-  afterCall = nodeCall r (tableIn bytes) c
-
-  unfoldable pub callAnswer : A.Answer
-  callAnswer = answerFrom (afterCall .called)
-
-  -- the bytes stay where the call is refused
-  unfoldable pub callTable : List ℕ
-  callTable = pick (eqb (length bytes) 2048) (pick (eqb (callAnswer .refusal) 0) (bytesWith (afterCall .table) bytes) bytes) bytes
-
-  unfoldable pub callOutput : List ℕ
-  callOutput = afterCall .output
-
--- what the host has after a call: the number of the refusal, the record's numbers, the table, the output, and the answer
+-- the number of the refusal, the record's numbers, the table, the output, and the answer
 pub record Host : Type 0 where
   pub refusal : ℕ
   pub numbers : List ℕ
@@ -69,14 +17,7 @@ pub record Host : Type 0 where
 abbrev pub hostOf : ℕ → List ℕ → List ℕ → List ℕ → List ℕ → Host
 hostOf refusal numbers table output answer = record { refusal = refusal; numbers = numbers; table = table; output = output; answer = answer }
 
--- the answer's four numbers
-unfoldable pub answerNumbers : A.Answer → List ℕ
-answerNumbers a = a .verdict ∷ a .«handed_up» ∷ a .mask ∷ a .length ∷ []
-
--- a refusal leaves all as it was
 unfoldable pub hostCall : List ℕ → List ℕ → List ℕ → Call → List ℕ → Host
 hostCall address numbers bytes c answer =
-    let r = nodeOf address numbers in
-    let a = callAnswer r bytes c in
-    pick (eqb (a .refusal) 0) (hostOf 0 (nodeNumbers (a .node)) (callTable r bytes c) (callOutput r bytes c) (answerNumbers a))
-    (hostOf (a .refusal) numbers (callTable r bytes c) (callOutput r bytes c) answer)
+    let k = callLeft (nodeOf address numbers) bytes c answer in
+    hostOf (k .refusal) (numbersAfter (keeps (k .refusal) (k .node)) numbers) (k .table) (k .output) (k .answer)

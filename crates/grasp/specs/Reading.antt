@@ -7,7 +7,7 @@ use Rattle.options.specs.Locator.{locatorAt, locatorNumbers}
 use Rattle.options.specs.Pair.{pairAt, pairNumbers}
 use Rattle.message.specs.declared.Reading.{Reading}
 use Rattle.message.specs.Read.{readOf}
-use Rattle.grasp.specs.Block.{blockOf}
+use Rattle.blocks.specs.Block.{blockOf}
 
 -- 0 for a message, or the number of the refusal
 unfoldable pub numberFrom : Reading → ℕ

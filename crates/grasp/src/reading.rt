@@ -1,7 +1,7 @@
 // Reading, for C.
 ghost use mathlib.Core.Path.{_≡_};
 ghost use Rattle.grasp.specs.Reading.{readNumber, readBlock, locatorEnd, locatorAfter, pairEnd, pairAfter};
-use crate::block;
+use blocks::block;
 use message::Reading;
 use options::locator::LocatorRead;
 use options::pair::PairRead;

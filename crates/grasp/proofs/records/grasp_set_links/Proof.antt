@@ -5,8 +5,8 @@ use Rattle.grasp.proofs.records.grasp_set_links.Statement.{statement}
 use Rattle.grasp.proofs.records.grasp_set_links.Tie as tie
 use Rattle.grasp.proofs.records.grasp_set_links.Reads as reads
 use Rattle.grasp.proofs.records.grasp_set_links.Lts as lts
-use Rattle.grasp.proofs.records.node_of.Reads as node-of-reads
-use Rattle.grasp.proofs.records.put.Reads as put-reads
+use Rattle.host.proofs.records.node_of.Reads as node-of-reads
+use Rattle.host.proofs.records.put.Reads as put-reads
 use Rattle.node.proofs.Record.set_links.Reads as set-links-reads
 
 -- src/records.rt:31:9

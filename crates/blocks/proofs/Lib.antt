@@ -1,0 +1,2 @@
+-- `Fields`: the loop over a block's places.
+mod Fields

@@ -1,0 +1,22 @@
+-- `blocks::told::is_blank` meets its contract.
+-- Assumes nothing.
+use Rattle.blocks.specs.Told.{isBlank}
+use borrow.Author.Needs.{needs}
+use Rattle.blocks.proofs.told.is_blank.Statement.{statement}
+use Rattle.blocks.proofs.told.is_blank.Tie as tie
+use Rattle.blocks.proofs.told.is_blank.Reads as reads
+use Rattle.blocks.proofs.told.is_blank.Lts as lts
+use Rattle.blocks.proofs.told.all_fit.Reads as all-fit-reads
+
+-- src/told.rt:193:5
+all-fit-requires : tie.Need-all-fit-requires
+all-fit-requires c κs = search needs
+
+-- src/told.rt:190:1
+returns : tie.Need-returns
+unfolding isBlank
+returns c =
+    rw (← c .all-fit .ensures)
+
+pub is-blank-spec : {M : Type 1} → statement M
+is-blank-spec = tie.close (tie.spec all-fit-requires returns)

@@ -1,0 +1,79 @@
+-- The node call on a table of bytes: its answer as numbers, and the table's bytes and the output after it.
+use Prim.Native.Nat.{ℕ}
+use mathlib.Core.Bool.{Bool, true, false}
+use mathlib.Core.List.{List, [], _∷_}
+use lib.ListN.{length}
+use lib.Dec.{eqb}
+use Rattle.base.specs.Pick.{pick}
+use Rattle.node.specs.declared.Record.{Record}
+use Rattle.node.specs.declared.Verdict.{Verdict}
+use Rattle.node.specs.declared.Verdict.the-variants.{Own, Answer, Duplicate, Last, Nowhere, NoRow, Relay, Noop, Hand}
+use Rattle.node.specs.declared.Reply.{Reply}
+use Rattle.node.specs.declared.Reply.the-variants.{Refused, Given}
+use Rattle.node.specs.declared.Called.{Called}
+use Rattle.node.specs.Call.{Call, After, nodeCall}
+use Rattle.host.specs.declared.call.Answer as A
+use Rattle.host.specs.Table.{numbersIn, bytesWith}
+
+-- the verdicts in the rules' order, from 1
+unfoldable pub verdictNumber : Verdict → ℕ
+verdictNumber Own = 1
+verdictNumber Answer = 2
+verdictNumber Duplicate = 3
+verdictNumber Last = 4
+verdictNumber Nowhere = 5
+verdictNumber NoRow = 6
+verdictNumber Relay = 7
+verdictNumber Noop = 8
+verdictNumber Hand = 9
+
+unfoldable pub upNumber : Bool → ℕ
+upNumber true = 1
+upNumber false = 0
+
+-- a reply beside a record
+unfoldable pub replyNumbers : Reply → Record → A.Answer
+replyNumbers (Refused number) r = record { refusal = number; verdict = 0; «handed_up» = 0; mask = 0; length = 0; node = r }
+replyNumbers (Given v up mask len) r = record { refusal = 0; verdict = verdictNumber v; «handed_up» = upNumber up; mask = mask; length = len; node = r }
+
+unfoldable pub answerFrom : Called → A.Answer
+answerFrom b = replyNumbers (b .reply) (b .node)
+
+-- the table that the bytes hold; of another length, one that is refused with 15 in its turn
+unfoldable pub tableIn : List ℕ → List ℕ
+tableIn bytes = pick (eqb (length bytes) 2048) (numbersIn bytes) (0 ∷ [])
+
+module _ (r : Record) (bytes : List ℕ) (c : Call) where
+  unfoldable pub afterCall : After
+  afterCall = nodeCall r (tableIn bytes) c
+
+  unfoldable pub callAnswer : A.Answer
+  callAnswer = answerFrom (afterCall .called)
+
+  -- the bytes stay where the call is refused
+  unfoldable pub callTable : List ℕ
+  callTable = pick (eqb (length bytes) 2048) (pick (eqb (callAnswer .refusal) 0) (bytesWith (afterCall .table) bytes) bytes) bytes
+
+  unfoldable pub callOutput : List ℕ
+  callOutput = afterCall .output
+
+-- the answer's four numbers
+unfoldable pub answerNumbers : A.Answer → List ℕ
+answerNumbers a = a .verdict ∷ a .«handed_up» ∷ a .mask ∷ a .length ∷ []
+
+-- what a call leaves: the number of the refusal, the record, the table, the output, and the answer
+pub record Left : Type 0 where
+  pub refusal : ℕ
+  pub node : Record
+  pub table : List ℕ
+  pub output : List ℕ
+  pub answer : List ℕ
+
+abbrev pub leftOf : ℕ → Record → List ℕ → List ℕ → List ℕ → Left
+leftOf refusal node table output answer = record { refusal = refusal; node = node; table = table; output = output; answer = answer }
+
+-- a refusal leaves all as it was
+unfoldable pub callLeft : Record → List ℕ → Call → List ℕ → Left
+callLeft r bytes c answer =
+    let a = callAnswer r bytes c in
+    pick (eqb (a .refusal) 0) (leftOf 0 (a .node) (callTable r bytes c) (callOutput r bytes c) (answerNumbers a)) (leftOf (a .refusal) r bytes (c .output) answer)

@@ -1,0 +1,5 @@
+-- `Records`, `Table`, `States`: a record, a relay table and a negotiation's state as numbers and bytes. `Call`: the node call on them.
+pub mod Records
+pub mod Table
+pub mod Call
+pub mod States
