@@ -1,0 +1,174 @@
+//! Messages in few bytes of a fuzzer's input, so that lists of calls are short.
+
+use crate::input::Input;
+
+/// The address that records are mostly given: an initiator of these bytes is ours.
+pub const ADDRESS: [u8; 16] = [0x20; 16];
+
+/// Names of objectives; the second is that of the rules' examples.
+const NAMES: [&[u8]; 4] = [b"", b"EX1", b"EX2", &[b'x'; 64]];
+
+/// Own names: none, one, three, and an array that is cut.
+const OWN: [&[u8]; 4] = [
+    b"\x80",
+    b"\x81\x63EX1",
+    b"\x83\x60\x61\x00\x63EX2",
+    b"\x82\x60",
+];
+
+/// A message of a random sort: put together, put together and damaged, or raw.
+pub fn message(input: &mut Input) -> Vec<u8> {
+    let sort = input.byte();
+    match sort {
+        0..=175 => sketched(input, sort),
+        176..=215 => damaged(input, sort),
+        _ => input.bytes().to_vec(),
+    }
+}
+
+/// Own names, mostly good ones.
+pub fn names(input: &mut Input) -> Vec<u8> {
+    match input.byte() {
+        sort @ 0..=199 => OWN[usize::from(sort) % 3].to_vec(),
+        200..=219 => OWN[3].to_vec(),
+        _ => input.bytes().to_vec(),
+    }
+}
+
+/// The same with a byte changed, taken away or put.
+fn damaged(input: &mut Input, sort: u8) -> Vec<u8> {
+    let mut bytes = sketched(input, sort);
+    let at = input.below(bytes.len());
+    match input.below(3) {
+        0 => bytes[at] = input.byte(),
+        1 => drop(bytes.remove(at)),
+        _ => bytes.insert(at, input.byte()),
+    }
+    bytes
+}
+
+/// A Discovery, a Flood or a message of another kind.
+fn sketched(input: &mut Input, sort: u8) -> Vec<u8> {
+    let session = head(0, input.number());
+    match sort % 11 {
+        0..=3 => [
+            &[0x84, 1][..],
+            &session,
+            &initiator(input),
+            &objective(input),
+        ]
+        .concat(),
+        4..=6 => flood(input, &session),
+        7 => vec![0x81, 0],
+        8 => [&[0x83, 3][..], &session, &objective(input)].concat(),
+        9 => [&[0x83, 99][..], &session, input.bytes()].concat(),
+        _ => response(input, &session),
+    }
+}
+
+/// A Flood of one to four pairs.
+fn flood(input: &mut Input, session: &[u8]) -> Vec<u8> {
+    let pairs = 1 + input.below(4);
+    let initiator = initiator(input);
+    let ttl = head(0, input.number());
+    let mut flood = [&[0x84 + pairs as u8, 9][..], session, &initiator, &ttl].concat();
+    for _ in 0..pairs {
+        flood.push(0x82);
+        flood.extend(objective(input));
+        flood.extend(locator(input));
+    }
+    flood
+}
+
+/// A Response with one locator or a divert, and at times an objective.
+fn response(input: &mut Input, session: &[u8]) -> Vec<u8> {
+    let sort = input.byte();
+    let initiator = initiator(input);
+    let ttl = head(0, input.number());
+    let locator = locator(input);
+    let divert = [&[0x82, 0x18, 100][..], &locator].concat();
+    let target = if sort & 1 == 0 { locator } else { divert };
+    let objective = if sort & 2 == 0 {
+        vec![]
+    } else {
+        objective(input)
+    };
+    let items = 0x85 + u8::from(sort & 2 != 0);
+    [
+        &[items, 2][..],
+        session,
+        &initiator,
+        &ttl,
+        &target,
+        &objective,
+    ]
+    .concat()
+}
+
+/// The message of a negotiation: a Request, Negotiate, End or Wait.
+pub fn negotiating(input: &mut Input) -> Vec<u8> {
+    let sort = input.byte();
+    let session = head(0, input.number());
+    match sort % 8 {
+        0 | 1 => [&[0x83, 3][..], &session, &objective(input)].concat(),
+        2..=4 => [&[0x83, 5][..], &session, &objective(input)].concat(),
+        5 => [&[0x83, 6][..], &session, &[0x81, 0x18, 101 + sort / 128]].concat(),
+        6 => [&[0x83, 7][..], &session, &head(0, input.number())].concat(),
+        _ => message(input),
+    }
+}
+
+/// Four or sixteen bytes, of which some are our address.
+fn initiator(input: &mut Input) -> Vec<u8> {
+    match input.byte() {
+        0 => [&[0x50][..], &ADDRESS].concat(),
+        1 => [&[0x44][..], &ADDRESS[..4]].concat(),
+        2 => [&[0x50][..], &[0; 16]].concat(),
+        byte if byte < 128 => vec![0x44, 0xC0, 0, 2, byte],
+        byte => [&[0x50][..], &[byte; 16]].concat(),
+    }
+}
+
+fn objective(input: &mut Input) -> Vec<u8> {
+    let sort = input.byte();
+    let name = NAMES[usize::from(sort) % NAMES.len()];
+    let flags = head(0, u64::from(sort / 4 % 17));
+    let count = head(0, input.number());
+    let value = if sort < 200 { &[] } else { input.bytes() };
+    let items = if sort < 200 { 0x83 } else { 0x84 };
+    [
+        &[items][..],
+        &head(3, name.len() as u64),
+        name,
+        &flags,
+        &count,
+        value,
+    ]
+    .concat()
+}
+
+/// An empty array or a locator.
+fn locator(input: &mut Input) -> Vec<u8> {
+    let sort = input.byte();
+    let port = head(0, input.number());
+    match sort % 8 {
+        0..=3 => vec![0x80],
+        4 => [&[0x84, 0x18, 103, 0x50][..], &ADDRESS, &[6], &port].concat(),
+        5 => [&[0x84, 0x18, 104, 0x44, 192, 0, 2, 1, 17][..], &port].concat(),
+        6 => [&[0x84, 0x18, 105, 0x62, sort, 0x80, 6][..], &port].concat(),
+        _ => [&[0x84, 0x18, 106, 0x62, 0xC3, sort, 0xF6][..], &[0xF6]].concat(),
+    }
+}
+
+/// The shortest head with this argument.
+fn head(major: u8, argument: u64) -> Vec<u8> {
+    let bytes = argument.to_be_bytes();
+    let (information, width) = match argument {
+        0..=23 => return vec![major << 5 | argument as u8],
+        24..=0xFF => (24, 1),
+        0x100..=0xFFFF => (25, 2),
+        0x1_0000..=0xFFFF_FFFF => (26, 4),
+        _ => (27, 8),
+    };
+    [&[major << 5 | information][..], &bytes[8 - width..]].concat()
+}
