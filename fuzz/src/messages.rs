@@ -105,12 +105,31 @@ fn response(input: &mut Input, session: &[u8]) -> Vec<u8> {
     .concat()
 }
 
-/// The message of a negotiation: a Request, Negotiate, End or Wait.
-pub fn negotiating(input: &mut Input) -> Vec<u8> {
+/// The session and count of a negotiation's last Request or Negotiate.
+#[derive(Default)]
+pub struct Said {
+    session: u64,
+    count: u64,
+}
+
+/// The message of a negotiation: a Request, Negotiate, End or Wait, mostly of the session that was
+/// said and, if a Negotiate, with one less than its count.
+pub fn negotiating(input: &mut Input, said: &mut Said) -> Vec<u8> {
     let sort = input.byte();
-    let session = head(0, input.number());
+    let count = said.count.wrapping_sub(1);
+    if sort < 96 {
+        said.session = input.number();
+    }
+    let session = head(0, said.session);
     match sort % 8 {
-        0 | 1 => [&[0x83, 3][..], &session, &objective(input)].concat(),
+        0 | 1 => {
+            said.count = input.number();
+            [&[0x83, 3][..], &session, &objective_of(input, said.count)].concat()
+        }
+        2 | 3 if sort < 192 => {
+            said.count = count;
+            [&[0x83, 5][..], &session, &objective_of(input, count)].concat()
+        }
         2..=4 => [&[0x83, 5][..], &session, &objective(input)].concat(),
         5 => [&[0x83, 6][..], &session, &[0x81, 0x18, 101 + sort / 128]].concat(),
         6 => [&[0x83, 7][..], &session, &head(0, input.number())].concat(),
@@ -130,10 +149,16 @@ fn initiator(input: &mut Input) -> Vec<u8> {
 }
 
 fn objective(input: &mut Input) -> Vec<u8> {
+    let count = input.number();
+    objective_of(input, count)
+}
+
+/// An objective with this count.
+fn objective_of(input: &mut Input, count: u64) -> Vec<u8> {
     let sort = input.byte();
     let name = NAMES[usize::from(sort) % NAMES.len()];
     let flags = head(0, u64::from(sort / 4 % 17));
-    let count = head(0, input.number());
+    let count = head(0, count);
     let value = if sort < 200 { &[] } else { input.bytes() };
     let items = if sort < 200 { 0x83 } else { 0x84 };
     [
