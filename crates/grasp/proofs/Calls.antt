@@ -4,15 +4,26 @@ use Prim.Native.Nat.{ℕ}
 use mathlib.Core.Path.{_≡_, refl, ap, _∙_}
 use mathlib.Core.List.{List, [], _∷_}
 use lib.ListN.{length, replicate}
-use borrow.Author.Tests.{eq-eqb, ne-eqb}
+use borrow.Author.Tests.{eq-eqb, ne-eqb, eqb-true}
 use Rattle.base.specs.Pick.{pick}
+use Rattle.base.proofs.Picks.{pick-case, both}
+use Rattle.message.specs.declared.Reading.{Reading}
+use Rattle.message.specs.Read.{readOf}
 use Rattle.node.specs.declared.Record.{Record}
+use Rattle.node.specs.declared.Kept.{Kept}
 use Rattle.node.specs.declared.Called.{Called}
-use Rattle.node.specs.Call.{Call, After, afterOf, nodeCall}
+use Rattle.node.specs.declared.Verdict.{Verdict}
+use Rattle.node.specs.declared.Verdict.the-variants.{Own, Answer, Duplicate, Last, Nowhere, NoRow, Relay, Noop, Hand}
+use Rattle.node.specs.declared.role.Spread.{Spread}
+use Rattle.node.specs.declared.role.Role.{Role}
+use Rattle.node.specs.Record.{clocked}
+use Rattle.node.specs.Table.{freed}
+use Rattle.node.specs.Role.{roleOf}
+use Rattle.node.specs.Call.{Call, After, afterOf, refuse, quiet, verdictOn, answered, relayed, carriedOut, taken, judged, nodeCall}
 use Rattle.grasp.specs.declared.call.Answer as A
 use Rattle.grasp.specs.Table.{loadedUpTo, numbersIn, savedUpTo, bytesWith}
-use Rattle.grasp.specs.Call.{answerFrom, tableIn, afterCall, callAnswer, callTable, callOutput, hostOf, answerNumbers, hostCall}
-use Rattle.grasp.specs.Records.{nodeOf, nodeNumbers}
+use Rattle.grasp.specs.Call.{answerFrom, tableIn, afterCall, callAnswer, callTable, callOutput, answerNumbers, replyNumbers, leftOf, callLeft, hostOf, hostCall}
+use Rattle.grasp.specs.Records.{nodeOf, numbersAfter}
 
 module _ (r : Record) (bytes : List ℕ) (c : Call) (b : Called) (t out : List ℕ) (a : A.Answer) (is : a ≡ answerFrom b) where
   -- what follows from what the call gave
@@ -45,14 +56,70 @@ module _ (r : Record) (bytes : List ℕ) (c : Call) (b : Called) (t out : List �
         let (answered, left) = answers same-call in
         (answered, rw (eq-eqb (length bytes) 2048 sized, ← answered, eq-eqb (a .refusal) 0 none) (saved ∙ ap (λ (z : After). savedUpTo 256 (z .table) bytes) same-call), left)
 
+-- ---- what a refusal leaves
+
+module _ (c : Call) where
+  -- what comes of a message that was read is an answer
+  carried-answers : (r : Record) (t : List ℕ) (s : Spread) (v : Verdict) → answerFrom (carriedOut r t c s v .called) .refusal ≡ 0
+  unfolding carriedOut quiet answered relayed answerFrom replyNumbers
+  carried-answers r t s Own = refl
+  carried-answers r t s Answer = refl
+  carried-answers r t s Duplicate = refl
+  carried-answers r t s Last = refl
+  carried-answers r t s Nowhere = refl
+  carried-answers r t s NoRow = refl
+  carried-answers r t s Relay = refl
+  carried-answers r t s Noop = refl
+  carried-answers r t s Hand = refl
+
+  taken-answers : (r : Record) (t : List ℕ) (role : Role) → answerFrom (taken r t c role .called) .refusal ≡ 0
+  unfolding taken quiet answerFrom replyNumbers
+  taken-answers r t Role.Noop = refl
+  taken-answers r t Role.Upward = refl
+  taken-answers r t (Role.Spreads s) = carried-answers r t s (verdictOn r t c s)
+
+  abbrev Still : After → Type 0
+  Still z = (answerFrom (z .called) .refusal ≡ 0 → ⊥) → z .output ≡ c .output
+
+  judged-still : (r : Record) (t : List ℕ) (reading : Reading) → Still (judged r t c reading)
+  unfolding judged refuse
+  judged-still r t (Reading.Refused number) ne = refl
+  judged-still r t (Reading.Read m) ne = absurd (ne (taken-answers (clocked r (c .clock)) (freed (c .clock) t) (roleOf m)))
+
+  refuse-still : (r : Record) (t : List ℕ) (n : ℕ) → Still (refuse n r t c)
+  unfolding refuse
+  refuse-still r t n ne = refl
+
+  call-still : (r : Record) (t : List ℕ) → Still (nodeCall r t c)
+  unfolding nodeCall
+  call-still r t = both Still _ (judged-still r t (readOf (c .message))) (refuse-still r t _)
+
+module _ (r : Record) (bytes : List ℕ) (c : Call) (ne : callAnswer r bytes c .refusal ≡ 0 → ⊥) where
+  table-still : callTable r bytes c ≡ bytes
+  unfolding callTable
+  table-still = both (λ (z : List ℕ). z ≡ bytes) _ (pick-case (λ (z : List ℕ). z ≡ bytes) _ (λ e. absurd (ne (eqb-true _ _ e))) (λ e. refl)) refl
+
+  output-still : callOutput r bytes c ≡ c .output
+  unfolding callOutput callAnswer afterCall
+  output-still = call-still c r (tableIn bytes) ne
+
+module _ (r : Record) (bytes : List ℕ) (c : Call) (answer : List ℕ) (a : A.Answer) (table out : List ℕ)
+    (answered : a ≡ callAnswer r bytes c) (left : table ≡ callTable r bytes c) (written : out ≡ callOutput r bytes c) where
+  pub left-refused : (a .refusal ≡ 0 → ⊥) → leftOf (a .refusal) r table out answer ≡ callLeft r bytes c answer
+  unfolding callLeft pick
+  left-refused ne =
+      let still : callAnswer r bytes c .refusal ≡ 0 → ⊥ = rw answered at ne in
+      rw (left ∙ table-still r bytes c still, written ∙ output-still r bytes c still, ← answered, ne-eqb (a .refusal) 0 ne) refl
+
+  pub left-given : a .refusal ≡ 0 → leftOf 0 (a .node) table out (answerNumbers a) ≡ callLeft r bytes c answer
+  unfolding callLeft pick
+  left-given none = rw (← answered, ← left, ← written, eq-eqb (a .refusal) 0 none) refl
+
 -- ---- what the host has
 
-module _ (address numbers bytes : List ℕ) (c : Call) (answer : List ℕ) (r : Record) (is : r ≡ nodeOf address numbers) (a : A.Answer) (table out : List ℕ)
-    (answered : a ≡ callAnswer r bytes c) (left : table ≡ callTable r bytes c) (written : out ≡ callOutput r bytes c) where
-  pub host-refused : (a .refusal ≡ 0 → ⊥) → hostOf (a .refusal) numbers table out answer ≡ hostCall address numbers bytes c answer
-  unfolding hostCall pick
-  host-refused ne = rw (← is, ← answered, ← left, ← written, ne-eqb (a .refusal) 0 ne) refl
-
-  pub host-given : (after : List ℕ) → a .refusal ≡ 0 → after ≡ nodeNumbers (a .node) → hostOf 0 after table out (answerNumbers a) ≡ hostCall address numbers bytes c answer
-  unfolding hostCall pick
-  host-given after none e = rw (← is, ← answered, ← left, ← written, eq-eqb (a .refusal) 0 none, e) refl
+pub host-left : (address numbers bytes : List ℕ) (c : Call) (answer : List ℕ) (r : Record) → r ≡ nodeOf address numbers
+    → (k : Kept) (table out after : List ℕ) → leftOf (k .refusal) (k .node) table out after ≡ callLeft r bytes c answer
+    → (n : ℕ) (numbers′ : List ℕ) → n ≡ k .refusal → numbers′ ≡ numbersAfter k numbers
+    → hostOf n numbers′ table out after ≡ hostCall address numbers bytes c answer
+unfolding hostCall
+host-left address numbers bytes c answer r is k table out after e n numbers′ same kept = rw (← is, ← e, same, kept) refl

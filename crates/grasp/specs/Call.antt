@@ -11,10 +11,11 @@ use Rattle.node.specs.declared.Verdict.the-variants.{Own, Answer, Duplicate, La
 use Rattle.node.specs.declared.Reply.{Reply}
 use Rattle.node.specs.declared.Reply.the-variants.{Refused, Given}
 use Rattle.node.specs.declared.Called.{Called}
+use Rattle.node.specs.Record.{keeps}
 use Rattle.node.specs.Call.{Call, After, nodeCall}
 use Rattle.grasp.specs.declared.call.Answer as A
 use Rattle.grasp.specs.Table.{numbersIn, bytesWith}
-use Rattle.grasp.specs.Records.{nodeOf, nodeNumbers}
+use Rattle.grasp.specs.Records.{nodeOf, numbersAfter}
 
 -- the verdicts in the rules' order, from 1
 unfoldable pub verdictNumber : Verdict → ℕ
@@ -58,7 +59,28 @@ module _ (r : Record) (bytes : List ℕ) (c : Call) where
   unfoldable pub callOutput : List ℕ
   callOutput = afterCall .output
 
--- what the host has after a call: the number of the refusal, the record's numbers, the table, the output, and the answer
+-- the answer's four numbers
+unfoldable pub answerNumbers : A.Answer → List ℕ
+answerNumbers a = a .verdict ∷ a .«handed_up» ∷ a .mask ∷ a .length ∷ []
+
+-- what a call leaves: the number of the refusal, the record, the table, the output, and the answer
+pub record Left : Type 0 where
+  pub refusal : ℕ
+  pub node : Record
+  pub table : List ℕ
+  pub output : List ℕ
+  pub answer : List ℕ
+
+abbrev pub leftOf : ℕ → Record → List ℕ → List ℕ → List ℕ → Left
+leftOf refusal node table output answer = record { refusal = refusal; node = node; table = table; output = output; answer = answer }
+
+-- a refusal leaves all as it was
+unfoldable pub callLeft : Record → List ℕ → Call → List ℕ → Left
+callLeft r bytes c answer =
+    let a = callAnswer r bytes c in
+    pick (eqb (a .refusal) 0) (leftOf 0 (a .node) (callTable r bytes c) (callOutput r bytes c) (answerNumbers a)) (leftOf (a .refusal) r bytes (c .output) answer)
+
+-- the same where the host keeps the record as its address and six numbers
 pub record Host : Type 0 where
   pub refusal : ℕ
   pub numbers : List ℕ
@@ -69,14 +91,7 @@ pub record Host : Type 0 where
 abbrev pub hostOf : ℕ → List ℕ → List ℕ → List ℕ → List ℕ → Host
 hostOf refusal numbers table output answer = record { refusal = refusal; numbers = numbers; table = table; output = output; answer = answer }
 
--- the answer's four numbers
-unfoldable pub answerNumbers : A.Answer → List ℕ
-answerNumbers a = a .verdict ∷ a .«handed_up» ∷ a .mask ∷ a .length ∷ []
-
--- a refusal leaves all as it was
 unfoldable pub hostCall : List ℕ → List ℕ → List ℕ → Call → List ℕ → Host
 hostCall address numbers bytes c answer =
-    let r = nodeOf address numbers in
-    let a = callAnswer r bytes c in
-    pick (eqb (a .refusal) 0) (hostOf 0 (nodeNumbers (a .node)) (callTable r bytes c) (callOutput r bytes c) (answerNumbers a))
-    (hostOf (a .refusal) numbers (callTable r bytes c) (callOutput r bytes c) answer)
+    let k = callLeft (nodeOf address numbers) bytes c answer in
+    hostOf (k .refusal) (numbersAfter (keeps (k .refusal) (k .node)) numbers) (k .table) (k .output) (k .answer)

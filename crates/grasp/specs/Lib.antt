@@ -1,5 +1,5 @@
--- `Block`: what was read, as numbers in fixed places. `Table`: the relay table as bytes. `Reading`, `Writing`, `Negotiating`, `Records`, `Call`: what the
--- exported functions answer and leave.
+-- `Block`: what was read, as numbers in fixed places. `Table`: the relay table as bytes. `Reading`, `Writing`, `Negotiating`, `Records`, `Call`,
+-- `InPlace`: what the exported functions answer and leave.
 pub mod Block
 pub mod Reading
 pub mod Writing
@@ -7,3 +7,4 @@ pub mod Negotiating
 pub mod Records
 pub mod Table
 pub mod Call
+pub mod InPlace

@@ -1,10 +1,11 @@
 // The node call, for C.
 ghost use mathlib.Core.Path.{_≡_};
 ghost use Rattle.node.specs.Call.{callOf};
-ghost use Rattle.grasp.specs.Call.{verdictNumber, upNumber, answerFrom, callAnswer, callTable, callOutput, hostOf, hostCall};
+ghost use Rattle.grasp.specs.Call.{verdictNumber, upNumber, answerFrom, callAnswer, callTable, callOutput, leftOf, callLeft, hostOf, hostCall};
 use crate::records;
 use crate::table;
 use node::Called;
+use node::Kept;
 use node::Record;
 use node::Reply;
 use node::Verdict;
@@ -38,20 +39,39 @@ pub extern "C" fn grasp_node_call(
     ensures { λ r. ⌜ hostOf r (now (numbers .exit)) (now (bytes .exit)) (now (out .exit)) (now (answer .exit)) ≡ hostCall (now (address .entry)) (now (numbers .entry)) (now (bytes .entry)) (callOf clock interface (now (names .entry)) (now (message .entry)) (now (out .entry))) (now (answer .entry)) ⌝ }
 {
     let node = records::node_of(address, numbers);
+    let kept = call_into(node, bytes, clock, interface, names, message, out, answer);
+    records::put(kept, numbers)
+}
+
+// The node call on a table of bytes, whose answer goes into four numbers.
+pub(crate) fn call_into(
+    node: Record,
+    bytes: &mut [u8],
+    clock: u64,
+    interface: u64,
+    names: &[u8],
+    message: &[u8],
+    out: &mut [u8],
+    answer: &mut [u64; 4],
+) -> Kept
+    ensures { λ r. ⌜ leftOf (r .refusal) (r .node) (now (bytes .exit)) (now (out .exit)) (now (answer .exit)) ≡ callLeft node (now (bytes .entry)) (callOf clock interface (now (names .entry)) (now (message .entry)) (now (out .entry))) (now (answer .entry)) ⌝ }
+{
     let a = call_with(node, bytes, clock, interface, names, message, out);
     let refusal = a.refusal;
     if refusal != 0 {
-        return refusal;
+        return Kept { refusal, node };
     }
-    let next = a.node;
-    *numbers = records::numbers_of(next);
     *answer = [
         a.verdict as u64,
         a.handed_up as u64,
         a.mask as u64,
         a.length,
     ];
-    0
+    let next = a.node;
+    Kept {
+        refusal: 0,
+        node: next,
+    }
 }
 
 // The node call on a table of bytes.

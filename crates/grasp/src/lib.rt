@@ -2,6 +2,7 @@
 // answer every argument.
 pub mod block;
 pub mod call;
+pub mod in_place;
 pub mod negotiating;
 pub mod reading;
 pub mod records;

@@ -34,7 +34,7 @@ pub extern "C" fn grasp_set_links(address: &[u8; 16], numbers: &mut [u64; 6], li
 }
 
 // The number of the refusal; the numbers of the record that is kept, or as they were.
-fn put(kept: Kept, numbers: &mut [u64; 6]) -> u8
+pub(crate) fn put(kept: Kept, numbers: &mut [u64; 6]) -> u8
     ensures { λ r. ⌜ r ≡ kept .refusal ⌝ }
     ensures { λ r. ⌜ now (numbers .exit) ≡ numbersAfter kept (now (numbers .entry)) ⌝ }
 {

@@ -1,6 +1,6 @@
 //! The proved library, as include/grasp.h has it. All unsafe code is here.
 
-use second::node::Given;
+use second::node::{Given, BAD_RECORD};
 use second::vectors::write::Draft;
 
 use crate::answer::{untouched, Answer, Description, LIST, LIST_AT, LIST_MANY};
@@ -35,6 +35,29 @@ extern "C" {
     fn grasp_node_call(
         address: *const u8,
         numbers: *mut u64,
+        table: *mut u8,
+        table_len: usize,
+        clock: u64,
+        interface: u64,
+        names: *const u8,
+        names_len: usize,
+        message: *const u8,
+        len: usize,
+        out: *mut u8,
+        size: usize,
+        answer: *mut u64,
+    ) -> u8;
+    fn grasp_record_fresh(
+        node: *mut Record,
+        address: *const u8,
+        port: u16,
+        ttl: u32,
+        interfaces: u64,
+        links: u64,
+    ) -> u8;
+    fn grasp_record_set_links(node: *mut Record, links: u64) -> u8;
+    fn grasp_record_call(
+        node: *mut Record,
         table: *mut u8,
         table_len: usize,
         clock: u64,
@@ -101,7 +124,7 @@ pub fn description(bytes: &[u8]) -> Description {
     }
 }
 
-/// The library's node.
+/// The library's node with the record as its address and six numbers.
 pub struct Archive;
 
 impl Node for Archive {
@@ -127,30 +150,165 @@ impl Node for Archive {
     }
 
     fn call(host: &mut Host, given: &Given) -> u8 {
-        let table = &mut host.table.content_mut()[..host.length];
-        let out = host.out.content_mut();
-        // The message follows the names in memory, so that names that are cut have more behind them.
-        let memory = [&given.names[..], &given.message].concat();
-        let (names, message) = memory.split_at(given.names.len());
-        // SAFETY: as above; every slice is as long as said, the answer has four numbers, and all
-        // are memory of their own.
-        unsafe {
-            grasp_node_call(
-                host.address.as_ptr(),
-                host.numbers.content_mut().as_mut_ptr(),
-                table.as_mut_ptr(),
-                table.len(),
-                given.clock,
-                given.interface,
-                names.as_ptr(),
-                names.len(),
-                message.as_ptr(),
-                message.len(),
-                out.as_mut_ptr(),
-                out.len(),
-                host.answer.content_mut().as_mut_ptr(),
-            )
+        let address = host.address;
+        lend(host, given, |lent| {
+            // SAFETY: as above; every slice is as long as said, the answer has four numbers, and
+            // all are memory of their own.
+            unsafe {
+                grasp_node_call(
+                    address.as_ptr(),
+                    lent.numbers.as_mut_ptr(),
+                    lent.table.as_mut_ptr(),
+                    lent.table.len(),
+                    given.clock,
+                    given.interface,
+                    lent.names.as_ptr(),
+                    lent.names.len(),
+                    lent.message.as_ptr(),
+                    lent.message.len(),
+                    lent.out.as_mut_ptr(),
+                    lent.out.len(),
+                    lent.answer.as_mut_ptr(),
+                )
+            }
+        })
+    }
+}
+
+/// The memory that a node call is lent.
+struct Lent<'a> {
+    numbers: &'a mut [u64],
+    table: &'a mut [u8],
+    names: &'a [u8],
+    message: &'a [u8],
+    out: &'a mut [u8],
+    answer: &'a mut [u64],
+}
+
+fn lend(host: &mut Host, given: &Given, call: impl FnOnce(Lent) -> u8) -> u8 {
+    // The message follows the names in memory, so that names that are cut have more behind them.
+    let memory = [&given.names[..], &given.message].concat();
+    let (names, message) = memory.split_at(given.names.len());
+    call(Lent {
+        numbers: host.numbers.content_mut(),
+        table: &mut host.table.content_mut()[..host.length],
+        names,
+        message,
+        out: host.out.content_mut(),
+        answer: host.answer.content_mut(),
+    })
+}
+
+/// A node's record as C has it.
+#[repr(C)]
+#[derive(Clone, Copy, Default, PartialEq, Eq)]
+struct Record {
+    address: [u8; 16],
+    port: u16,
+    ttl: u32,
+    interfaces: u8,
+    links: u8,
+    clock: u64,
+    tally: u64,
+}
+
+impl Record {
+    /// The host's; numbers that are too wide are in none.
+    fn of(host: &Host) -> Option<Record> {
+        let &[port, ttl, interfaces, links, clock, tally] = host.numbers.content() else {
+            return None;
+        };
+        Some(Record {
+            address: host.address,
+            port: u16::try_from(port).ok()?,
+            ttl: u32::try_from(ttl).ok()?,
+            interfaces: u8::try_from(interfaces).ok()?,
+            links: u8::try_from(links).ok()?,
+            clock,
+            tally,
+        })
+    }
+
+    /// Gives the host what a call has made of the record that was.
+    fn put(self, was: Record, host: &mut Host) {
+        if self == was {
+            return;
         }
+        host.address = self.address;
+        host.numbers.put(&[
+            u64::from(self.port),
+            u64::from(self.ttl),
+            u64::from(self.interfaces),
+            u64::from(self.links),
+            self.clock,
+            self.tally,
+        ]);
+    }
+}
+
+/// The library's node with the record changed in place.
+pub struct InPlace;
+
+impl Node for InPlace {
+    fn fresh(host: &mut Host, fresh: &Fresh) -> u8 {
+        // A record with another address, so that the new one is seen.
+        let was = Record {
+            address: fresh.address.map(|byte| !byte),
+            ..Record::of(host).unwrap_or_default()
+        };
+        let mut node = was;
+        // SAFETY: the record is as C has it, and the address has 16 bytes.
+        let number = unsafe {
+            grasp_record_fresh(
+                &mut node,
+                fresh.address.as_ptr(),
+                fresh.port,
+                fresh.ttl,
+                fresh.interfaces,
+                fresh.links,
+            )
+        };
+        node.put(was, host);
+        number
+    }
+
+    fn set_links(host: &mut Host, links: u64) -> u8 {
+        let Some(was) = Record::of(host) else {
+            return BAD_RECORD;
+        };
+        let mut node = was;
+        // SAFETY: as above.
+        let number = unsafe { grasp_record_set_links(&mut node, links) };
+        node.put(was, host);
+        number
+    }
+
+    fn call(host: &mut Host, given: &Given) -> u8 {
+        let Some(was) = Record::of(host) else {
+            return BAD_RECORD;
+        };
+        let mut node = was;
+        let number = lend(host, given, |lent| {
+            // SAFETY: as above, and as for the record of numbers.
+            unsafe {
+                grasp_record_call(
+                    &mut node,
+                    lent.table.as_mut_ptr(),
+                    lent.table.len(),
+                    given.clock,
+                    given.interface,
+                    lent.names.as_ptr(),
+                    lent.names.len(),
+                    lent.message.as_ptr(),
+                    lent.message.len(),
+                    lent.out.as_mut_ptr(),
+                    lent.out.len(),
+                    lent.answer.as_mut_ptr(),
+                )
+            }
+        });
+        node.put(was, host);
+        number
     }
 }
 

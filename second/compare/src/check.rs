@@ -17,6 +17,12 @@ pub struct Difference {
 }
 
 impl Difference {
+    /// The same, of a record that is changed in place.
+    pub fn in_place(self) -> Difference {
+        let call = format!("record in place: {}", self.call);
+        Difference { call, ..self }
+    }
+
     /// The library's answers do not meet demand 3.
     pub fn of_demand(fault: String) -> Difference {
         Difference {

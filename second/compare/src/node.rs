@@ -1,4 +1,5 @@
-//! Node histories through the library for C, step by step beside the second program.
+//! Node histories through the library for C, with the record as numbers and as a struct that is
+//! changed in place, step by step beside the second program.
 
 mod expected;
 mod generated;
@@ -7,7 +8,7 @@ mod step;
 
 use second::history;
 
-use crate::archive::Archive;
+use crate::archive::{Archive, InPlace};
 use crate::check::Difference;
 use crate::shrink::Case;
 
@@ -43,12 +44,18 @@ impl History {
 
     /// The first difference, with the place of its step; demand 3's is at the last one.
     pub fn difference(&self) -> Option<(usize, Difference)> {
-        let (mut library, mut second) = (Host::new(), Host::new());
+        let (mut library, mut in_place) = (Host::new(), Host::new());
+        let mut second = Host::new();
         let mut calls = Vec::new();
         for (place, step) in self.steps.iter().enumerate() {
             step.take::<Archive>(&mut library);
+            step.take::<InPlace>(&mut in_place);
             step.take::<Second>(&mut second);
-            if let Some(difference) = library.difference(&second) {
+            let found = library.difference(&second).or_else(|| {
+                let found = in_place.difference(&second)?;
+                Some(found.in_place())
+            });
+            if let Some(difference) = found {
                 return Some((place, difference));
             }
             calls.extend(library.called(step));

@@ -3,6 +3,7 @@
 use second::history::Called;
 use second::message::MOST_BYTES;
 use second::node::{Answer, Verdict};
+use second::vectors::hex;
 
 use super::{Fresh, Step};
 use crate::check::Difference;
@@ -73,6 +74,13 @@ impl Host {
                 call: String::from("what is returned"),
                 library: self.returned.to_string(),
                 second: second.returned.to_string(),
+            });
+        }
+        if self.address != second.address {
+            return Some(Difference {
+                call: String::from("the address"),
+                library: hex(&self.address),
+                second: hex(&second.address),
             });
         }
         let answer = || self.answer.difference(&second.answer, "the answer");

@@ -42,8 +42,9 @@ fn demand_3_speaks_of_most_histories() {
 #[test]
 fn differences_are_found_in_every_part() {
     let before = Host::new();
-    let changes: [fn(&mut Host); 5] = [
+    let changes: [fn(&mut Host); 6] = [
         |host| host.returned = 12,
+        |host| host.address[15] ^= 1,
         |host| host.numbers.content_mut()[5] = 0,
         |host| host.table.content_mut()[2_559] ^= 1,
         |host| host.out.content_mut()[2_047] ^= 1,

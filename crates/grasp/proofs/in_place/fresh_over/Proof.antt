@@ -1,0 +1,29 @@
+-- `grasp::in_place::fresh_over` meets its contract.
+-- Assumes nothing.
+use mathlib.Core.Path.{refl}
+use borrow.Author.Tests.{eq-eqb, ne-eqb}
+use Rattle.base.specs.Pick.{pick}
+use Rattle.grasp.specs.InPlace.{freshOver}
+use borrow.Author.Needs.{needs}
+use Rattle.grasp.proofs.in_place.fresh_over.Statement.{statement}
+use Rattle.grasp.proofs.in_place.fresh_over.Tie as tie
+use Rattle.grasp.proofs.in_place.fresh_over.Reads as reads
+use Rattle.grasp.proofs.in_place.fresh_over.Lts as lts
+use Rattle.node.proofs.Record.fresh.Reads as fresh-reads
+
+-- src/in_place.rt:69:9
+fresh-requires : tie.Need-fresh-requires
+fresh-requires c κs = search needs
+
+-- src/in_place.rt:72:9
+returns : tie.Need-returns
+unfolding freshOver pick
+returns c = rw (← c .before .fresh .ensures, ne-eqb _ _ (c .if1 .taken)) refl
+
+-- src/in_place.rt:59:1
+returns-2 : tie.Need-returns-2
+unfolding freshOver pick
+returns-2 c = rw (← c .before .fresh .ensures, eq-eqb _ _ (c .if1 .left)) refl
+
+pub fresh-over-spec : {M : Type 1} → statement M
+fresh-over-spec = tie.close (tie.spec fresh-requires returns returns-2)
