@@ -77,15 +77,46 @@ enum grasp_kind {
 enum { GRASP_MESSAGE_BYTES = 2048 };
 
 /*
- * No call of tests/c/stack.c used so much stack, of those that go deepest: it
- * paints a stack, calls, and looks how far down the paint is gone. The calls don't
- * recurse, whatever the message's nesting.
+ * No call uses so much stack on x86-64. tests/c/stack.c measures it: it paints a
+ * stack, calls each function where it goes deepest, and looks how far down the
+ * paint is gone; a node call uses most, 7,160 bytes. No function recurses, whatever
+ * the message's nesting.
  */
 enum { GRASP_STACK_BYTES = 8192 };
 
 /* ---- The node ---- */
 
 enum { GRASP_ADDRESS_BYTES = 16 };
+
+/*
+ * A node's record, which the host keeps and each call changes in place.
+ * grasp_record_fresh fills it; a host may read it at any time.
+ */
+struct grasp_record {
+    uint8_t address[GRASP_ADDRESS_BYTES]; /* the node's own */
+    uint16_t port;
+    uint32_t ttl;       /* of an answer, in ms */
+    uint8_t interfaces; /* how many: 1 to 8 */
+    uint8_t links;      /* bit i: interface i is up */
+    uint64_t clock;     /* the last accepted one, in ms */
+    uint64_t tally;     /* the copies of all relays */
+};
+
+/* The archive has this layout. */
+#ifdef __cplusplus
+#define GRASP_ASSERT static_assert
+#else
+#define GRASP_ASSERT _Static_assert
+#endif
+GRASP_ASSERT(sizeof(struct grasp_record) == 48, "size of struct grasp_record");
+GRASP_ASSERT(offsetof(struct grasp_record, address) == 0, "place of address");
+GRASP_ASSERT(offsetof(struct grasp_record, port) == 16, "place of port");
+GRASP_ASSERT(offsetof(struct grasp_record, ttl) == 20, "place of ttl");
+GRASP_ASSERT(offsetof(struct grasp_record, interfaces) == 24, "place of interfaces");
+GRASP_ASSERT(offsetof(struct grasp_record, links) == 25, "place of links");
+GRASP_ASSERT(offsetof(struct grasp_record, clock) == 32, "place of clock");
+GRASP_ASSERT(offsetof(struct grasp_record, tally) == 40, "place of tally");
+#undef GRASP_ASSERT
 
 /*
  * The relay table: 64 rows of four numbers, eight bytes each, the most significant
@@ -116,48 +147,33 @@ enum grasp_answer_field {
 };
 
 /*
- * A node's record is its own address, 16 bytes that the host keeps, and these
- * numbers. grasp_fresh fills them.
+ * Begins a node: answers 0 and puts a fresh record, whose clock and tally are 0;
+ * or answers 12 and leaves the record as it was. The record is read too, so it is
+ * to be initialised (`struct grasp_record node = {0};`), and the address is not to
+ * be the record's own. The table that goes with a fresh record is all zeros, and
+ * negotiations begin anew.
  */
-enum grasp_record_field {
-    GRASP_RECORD_PORT = 0,
-    GRASP_RECORD_TTL = 1,        /* in ms */
-    GRASP_RECORD_INTERFACES = 2, /* how many: 1 to 8 */
-    GRASP_RECORD_LINKS = 3,      /* bit i: interface i is up */
-    GRASP_RECORD_CLOCK = 4,      /* the last accepted one, in ms */
-    GRASP_RECORD_TALLY = 5,      /* the copies of all relays */
-    GRASP_RECORD_FIELDS = 6
-};
+uint8_t grasp_record_fresh(struct grasp_record *node, const uint8_t address[GRASP_ADDRESS_BYTES],
+                           uint16_t port, uint32_t ttl, uint64_t interfaces, uint64_t links);
 
 /*
- * Begins a node: answers 0 and fills the numbers of a fresh record, whose clock
- * and tally are 0; or answers 12 and leaves them as they were. The table that goes
- * with a fresh record is all zeros, and negotiations begin anew.
+ * Puts new links in the place of the old ones. Answers 0; or 12, then 13, and
+ * leaves the record as it was.
  */
-uint8_t grasp_fresh(const uint8_t address[GRASP_ADDRESS_BYTES], uint16_t port, uint32_t ttl,
-                    uint64_t interfaces, uint64_t links, uint64_t numbers[GRASP_RECORD_FIELDS]);
-
-/*
- * Puts new links in the place of the old ones. Answers 0; or 12, also where the
- * port has more than 16 bits or the ttl more than 32, then 13, and leaves the
- * numbers as they were.
- */
-uint8_t grasp_set_links(const uint8_t address[GRASP_ADDRESS_BYTES], uint64_t numbers[GRASP_RECORD_FIELDS],
-                        uint64_t links);
+uint8_t grasp_record_set_links(struct grasp_record *node, uint64_t links);
 
 /*
  * Says what the node does with a message that came in by an interface, at a clock
- * in ms. Answers 0, fills the answer, and changes the record's numbers (clock and
- * tally), the table and, where something is to be sent, the first bytes of the
- * output; or answers the number of the refusal, 12 to 17 and then 1 to 11, and
- * leaves all as it was. The names are one CBOR array of the node's own names
- * (`80`: none). The output must have room for GRASP_MESSAGE_BYTES. Record and
- * table are handed in as the call before left them.
+ * in ms. Answers 0, fills the answer, and changes the record (clock and tally),
+ * the table and, where something is to be sent, the first bytes of the output; or
+ * answers the number of the refusal, 12 to 17 and then 1 to 11, and leaves all as
+ * it was. The names are one CBOR array of the node's own names (`80`: none). The
+ * output must have room for GRASP_MESSAGE_BYTES. Record and table are handed in
+ * as the call before left them.
  */
-uint8_t grasp_node_call(const uint8_t address[GRASP_ADDRESS_BYTES], uint64_t numbers[GRASP_RECORD_FIELDS],
-                        uint8_t *table, size_t table_size, uint64_t clock, uint64_t interface,
-                        const uint8_t *names, size_t names_len, const uint8_t *message, size_t len,
-                        uint8_t *out, size_t size, uint64_t answer[GRASP_ANSWER_FIELDS]);
+uint8_t grasp_record_call(struct grasp_record *node, uint8_t *table, size_t table_size, uint64_t clock,
+                          uint64_t interface, const uint8_t *names, size_t names_len, const uint8_t *message,
+                          size_t len, uint8_t *out, size_t size, uint64_t answer[GRASP_ANSWER_FIELDS]);
 
 /* ---- Reading ---- */
 
@@ -363,6 +379,37 @@ enum grasp_side { GRASP_WE = 0, GRASP_THEY = 1 };
  * that becomes closed has 0 in its other fields.
  */
 uint8_t grasp_step(uint64_t state[GRASP_STATE_FIELDS], const uint8_t *bytes, size_t len, uint64_t side);
+
+/* ---- The node over numbers ---- */
+
+/*
+ * The same three functions for a host that keeps the record as its address, 16
+ * bytes, and these numbers. A port of more than 16 bits, a ttl of more than 32,
+ * and interfaces or links of more than 8 are a bad record: 12.
+ */
+enum grasp_record_field {
+    GRASP_RECORD_PORT = 0,
+    GRASP_RECORD_TTL = 1,        /* in ms */
+    GRASP_RECORD_INTERFACES = 2, /* how many: 1 to 8 */
+    GRASP_RECORD_LINKS = 3,      /* bit i: interface i is up */
+    GRASP_RECORD_CLOCK = 4,      /* the last accepted one, in ms */
+    GRASP_RECORD_TALLY = 5,      /* the copies of all relays */
+    GRASP_RECORD_FIELDS = 6
+};
+
+/* As grasp_record_fresh. */
+uint8_t grasp_fresh(const uint8_t address[GRASP_ADDRESS_BYTES], uint16_t port, uint32_t ttl,
+                    uint64_t interfaces, uint64_t links, uint64_t numbers[GRASP_RECORD_FIELDS]);
+
+/* As grasp_record_set_links. */
+uint8_t grasp_set_links(const uint8_t address[GRASP_ADDRESS_BYTES], uint64_t numbers[GRASP_RECORD_FIELDS],
+                        uint64_t links);
+
+/* As grasp_record_call. */
+uint8_t grasp_node_call(const uint8_t address[GRASP_ADDRESS_BYTES], uint64_t numbers[GRASP_RECORD_FIELDS],
+                        uint8_t *table, size_t table_size, uint64_t clock, uint64_t interface,
+                        const uint8_t *names, size_t names_len, const uint8_t *message, size_t len,
+                        uint8_t *out, size_t size, uint64_t answer[GRASP_ANSWER_FIELDS]);
 
 #ifdef __cplusplus
 }

@@ -8,52 +8,30 @@
 #include "grasp.h"
 
 static inline const char *grasp_refusal_text(uint8_t refusal) {
-    switch (refusal) {
-    case GRASP_ACCEPTED:
-        return "accepted";
-    case GRASP_BAD_SIZE:
-        return "no bytes, or over 2,048";
-    case GRASP_CUT:
-        return "ends inside an item";
-    case GRASP_RESERVED:
-        return "reserved head";
-    case GRASP_INDEFINITE:
-        return "indefinite length";
-    case GRASP_LONG_HEAD:
-        return "head longer than needed";
-    case GRASP_TOO_DEEP:
-        return "nested too deep";
-    case GRASP_BYTES_AFTER:
-        return "bytes after the item";
-    case GRASP_UNKNOWN_KIND:
-        return "unknown kind";
-    case GRASP_BAD_SHAPE:
-        return "not the shape of a message";
-    case GRASP_LONG_NAME:
-        return "name over 64 bytes";
-    case GRASP_BAD_TEXT:
-        return "text that isn't UTF-8";
-    case GRASP_BAD_RECORD:
-        return "bad record";
-    case GRASP_BAD_LINK:
-        return "no such link, or it is down";
-    case GRASP_EARLY_CLOCK:
-        return "clock earlier than the record's";
-    case GRASP_BAD_TABLE:
-        return "bad relay table";
-    case GRASP_BAD_NAMES:
-        return "bad own names";
-    case GRASP_SMALL_OUTPUT:
-        return "output shorter than 2,048 bytes";
-    case GRASP_NO_SUCH_MESSAGE:
-        return "no message has this description";
-    case GRASP_SHORT_OUTPUT:
-        return "output shorter than the message";
-    case GRASP_NOT_ALLOWED:
-        return "step not allowed";
-    default:
-        return "unknown refusal";
-    }
+    static const char *const texts[] = {
+        "accepted",
+        "no bytes, or over 2,048",
+        "ends inside an item",
+        "reserved head",
+        "indefinite length",
+        "head longer than needed",
+        "nested too deep",
+        "bytes after the item",
+        "unknown kind",
+        "not the shape of a message",
+        "name over 64 bytes",
+        "text that isn't UTF-8",
+        "bad record",
+        "no such link, or it is down",
+        "clock earlier than the record's",
+        "bad relay table",
+        "bad own names",
+        "output shorter than 2,048 bytes",
+        "no message has this description",
+        "output shorter than the message",
+        "step not allowed",
+    };
+    return refusal < sizeof texts / sizeof *texts ? texts[refusal] : "unknown refusal";
 }
 
 static inline const char *grasp_verdict_text(uint64_t verdict) {
