@@ -1,16 +1,17 @@
-/* grasp_fresh, grasp_set_links and grasp_node_call. */
+/* The node, with its record as a struct that is changed in place and as numbers. */
 #include <string.h>
 
 #include "test.h"
 
-enum { NUMBERS = GRASP_RECORD_FIELDS };
+/* How the record is lent: by grasp_fresh, .. or by grasp_record_fresh, .. */
+static enum { AS_NUMBERS, IN_PLACE, FORMS } form;
 
 static const uint8_t own[GRASP_ADDRESS_BYTES] = {0x20, 0x01, 0x0D, 0xB8, 0, 0, 0, 0, 0, 0, 0, 0, 0, 0, 0, 1};
 
 /* What a host keeps, and what the last call wrote. */
 struct host {
     uint8_t address[GRASP_ADDRESS_BYTES], table[GRASP_TABLE_BYTES + 8];
-    uint64_t record[NUMBERS], answer[GRASP_ANSWER_FIELDS];
+    uint64_t record[GRASP_RECORD_FIELDS], answer[GRASP_ANSWER_FIELDS];
     size_t table_size;
     struct bytes out;
 };
@@ -26,33 +27,88 @@ static struct call called(uint64_t clock, uint64_t interface, const char *names,
     return (struct call){clock, interface, hex(names), hex(message), GRASP_MESSAGE_BYTES};
 }
 
+/* Whether the record has a struct. */
+static int has_struct(const struct host *host) {
+    const uint64_t *record = host->record;
+    return record[GRASP_RECORD_PORT] <= UINT16_MAX && record[GRASP_RECORD_TTL] <= UINT32_MAX &&
+           record[GRASP_RECORD_INTERFACES] <= UINT8_MAX && record[GRASP_RECORD_LINKS] <= UINT8_MAX;
+}
+
+/* Lends the record in its form. */
+static void *lend_record(const struct host *host) {
+    const uint64_t *record = host->record;
+    struct grasp_record node;
+    if (form == AS_NUMBERS)
+        return lend(RECORD, record, sizeof host->record);
+    EXPECT(has_struct(host));
+    memset(&node, 0, sizeof node);
+    memcpy(node.address, host->address, sizeof node.address);
+    node.port = (uint16_t)record[GRASP_RECORD_PORT];
+    node.ttl = (uint32_t)record[GRASP_RECORD_TTL];
+    node.interfaces = (uint8_t)record[GRASP_RECORD_INTERFACES];
+    node.links = (uint8_t)record[GRASP_RECORD_LINKS];
+    node.clock = record[GRASP_RECORD_CLOCK];
+    node.tally = record[GRASP_RECORD_TALLY];
+    return lend(RECORD, &node, sizeof node);
+}
+
+/* Keeps the record as a call left it. */
+static void keep_record(struct host *host, const void *lent) {
+    struct grasp_record node;
+    EXPECT(has_margins(RECORD));
+    if (form == AS_NUMBERS) {
+        memcpy(host->record, lent, sizeof host->record);
+        return;
+    }
+    memcpy(&node, lent, sizeof node);
+    memcpy(host->address, node.address, sizeof node.address);
+    host->record[GRASP_RECORD_PORT] = node.port;
+    host->record[GRASP_RECORD_TTL] = node.ttl;
+    host->record[GRASP_RECORD_INTERFACES] = node.interfaces;
+    host->record[GRASP_RECORD_LINKS] = node.links;
+    host->record[GRASP_RECORD_CLOCK] = node.clock;
+    host->record[GRASP_RECORD_TALLY] = node.tally;
+}
+
+/* Whether a call left the record as it was. */
+static int is_kept(const struct host *host, const void *lent) {
+    struct host after = *host;
+    keep_record(&after, lent);
+    return memcmp(after.record, host->record, sizeof after.record) == 0 &&
+           memcmp(after.address, host->address, sizeof after.address) == 0;
+}
+
 /* Asks for a fresh record with all margins looked at. */
 static uint8_t fresh(struct host *host, uint64_t interfaces, uint64_t links) {
     const uint8_t *address = lend(ADDRESS, own, sizeof own);
-    uint64_t *record = lend(RECORD, host->record, sizeof host->record);
-    uint8_t refusal = saw_refusal(grasp_fresh(address, 7017, 60000, interfaces, links, record));
-    EXPECT(is_as_lent(ADDRESS) && has_margins(RECORD));
-    EXPECT(refusal == 0 || is_as_lent(RECORD));
-    memcpy(host->record, record, sizeof host->record);
-    return refusal;
+    void *record = lend_record(host);
+    uint8_t refusal = form == AS_NUMBERS
+                          ? grasp_fresh(address, 7017, 60000, interfaces, links, record)
+                          : grasp_record_fresh(record, address, 7017, 60000, interfaces, links);
+    EXPECT(is_as_lent(ADDRESS));
+    EXPECT(refusal == 0 || is_kept(host, record));
+    keep_record(host, record);
+    return saw_refusal(refusal);
 }
 
 /* A node with so many interfaces, all up. */
 static struct host node(uint64_t interfaces) {
     struct host host = {{0}, {0}, {0}, {0}, GRASP_TABLE_BYTES, {{0}, 0}};
-    memcpy(host.address, own, sizeof own);
     EXPECT_NUMBER(fresh(&host, interfaces, ((uint64_t)1 << interfaces) - 1), 0);
+    EXPECT(form == AS_NUMBERS || memcmp(host.address, own, sizeof own) == 0);
+    memcpy(host.address, own, sizeof own);
     return host;
 }
 
 static uint8_t set_links(struct host *host, uint64_t links) {
     const uint8_t *address = lend(ADDRESS, host->address, sizeof host->address);
-    uint64_t *record = lend(RECORD, host->record, sizeof host->record);
-    uint8_t refusal = saw_refusal(grasp_set_links(address, record, links));
-    EXPECT(is_as_lent(ADDRESS) && has_margins(RECORD));
-    EXPECT(refusal == 0 || is_as_lent(RECORD));
-    memcpy(host->record, record, sizeof host->record);
-    return refusal;
+    void *record = lend_record(host);
+    uint8_t refusal =
+        form == AS_NUMBERS ? grasp_set_links(address, record, links) : grasp_record_set_links(record, links);
+    EXPECT(is_as_lent(ADDRESS));
+    EXPECT(refusal == 0 || is_kept(host, record));
+    keep_record(host, record);
+    return saw_refusal(refusal);
 }
 
 /* Calls the node with all margins looked at; what is refused leaves all, and what isn't sent stays. */
@@ -60,29 +116,28 @@ static uint8_t take(struct host *host, const struct call *call) {
     const uint8_t *address = lend(ADDRESS, host->address, sizeof host->address);
     const uint8_t *names = lend(NAMES, call->names.at, call->names.len);
     const uint8_t *message = lend(BYTES, call->message.at, call->message.len);
-    uint64_t *record = lend(RECORD, host->record, sizeof host->record);
     uint64_t *answer = lend(ANSWER, NULL, sizeof host->answer);
     uint8_t *table = lend(TABLE, host->table, host->table_size), *out = lend(OUT, NULL, call->size);
-    uint8_t before[2 * GRASP_MESSAGE_BYTES], refusal;
-    size_t sent = 0;
-    memcpy(before, out, call->size);
-    refusal = saw_refusal(grasp_node_call(address, record, table, host->table_size, call->clock,
-                                          call->interface, names, call->names.len, message, call->message.len,
-                                          out, call->size, answer));
+    void *record = lend_record(host);
+    uint8_t refusal =
+        form == AS_NUMBERS
+            ? grasp_node_call(address, record, table, host->table_size, call->clock, call->interface, names,
+                              call->names.len, message, call->message.len, out, call->size, answer)
+            : grasp_record_call(record, table, host->table_size, call->clock, call->interface, names,
+                                call->names.len, message, call->message.len, out, call->size, answer);
     EXPECT(is_as_lent(ADDRESS) && is_as_lent(NAMES) && is_as_lent(BYTES));
-    EXPECT(has_margins(RECORD) && has_margins(TABLE) && has_margins(OUT) && has_margins(ANSWER));
-    if (refusal != 0) {
-        EXPECT(is_as_lent(RECORD) && is_as_lent(TABLE) && is_as_lent(OUT) && is_as_lent(ANSWER));
+    EXPECT(has_margins(TABLE) && has_margins(OUT) && has_margins(ANSWER) && has_margins(RECORD));
+    if (saw_refusal(refusal) != 0) {
+        EXPECT(is_kept(host, record) && is_as_lent(TABLE) && is_as_lent(OUT) && is_as_lent(ANSWER));
         return refusal;
     }
-    sent = (size_t)answer[GRASP_ANSWER_LENGTH];
-    EXPECT(sent <= call->size && memcmp(out + sent, before + sent, call->size - sent) == 0);
-    memcpy(host->out.at, out, sent);
-    host->out.len = sent;
-    memcpy(host->record, record, sizeof host->record);
+    keep_record(host, record);
     memcpy(host->table, table, host->table_size);
     memcpy(host->answer, answer, sizeof host->answer);
     saw_verdict(host->answer[GRASP_ANSWER_VERDICT]);
+    host->out.len = (size_t)host->answer[GRASP_ANSWER_LENGTH];
+    memcpy(host->out.at, out, host->out.len);
+    EXPECT(is_as_lent_from(OUT, host->out.len));
     return 0;
 }
 
@@ -317,6 +372,8 @@ static void test_records(void) {
         EXPECT_NUMBER(fresh(&host, counts[i], 0), 12);
         bad = host;
         bad.record[GRASP_RECORD_INTERFACES] = counts[i];
+        if (form == IN_PLACE && !has_struct(&bad))
+            continue;
         EXPECT_NUMBER(take(&bad, &call), 12);
         EXPECT_NUMBER(set_links(&bad, 0), 12);
     }
@@ -325,23 +382,34 @@ static void test_records(void) {
         EXPECT_NUMBER(set_links(&host, masks[i]), 13);
         bad = host;
         bad.record[GRASP_RECORD_LINKS] = masks[i];
+        if (form == IN_PLACE && !has_struct(&bad))
+            continue;
         EXPECT_NUMBER(take(&bad, &call), 12);
         EXPECT_NUMBER(set_links(&bad, 0), 12);
     }
 }
 
-/* A port or ttl that is too wide, a record of all ones, and interfaces that aren't there or down. */
+/* Numbers that no record has room for. */
 static void test_wide_numbers(void) {
+    static const uint64_t widths[] = {16, 32, 8, 8};
+    const struct call call = called(1, 0, "80", "81 00");
+    for (size_t field = GRASP_RECORD_PORT; field <= GRASP_RECORD_LINKS; field++) {
+        struct host host = node(2);
+        host.record[field] += (uint64_t)1 << widths[field];
+        EXPECT_NUMBER(take(&host, &call), 12);
+        EXPECT_NUMBER(set_links(&host, 0), 12);
+    }
+}
+
+/* A record of all ones, interfaces that aren't there or down, and links that come and go. */
+static void test_links(void) {
     static const uint64_t none[] = {2, 8, 64, 256, (uint64_t)1 << 32, UINT64_MAX};
     const struct call good = called(1, 0, "80", "81 00");
     struct host host = node(2), bad = host;
-    bad.record[GRASP_RECORD_PORT] = 65536;
-    EXPECT_NUMBER(take(&bad, &good), 12);
-    EXPECT_NUMBER(set_links(&bad, 0), 12);
-    bad = host;
-    bad.record[GRASP_RECORD_TTL] = (uint64_t)1 << 32;
-    EXPECT_NUMBER(take(&bad, &good), 12);
     memset(bad.record, 0xFF, sizeof bad.record);
+    if (form == IN_PLACE)
+        memcpy(bad.record, (uint64_t[]){UINT16_MAX, UINT32_MAX, UINT8_MAX, UINT8_MAX},
+               4 * sizeof *bad.record);
     EXPECT_NUMBER(take(&bad, &good), 12);
     EXPECT_NUMBER(set_links(&bad, UINT64_MAX), 12);
     for (size_t i = 0; i < sizeof none / sizeof *none; i++) {
@@ -359,14 +427,18 @@ static void test_wide_numbers(void) {
 }
 
 void test_node(void) {
-    test_discovery();
-    test_flood();
-    test_other_kinds();
-    test_full_table();
-    test_order();
-    test_bad_messages();
-    test_names();
-    test_tables();
-    test_records();
+    for (form = AS_NUMBERS; form < FORMS; form++) {
+        test_discovery();
+        test_flood();
+        test_other_kinds();
+        test_full_table();
+        test_order();
+        test_bad_messages();
+        test_names();
+        test_tables();
+        test_records();
+        test_links();
+    }
+    form = AS_NUMBERS;
     test_wide_numbers();
 }

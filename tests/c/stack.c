@@ -21,6 +21,7 @@ static uint8_t message[GRASP_MESSAGE_BYTES], table[GRASP_TABLE_BYTES], out[GRASP
 static size_t length;
 static uint64_t fields[GRASP_FIELDS], rows[400 * GRASP_PAIR_FIELDS], numbers[GRASP_RECORD_FIELDS],
     answer[GRASP_ANSWER_FIELDS], state[GRASP_STATE_FIELDS];
+static struct grasp_record node;
 static size_t listed;
 static uint8_t answered;
 
@@ -87,6 +88,7 @@ static void describe(void) {
 static void fresh_node(void) {
     memset(table, 0, sizeof table);
     grasp_fresh(address, 7017, 60000, 8, 0xFF, numbers);
+    grasp_record_fresh(&node, address, 7017, 60000, 8, 0xFF);
 }
 
 static void flooded_node(void) {
@@ -115,6 +117,15 @@ static void write(void) {
         grasp_write(message, length, rows, listed * GRASP_PAIR_FIELDS, fields, out, sizeof out, answer);
 }
 
+static void record_fresh(void) { answered = grasp_record_fresh(&node, address, 7017, 60000, 8, 0xFF); }
+
+static void record_set_links(void) { answered = grasp_record_set_links(&node, 0x7F); }
+
+static void record_call(void) {
+    answered = grasp_record_call(&node, table, sizeof table, 1, 0, names, sizeof names, message, length, out,
+                                 sizeof out, answer);
+}
+
 static void begin(void) { answered = grasp_fresh(address, 7017, 60000, 8, 0xFF, numbers); }
 
 static void set_links(void) { answered = grasp_set_links(address, numbers, 0x7F); }
@@ -131,6 +142,10 @@ static const struct {
     void (*prepare)(void);
     void (*call)(void);
 } calls[] = {
+    {"grasp_record_fresh", fresh_node, record_fresh},
+    {"grasp_record_set_links", fresh_node, record_set_links},
+    {"grasp_record_call, RELAY", flooded_node, record_call},
+    {"grasp_record_call, ANSWER", asked_node, record_call},
     {"grasp_read", flood, read},
     {"grasp_locator", flood, locate},
     {"grasp_pair", flood, pair},

@@ -73,6 +73,12 @@ int has_margins(enum lent what) {
 
 int is_as_lent(enum lent what) { return memcmp(all_lent[what].area, all_lent[what].before, AREA) == 0; }
 
+int is_as_lent_from(enum lent what, size_t place) {
+    size_t from = (size_t)(all_lent[what].at - all_lent[what].area) + place;
+    return place <= all_lent[what].len &&
+           memcmp(all_lent[what].area + from, all_lent[what].before + from, AREA - from) == 0;
+}
+
 uint8_t saw_refusal(uint8_t refusal) {
     refusals[refusal]++;
     return refusal;

@@ -24,9 +24,10 @@ enum lent { BYTES, LIST, FIELDS, OUT, LENGTH, ADDRESS, RECORD, TABLE, NAMES, ANS
  */
 void *lend(enum lent what, const void *content, size_t len);
 
-/* Whether a call left the bytes around the lent ones as they were; and those too. */
+/* Whether a call left the bytes around the lent ones as they were; those too; those from a place on. */
 int has_margins(enum lent what);
 int is_as_lent(enum lent what);
+int is_as_lent_from(enum lent what, size_t place);
 
 /* Notes an answer, so that one that is never given is found. */
 uint8_t saw_refusal(uint8_t refusal);

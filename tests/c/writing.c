@@ -51,7 +51,7 @@ static uint8_t write_to(const struct description *it, size_t size, struct bytes 
     if (refusal == 0 && *length <= size) {
         written->len = (size_t)*length;
         memcpy(written->at, out, written->len);
-        EXPECT(memcmp(out + written->len, before + written->len, size - written->len) == 0);
+        EXPECT(is_as_lent_from(OUT, written->len));
     }
     return refusal;
 }
