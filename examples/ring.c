@@ -19,8 +19,7 @@ enum { NEXT = 0, PREVIOUS = 1, INTERFACES = 2, ALL_UP = 3 };
 
 /* What a rail keeps: its record and its relay table. */
 struct rail {
-    uint8_t address[GRASP_ADDRESS_BYTES];
-    uint64_t record[GRASP_RECORD_FIELDS];
+    struct grasp_record record;
     uint8_t table[GRASP_TABLE_BYTES];
 };
 
@@ -91,9 +90,9 @@ static void relay(struct ring *ring, const struct copy *copy) {
     struct rail *rail = &ring->rails[copy->rail];
     uint8_t out[GRASP_MESSAGE_BYTES];
     uint64_t answer[GRASP_ANSWER_FIELDS];
-    uint8_t refusal = grasp_node_call(rail->address, rail->record, rail->table, sizeof rail->table, copy->due,
-                                      copy->interface, own_names, sizeof own_names, copy->bytes, copy->len,
-                                      out, sizeof out, answer);
+    uint8_t refusal =
+        grasp_record_call(&rail->record, rail->table, sizeof rail->table, copy->due, copy->interface,
+                          own_names, sizeof own_names, copy->bytes, copy->len, out, sizeof out, answer);
     if (refusal != GRASP_ACCEPTED) {
         printf("refused: %s\n", grasp_refusal_text(refusal));
         return;
@@ -101,7 +100,7 @@ static void relay(struct ring *ring, const struct copy *copy) {
     send_copies(ring, copy->due, copy->rail, answer[GRASP_ANSWER_MASK], out,
                 (size_t)answer[GRASP_ANSWER_LENGTH]);
     printf("%4" PRIu64 " ms  rail %c  %-9s  tally %" PRIu64, copy->due, 'A' + (int)copy->rail,
-           grasp_verdict_text(answer[GRASP_ANSWER_VERDICT]), rail->record[GRASP_RECORD_TALLY]);
+           grasp_verdict_text(answer[GRASP_ANSWER_VERDICT]), rail->record.tally);
     if (answer[GRASP_ANSWER_HANDED_UP])
         hear(copy->bytes, copy->len);
     printf("\n");
@@ -117,10 +116,9 @@ static void forward(struct ring *ring, const struct copy *copy) {
 static void begin(struct ring *ring) {
     memset(ring, 0, sizeof *ring);
     for (size_t i = 0; i < RAILS; i++) {
-        struct rail *rail = &ring->rails[i];
         const uint8_t address[GRASP_ADDRESS_BYTES] = {0x20, 0x01, 0x0D, 0xB8, [15] = (uint8_t)(i + 1)};
-        memcpy(rail->address, address, sizeof address);
-        if (grasp_fresh(rail->address, 7017, 60000, INTERFACES, ALL_UP, rail->record) != GRASP_ACCEPTED)
+        if (grasp_record_fresh(&ring->rails[i].record, address, 7017, 60000, INTERFACES, ALL_UP) !=
+            GRASP_ACCEPTED)
             printf("rail %zu: bad record\n", i);
     }
 }
@@ -130,7 +128,7 @@ static void flood(struct ring *ring) {
     static const uint8_t name[] = {'L', 'A', 'M', 'P'}, value[] = {0x19, 0x0F, 0xA0};
     uint8_t source[GRASP_ADDRESS_BYTES + sizeof name + sizeof value], out[GRASP_MESSAGE_BYTES];
     uint64_t fields[GRASP_FIELDS] = {0}, pair[GRASP_PAIR_FIELDS] = {0}, length;
-    memcpy(source, ring->rails[0].address, GRASP_ADDRESS_BYTES);
+    memcpy(source, ring->rails[0].record.address, GRASP_ADDRESS_BYTES);
     memcpy(source + GRASP_ADDRESS_BYTES, name, sizeof name);
     memcpy(source + GRASP_ADDRESS_BYTES + sizeof name, value, sizeof value);
     fields[GRASP_KIND] = GRASP_FLOOD;
