@@ -105,20 +105,19 @@ fn read(message: &[u8]) {
     COUNTS.messages.fetch_add(1, Relaxed);
     let heads = (0..message.len()).filter(|&at| matches!(message[at], 0x82 | 0x84));
     let places: Vec<usize> = heads.take(8).collect();
-    tell(
-        &[hex(message)],
-        difference(message, &places).map(|it| (0, it)),
-    );
+    read_at(message, &places);
 }
 
 /// The same at every place of at most 32 bytes, near and far.
 fn read_everywhere(message: &[u8]) {
     COUNTS.parts.fetch_add(1, Relaxed);
-    let places = every_place(message.len().min(32));
-    tell(
-        &[hex(message)],
-        difference(message, &places).map(|it| (0, it)),
-    );
+    read_at(message, &every_place(message.len().min(32)));
+}
+
+fn read_at(message: &[u8], places: &[usize]) {
+    if let Some(found) = difference(message, places) {
+        tell(&[hex(message)], Some((0, found)));
+    }
 }
 
 fn write(write: &Write) {
