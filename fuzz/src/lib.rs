@@ -20,6 +20,7 @@ use compare::writing::Write;
 use second::vectors::hex;
 
 use input::Input;
+use messages::message;
 
 /// How many inputs were compared, and how many calls they made; see [`Counts::report`].
 static COUNTS: Counts = Counts {
@@ -91,8 +92,10 @@ pub unsafe extern "C" fn LLVMFuzzerTestOneInput(data: *const u8, size: usize) ->
 pub fn compare(bytes: &[u8]) {
     let mut input = Input::new(bytes);
     match input.byte() {
-        0..=79 => read(input.rest()),
-        80..=95 => read_everywhere(input.rest()),
+        0..=47 => read(input.rest()),
+        48..=79 => read(&message(&mut input)),
+        80..=87 => read_everywhere(input.rest()),
+        88..=95 => read_everywhere(&message(&mut input)),
         96..=127 => descriptions::changed(&mut input).iter().for_each(write),
         128..=143 => write(&descriptions::spelled(&mut input)),
         sort @ 144..=223 => run(&histories::history(&mut input, sort >= 184)),

@@ -5,8 +5,17 @@ use crate::input::Input;
 /// The address that records are mostly given: an initiator of these bytes is ours.
 pub const ADDRESS: [u8; 16] = [0x20; 16];
 
-/// Names of objectives; the second is that of the rules' examples.
-const NAMES: [&[u8]; 4] = [b"", b"EX1", b"EX2", &[b'x'; 64]];
+/// Names of objectives; the second is that of the rules' examples, the last two are refused.
+const NAMES: [&[u8]; 8] = [
+    b"",
+    b"EX1",
+    b"EX2",
+    b"EX1",
+    b"EX2",
+    &[b'x'; 64],
+    &[b'x'; 65],
+    b"\xC3",
+];
 
 /// Own names: none, one, three, and an array that is cut.
 const OWN: [&[u8]; 4] = [
@@ -75,34 +84,32 @@ fn flood(input: &mut Input, session: &[u8]) -> Vec<u8> {
     for _ in 0..pairs {
         flood.push(0x82);
         flood.extend(objective(input));
-        flood.extend(locator(input));
+        match input.below(2) {
+            0 => flood.push(0x80),
+            _ => flood.extend(locator(input)),
+        }
     }
     flood
 }
 
-/// A Response with one locator or a divert, and at times an objective.
+/// A Response with one to four locators or a divert of them, and at times an objective.
 fn response(input: &mut Input, session: &[u8]) -> Vec<u8> {
     let sort = input.byte();
     let initiator = initiator(input);
     let ttl = head(0, input.number());
-    let locator = locator(input);
-    let divert = [&[0x82, 0x18, 100][..], &locator].concat();
-    let target = if sort & 1 == 0 { locator } else { divert };
-    let objective = if sort & 2 == 0 {
-        vec![]
-    } else {
-        objective(input)
+    let many = 1 + sort / 4 % 4;
+    let locators: Vec<u8> = (0..many).flat_map(|_| locator(input)).collect();
+    let (items, target) = match sort & 1 {
+        0 => (0x84 + many, locators),
+        _ => (0x85, [&[0x81 + many, 0x18, 100][..], &locators].concat()),
     };
-    let items = 0x85 + u8::from(sort & 2 != 0);
-    [
-        &[items, 2][..],
-        session,
-        &initiator,
-        &ttl,
-        &target,
-        &objective,
-    ]
-    .concat()
+    let objective = match sort & 2 {
+        0 => vec![],
+        _ => objective(input),
+    };
+    let items = items + u8::from(!objective.is_empty());
+    let start = [&[items, 2][..], session, &initiator, &ttl].concat();
+    [start, target, objective].concat()
 }
 
 /// The session and count of a negotiation's last Request or Negotiate.
@@ -157,7 +164,7 @@ fn objective(input: &mut Input) -> Vec<u8> {
 fn objective_of(input: &mut Input, count: u64) -> Vec<u8> {
     let sort = input.byte();
     let name = NAMES[usize::from(sort) % NAMES.len()];
-    let flags = head(0, u64::from(sort / 4 % 17));
+    let flags = head(0, u64::from(sort / 8 % 17));
     let count = head(0, count);
     let value = if sort < 200 { &[] } else { input.bytes() };
     let items = if sort < 200 { 0x83 } else { 0x84 };
@@ -172,16 +179,16 @@ fn objective_of(input: &mut Input, count: u64) -> Vec<u8> {
     .concat()
 }
 
-/// An empty array or a locator.
+/// A locator; the texts of some aren't UTF-8.
 fn locator(input: &mut Input) -> Vec<u8> {
     let sort = input.byte();
     let port = head(0, input.number());
-    match sort % 8 {
-        0..=3 => vec![0x80],
-        4 => [&[0x84, 0x18, 103, 0x50][..], &ADDRESS, &[6], &port].concat(),
-        5 => [&[0x84, 0x18, 104, 0x44, 192, 0, 2, 1, 17][..], &port].concat(),
-        6 => [&[0x84, 0x18, 105, 0x62, sort, 0x80, 6][..], &port].concat(),
-        _ => [&[0x84, 0x18, 106, 0x62, 0xC3, sort, 0xF6][..], &[0xF6]].concat(),
+    match sort % 5 {
+        0 => [&[0x84, 0x18, 103, 0x50][..], &ADDRESS, &[6], &port].concat(),
+        1 => [&[0x84, 0x18, 104, 0x44, 192, 0, 2, 1, 17][..], &port].concat(),
+        2 => [&[0x84, 0x18, 105, 0x62, sort, 0x80, 6][..], &port].concat(),
+        3 => [&[0x84, 0x18, 106, 0x62, 0xC3, sort, 0xF6][..], &port].concat(),
+        _ => [&[0x84, 0x18, 106, 0x61, sort, sort % 18][..], &[0xF6]].concat(),
     }
 }
 

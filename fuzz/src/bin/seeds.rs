@@ -17,7 +17,7 @@ fn main() -> io::Result<()> {
     let cases = cases().into_iter().filter(|case| case.len() <= SHORT);
     let reads = cases.clone().map(|case| [&[0][..], &case].concat());
     let writes = cases.map(|case| [&[96, 0, 0, 128][..], &case].concat());
-    let others = (80..=255).map(|sort| vec![sort, 0]);
+    let others = (48..=255).map(|sort| vec![sort, 0]);
     for (number, seed) in reads.chain(writes).chain(others).enumerate() {
         fs::write(folder.join(format!("{number:05}")), seed)?;
     }
