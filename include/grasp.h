@@ -2,8 +2,8 @@
  * Copperladle: a proved GRASP (RFC 8990) node, for C.
  *
  * Link with libgrasp.a (`rt staticlib grasp` writes target/staticlib/libgrasp.a,
- * for x86-64); grasp.pc says how to pkg-config. grasp_text.h has words for logs,
- * examples/ring.c is a small host.
+ * for x86-64); grasp.pc has the flags for pkg-config. grasp_text.h has words for
+ * logs, examples/ring.c is a small host.
  *
  * Every function answers every argument: no byte, place or number is expected
  * to have been checked. It answers 0, or the number of a refusal (enum
@@ -17,8 +17,8 @@
  *
  * What a caller must see to, since no function can test it: a pointer is not
  * NULL (also where the length is 0), is aligned for its type and points at as
- * many initialised bytes or numbers as are said here; and memory that is written
- * overlaps no other argument.
+ * many bytes or numbers as are said here, initialised unless they are only
+ * filled; and memory that is written overlaps no other argument.
  *
  * Stack: see GRASP_STACK_BYTES.
  */
@@ -77,9 +77,9 @@ enum grasp_kind {
 enum { GRASP_MESSAGE_BYTES = 2048 };
 
 /*
- * No call uses so much stack on x86-64. tests/c/stack.c measures it: it paints a
+ * More stack than any call was seen to use on x86-64. tests/c/stack.c paints a
  * stack, calls each function where it goes deepest, and looks how far down the
- * paint is gone; a node call uses most, 7,160 bytes. No function recurses, whatever
+ * paint is gone: a node call uses most, 7,160 bytes. No function recurses, whatever
  * the message's nesting.
  */
 enum { GRASP_STACK_BYTES = 8192 };
@@ -89,8 +89,9 @@ enum { GRASP_STACK_BYTES = 8192 };
 enum { GRASP_ADDRESS_BYTES = 16 };
 
 /*
- * A node's record, which the host keeps and each call changes in place.
- * grasp_record_fresh fills it; a host may read it at any time.
+ * A node's record, which the host keeps and calls change in place.
+ * grasp_record_fresh fills it; a host may read it between calls. The bytes between
+ * its members mean nothing.
  */
 struct grasp_record {
     uint8_t address[GRASP_ADDRESS_BYTES]; /* the node's own */
