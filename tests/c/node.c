@@ -269,6 +269,8 @@ static void test_order(void) {
     EXPECT_NUMBER(take(&host, &call), 16);
     call.names = hex("80");
     EXPECT_NUMBER(take(&host, &call), 17);
+    call.size = 0;
+    EXPECT_NUMBER(take(&host, &call), 17);
     call.size = GRASP_MESSAGE_BYTES + 1;
     EXPECT_NUMBER(take(&host, &call), 1);
     call.message = hex(discovery);
