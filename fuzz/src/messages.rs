@@ -25,14 +25,32 @@ const OWN: [&[u8]; 4] = [
     b"\x82\x60",
 ];
 
-/// A message of a random sort: put together, put together and damaged, or raw.
+/// A message of a random sort: put together, put together and damaged, long, or raw.
 pub fn message(input: &mut Input) -> Vec<u8> {
     let sort = input.byte();
     match sort {
         0..=175 => sketched(input, sort),
-        176..=215 => damaged(input, sort),
+        176..=211 => damaged(input, sort),
+        212 | 213 => filled(input),
+        214 | 215 => crowded(input),
         _ => input.bytes().to_vec(),
     }
+}
+
+/// An Invalid of 2,041 to 2,056 bytes.
+fn filled(input: &mut Input) -> Vec<u8> {
+    let content = vec![input.byte(); 2_034 + input.below(16)];
+    let start = [0x83, 0x18, 99, 7];
+    [&start[..], &head(2, content.len() as u64), &content].concat()
+}
+
+/// A Flood of up to 340 pairs, which may be too long.
+fn crowded(input: &mut Input) -> Vec<u8> {
+    let pairs = input.number() % 341;
+    let initiator = initiator(input);
+    let start = [&head(4, 4 + pairs)[..], &[9, 7], &initiator, &[0]].concat();
+    let pair = [0x82, 0x83, 0x60, 4, input.byte() % 24, 0x80];
+    [start, pair.repeat(pairs as usize)].concat()
 }
 
 /// Own names, mostly good ones.
