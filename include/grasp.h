@@ -1,15 +1,26 @@
 /*
  * Copperladle: a proved GRASP (RFC 8990) node, for C.
  *
- * Link with libgrasp.a (`rt staticlib grasp` writes target/staticlib/libgrasp.a).
+ * Link with libgrasp.a (`rt staticlib grasp` writes target/staticlib/libgrasp.a,
+ * for x86-64); grasp.pc has the flags for pkg-config. grasp_text.h has words for
+ * logs, examples/ring.c is a small host.
  *
  * Every function answers every argument: no byte, place or number is expected
- * to have been checked. Nothing is kept between calls and nothing is allocated;
- * there are no globals, so calls may run side by side.
+ * to have been checked. It answers 0, or the number of a refusal (enum
+ * grasp_refusal) and then has changed nothing; grasp_locator and grasp_pair
+ * answer a place.
  *
- * What a caller must see to: a pointer is not NULL (also where the length is 0)
- * and points at as many bytes or numbers as are said here, and a buffer that is
- * written overlaps no other argument.
+ * All memory is the caller's. No pointer is kept when a call returns, nothing is
+ * allocated and there are no globals, so calls on different memory may run side
+ * by side and one may interrupt another. The archive calls nothing but functions
+ * of <string.h>.
+ *
+ * What a caller must see to, since no function can test it: a pointer is not
+ * NULL (also where the length is 0), is aligned for its type and points at as
+ * many bytes or numbers as are said here, initialised unless they are only
+ * filled; and memory that is written overlaps no other argument.
+ *
+ * Stack: see GRASP_STACK_BYTES.
  */
 #ifndef GRASP_H
 #define GRASP_H
@@ -61,6 +72,111 @@ enum grasp_kind {
     GRASP_FLOOD = 9,
     GRASP_INVALID = 99
 };
+
+/* The most bytes of a message, and so the room that a node call's output must have. */
+enum { GRASP_MESSAGE_BYTES = 2048 };
+
+/*
+ * More stack than any call was seen to use on x86-64. tests/c/stack.c paints a
+ * stack, calls each function where it goes deepest, and looks how far down the
+ * paint is gone: a node call uses most, 7,160 bytes. No function recurses, whatever
+ * the message's nesting.
+ */
+enum { GRASP_STACK_BYTES = 8192 };
+
+/* ---- The node ---- */
+
+enum { GRASP_ADDRESS_BYTES = 16 };
+
+/*
+ * A node's record, which the host keeps and calls change in place.
+ * grasp_record_fresh fills it; a host may read it between calls. The bytes between
+ * its members mean nothing.
+ */
+struct grasp_record {
+    uint8_t address[GRASP_ADDRESS_BYTES]; /* the node's own */
+    uint16_t port;
+    uint32_t ttl;       /* of an answer, in ms */
+    uint8_t interfaces; /* how many: 1 to 8 */
+    uint8_t links;      /* bit i: interface i is up */
+    uint64_t clock;     /* the last accepted one, in ms */
+    uint64_t tally;     /* the copies of all relays */
+};
+
+/* The archive has this layout. */
+#ifdef __cplusplus
+#define GRASP_ASSERT static_assert
+#else
+#define GRASP_ASSERT _Static_assert
+#endif
+GRASP_ASSERT(sizeof(struct grasp_record) == 48, "size of struct grasp_record");
+GRASP_ASSERT(offsetof(struct grasp_record, address) == 0, "place of address");
+GRASP_ASSERT(offsetof(struct grasp_record, port) == 16, "place of port");
+GRASP_ASSERT(offsetof(struct grasp_record, ttl) == 20, "place of ttl");
+GRASP_ASSERT(offsetof(struct grasp_record, interfaces) == 24, "place of interfaces");
+GRASP_ASSERT(offsetof(struct grasp_record, links) == 25, "place of links");
+GRASP_ASSERT(offsetof(struct grasp_record, clock) == 32, "place of clock");
+GRASP_ASSERT(offsetof(struct grasp_record, tally) == 40, "place of tally");
+#undef GRASP_ASSERT
+
+/*
+ * The relay table: 64 rows of four numbers, eight bytes each, the most significant
+ * first. A fresh one is all zeros; a host only clears and lends it.
+ */
+enum { GRASP_TABLE_BYTES = 2048 };
+
+/* What a node does with a message. */
+enum grasp_verdict {
+    GRASP_OWN = 1,       /* it began here */
+    GRASP_ANSWER = 2,    /* a Discovery of an own name: send the output back */
+    GRASP_DUPLICATE = 3, /* relayed before, and its row lives */
+    GRASP_LAST = 4,      /* its count is used up */
+    GRASP_NOWHERE = 5,   /* no other link is up */
+    GRASP_NO_ROW = 6,    /* the table is full */
+    GRASP_RELAY = 7,     /* send the output on */
+    GRASP_NOTHING = 8,   /* a Noop */
+    GRASP_HAND = 9       /* for the host */
+};
+
+/* The answer of a node call. */
+enum grasp_answer_field {
+    GRASP_ANSWER_VERDICT = 0,
+    GRASP_ANSWER_HANDED_UP = 1, /* 1 if the host is to look at the message */
+    GRASP_ANSWER_MASK = 2,      /* send on interface i where bit i is set */
+    GRASP_ANSWER_LENGTH = 3,    /* how many bytes of the output to send */
+    GRASP_ANSWER_FIELDS = 4
+};
+
+/*
+ * Begins a node: answers 0 and puts a fresh record, whose clock and tally are 0;
+ * or answers 12 and leaves the record as it was. The record is read too, so it is
+ * to be initialised (`struct grasp_record node = {0};`), and the address is not to
+ * be the record's own. The table that goes with a fresh record is all zeros, and
+ * negotiations begin anew.
+ */
+uint8_t grasp_record_fresh(struct grasp_record *node, const uint8_t address[GRASP_ADDRESS_BYTES],
+                           uint16_t port, uint32_t ttl, uint64_t interfaces, uint64_t links);
+
+/*
+ * Puts new links in the place of the old ones. Answers 0; or 12, then 13, and
+ * leaves the record as it was.
+ */
+uint8_t grasp_record_set_links(struct grasp_record *node, uint64_t links);
+
+/*
+ * Says what the node does with a message that came in by an interface, at a clock
+ * in ms. Answers 0, fills the answer, and changes the record (clock and tally),
+ * the table and, where something is to be sent, the first bytes of the output; or
+ * answers the number of the refusal, 12 to 17 and then 1 to 11, and leaves all as
+ * it was. The names are one CBOR array of the node's own names (`80`: none). The
+ * output must have room for GRASP_MESSAGE_BYTES. Record and table are handed in
+ * as the call before left them.
+ */
+uint8_t grasp_record_call(struct grasp_record *node, uint8_t *table, size_t table_size, uint64_t clock,
+                          uint64_t interface, const uint8_t *names, size_t names_len, const uint8_t *message,
+                          size_t len, uint8_t *out, size_t size, uint64_t answer[GRASP_ANSWER_FIELDS]);
+
+/* ---- Reading ---- */
 
 /*
  * Where each field of a message stands in the block that grasp_read fills. A
@@ -114,81 +230,106 @@ enum grasp_pair_field {
 };
 
 /*
- * A node's record is its own address, 16 bytes that the host keeps, and these
- * numbers. grasp_fresh fills them.
- */
-enum grasp_record_field {
-    GRASP_RECORD_PORT = 0,
-    GRASP_RECORD_TTL = 1,        /* in ms */
-    GRASP_RECORD_INTERFACES = 2, /* how many: 1 to 8 */
-    GRASP_RECORD_LINKS = 3,      /* bit i: interface i is up */
-    GRASP_RECORD_CLOCK = 4,      /* the last accepted one, in ms */
-    GRASP_RECORD_TALLY = 5,      /* the copies of all relays */
-    GRASP_RECORD_FIELDS = 6
-};
-
-enum { GRASP_ADDRESS_BYTES = 16 };
-
-/* The relay table: 64 rows of four numbers, eight bytes each, the most significant first. A fresh one is all
- * zeros. */
-enum { GRASP_TABLE_BYTES = 2048 };
-
-/* What a node does with a message. */
-enum grasp_verdict {
-    GRASP_OWN = 1,       /* it began here */
-    GRASP_ANSWER = 2,    /* a Discovery of an own name: send the output back */
-    GRASP_DUPLICATE = 3, /* relayed before, and its row lives */
-    GRASP_LAST = 4,      /* its count is used up */
-    GRASP_NOWHERE = 5,   /* no other link is up */
-    GRASP_NO_ROW = 6,    /* the table is full */
-    GRASP_RELAY = 7,     /* send the output on */
-    GRASP_NOTHING = 8,   /* a Noop */
-    GRASP_HAND = 9       /* for the host */
-};
-
-/* The answer of grasp_node_call. */
-enum grasp_answer_field {
-    GRASP_ANSWER_VERDICT = 0,
-    GRASP_ANSWER_HANDED_UP = 1, /* 1 if the host is to look at the message */
-    GRASP_ANSWER_MASK = 2,      /* send on interface i where bit i is set */
-    GRASP_ANSWER_LENGTH = 3,    /* how many bytes of the output to send */
-    GRASP_ANSWER_FIELDS = 4
-};
-
-/*
- * The state of a negotiation, one for a session. A fresh one is all zeros, and a
- * host begins each session with it; grasp_step changes it.
- */
-enum grasp_state_field {
-    GRASP_STATE_PHASE = 0,
-    GRASP_STATE_SESSION = 1, /* open: the session */
-    GRASP_STATE_COUNT = 2,   /* open: the count of the last Request or Negotiate */
-    GRASP_STATE_TURN = 3,    /* open: the side that may move */
-    GRASP_STATE_FIELDS = 4
-};
-
-enum grasp_phase { GRASP_FRESH = 0, GRASP_OPEN = 1, GRASP_CLOSED = 2 };
-
-/* The two sides of a session. */
-enum grasp_side { GRASP_WE = 0, GRASP_THEY = 1 };
-
-/*
  * Reads the message that the len bytes are. Answers 0 and fills the block, or
- * answers the number of the refusal and leaves the block as it was.
+ * answers the number of the refusal, 1 to 11, and leaves the block as it was.
  */
 uint8_t grasp_read(const uint8_t *bytes, size_t len, uint64_t fields[GRASP_FIELDS]);
 
 /*
  * Reads the locator at a place of the message. Answers the place after it and
  * fills the block, or answers 0 and leaves the block as it was where no locator
- * is there. To go through a message's locators, begin at GRASP_LIST_AT and take
- * GRASP_LIST_MANY steps. At other places it judges the shape of what stands there
- * alone: not its texts, and not the message around it.
+ * is there. To go through a message's locators:
+ *
+ *     size_t at = (size_t)fields[GRASP_LIST_AT];
+ *     for (uint64_t i = 0; i < fields[GRASP_LIST_MANY]; i++)
+ *         at = grasp_locator(bytes, len, at, locator);
+ *
+ * At other places it judges the shape of what stands there alone: not its texts,
+ * and not the message around it.
  */
 size_t grasp_locator(const uint8_t *bytes, size_t len, size_t at, uint64_t fields[GRASP_LOCATOR_FIELDS]);
 
 /* The same for a Flood's pairs. */
 size_t grasp_pair(const uint8_t *bytes, size_t len, size_t at, uint64_t fields[GRASP_PAIR_FIELDS]);
+
+/* Some bytes of a message. */
+struct grasp_span {
+    const uint8_t *at;
+    size_t len;
+};
+
+/* So many bytes from a place on; none where they don't lie within the len bytes. */
+static inline struct grasp_span grasp_span_in(const uint8_t *bytes, size_t len, uint64_t at, uint64_t many) {
+    struct grasp_span span = {bytes, 0};
+    if (at <= len && many <= len - at) {
+        span.at = bytes + at;
+        span.len = (size_t)many;
+    }
+    return span;
+}
+
+/*
+ * The fields of a message by what they are, from a block that grasp_read filled;
+ * those with bytes take the bytes that it read.
+ */
+static inline uint8_t grasp_message_kind(const uint64_t fields[GRASP_FIELDS]) {
+    return (uint8_t)fields[GRASP_KIND];
+}
+
+static inline uint32_t grasp_message_session(const uint64_t fields[GRASP_FIELDS]) {
+    return (uint32_t)fields[GRASP_SESSION];
+}
+
+static inline uint32_t grasp_message_ttl(const uint64_t fields[GRASP_FIELDS]) {
+    return (uint32_t)fields[GRASP_TTL];
+}
+
+static inline uint8_t grasp_message_flags(const uint64_t fields[GRASP_FIELDS]) {
+    return (uint8_t)fields[GRASP_FLAGS];
+}
+
+static inline uint8_t grasp_message_count(const uint64_t fields[GRASP_FIELDS]) {
+    return (uint8_t)fields[GRASP_COUNT];
+}
+
+static inline struct grasp_span grasp_message_initiator(const uint8_t *bytes, size_t len,
+                                                        const uint64_t fields[GRASP_FIELDS]) {
+    return grasp_span_in(bytes, len, fields[GRASP_INITIATOR_AT], fields[GRASP_INITIATOR_LEN]);
+}
+
+static inline struct grasp_span grasp_message_name(const uint8_t *bytes, size_t len,
+                                                   const uint64_t fields[GRASP_FIELDS]) {
+    return grasp_span_in(bytes, len, fields[GRASP_NAME_AT], fields[GRASP_NAME_LEN]);
+}
+
+static inline struct grasp_span grasp_message_value(const uint8_t *bytes, size_t len,
+                                                    const uint64_t fields[GRASP_FIELDS]) {
+    return grasp_span_in(bytes, len, fields[GRASP_VALUE_AT], fields[GRASP_VALUE_LEN]);
+}
+
+/* The reason of an End, or Invalid's item. */
+static inline struct grasp_span grasp_message_item(const uint8_t *bytes, size_t len,
+                                                   const uint64_t fields[GRASP_FIELDS]) {
+    return grasp_span_in(bytes, len, fields[GRASP_ITEM_AT], fields[GRASP_ITEM_LEN]);
+}
+
+/* A locator's address, domain name or URI. */
+static inline struct grasp_span grasp_locator_address(const uint8_t *bytes, size_t len,
+                                                      const uint64_t fields[GRASP_LOCATOR_FIELDS]) {
+    return grasp_span_in(bytes, len, fields[GRASP_LOCATOR_AT], fields[GRASP_LOCATOR_LEN]);
+}
+
+static inline struct grasp_span grasp_pair_name(const uint8_t *bytes, size_t len,
+                                                const uint64_t fields[GRASP_PAIR_FIELDS]) {
+    return grasp_span_in(bytes, len, fields[GRASP_PAIR_NAME_AT], fields[GRASP_PAIR_NAME_LEN]);
+}
+
+static inline struct grasp_span grasp_pair_value(const uint8_t *bytes, size_t len,
+                                                 const uint64_t fields[GRASP_PAIR_FIELDS]) {
+    return grasp_span_in(bytes, len, fields[GRASP_PAIR_VALUE_AT], fields[GRASP_PAIR_VALUE_LEN]);
+}
+
+/* ---- Writing ---- */
 
 /*
  * Writes the message that a block describes, every head in its shortest form.
@@ -208,35 +349,24 @@ size_t grasp_pair(const uint8_t *bytes, size_t len, size_t at, uint64_t fields[G
 uint8_t grasp_write(const uint8_t *source, size_t len, const uint64_t *list, size_t numbers,
                     const uint64_t fields[GRASP_FIELDS], uint8_t *out, size_t size, uint64_t *length);
 
-/*
- * Begins a node: answers 0 and fills the numbers of a fresh record, whose clock
- * and tally are 0; or answers 12 and leaves them as they were.
- */
-uint8_t grasp_fresh(const uint8_t address[GRASP_ADDRESS_BYTES], uint16_t port, uint32_t ttl,
-                    uint64_t interfaces, uint64_t links, uint64_t numbers[GRASP_RECORD_FIELDS]);
+/* ---- Negotiation ---- */
 
 /*
- * Puts new links in the place of the old ones. Answers 0; or 12, also where the
- * port has more than 16 bits or the ttl more than 32, then 13, and leaves the
- * numbers as they were.
+ * The state of a negotiation, one for a session. A fresh one is all zeros, and a
+ * host begins each session with it; grasp_step changes it.
  */
-uint8_t grasp_set_links(const uint8_t address[GRASP_ADDRESS_BYTES], uint64_t numbers[GRASP_RECORD_FIELDS],
-                        uint64_t links);
+enum grasp_state_field {
+    GRASP_STATE_PHASE = 0,
+    GRASP_STATE_SESSION = 1, /* open: the session */
+    GRASP_STATE_COUNT = 2,   /* open: the count of the last Request or Negotiate */
+    GRASP_STATE_TURN = 3,    /* open: the side that may move */
+    GRASP_STATE_FIELDS = 4
+};
 
-/*
- * Says what the node does with a message that came in by an interface, at a clock
- * in ms. Answers 0, fills the answer, and changes the record's numbers (clock and
- * tally), the table and, where something is to be sent, the first bytes of the
- * output; or answers the number of the refusal, 12 to 17 and then 1 to 11, and
- * leaves all as it was. The names are one CBOR array of the node's own names
- * (`80`: none). The output must have room for 2,048 bytes. A host begins with
- * grasp_fresh and a table of zeros, and hands in record and table as the call
- * before left them.
- */
-uint8_t grasp_node_call(const uint8_t address[GRASP_ADDRESS_BYTES], uint64_t numbers[GRASP_RECORD_FIELDS],
-                        uint8_t *table, size_t table_size, uint64_t clock, uint64_t interface,
-                        const uint8_t *names, size_t names_len, const uint8_t *message, size_t len,
-                        uint8_t *out, size_t size, uint64_t answer[GRASP_ANSWER_FIELDS]);
+enum grasp_phase { GRASP_FRESH = 0, GRASP_OPEN = 1, GRASP_CLOSED = 2 };
+
+/* The two sides of a session. */
+enum grasp_side { GRASP_WE = 0, GRASP_THEY = 1 };
 
 /*
  * Takes one step of a negotiation: the message that the len bytes are, sent by
@@ -250,6 +380,37 @@ uint8_t grasp_node_call(const uint8_t address[GRASP_ADDRESS_BYTES], uint64_t num
  * that becomes closed has 0 in its other fields.
  */
 uint8_t grasp_step(uint64_t state[GRASP_STATE_FIELDS], const uint8_t *bytes, size_t len, uint64_t side);
+
+/* ---- The node over numbers ---- */
+
+/*
+ * The same three functions for a host that keeps the record as its address, 16
+ * bytes, and these numbers. A port of more than 16 bits, a ttl of more than 32,
+ * and interfaces or links of more than 8 are a bad record: 12.
+ */
+enum grasp_record_field {
+    GRASP_RECORD_PORT = 0,
+    GRASP_RECORD_TTL = 1,        /* in ms */
+    GRASP_RECORD_INTERFACES = 2, /* how many: 1 to 8 */
+    GRASP_RECORD_LINKS = 3,      /* bit i: interface i is up */
+    GRASP_RECORD_CLOCK = 4,      /* the last accepted one, in ms */
+    GRASP_RECORD_TALLY = 5,      /* the copies of all relays */
+    GRASP_RECORD_FIELDS = 6
+};
+
+/* As grasp_record_fresh. */
+uint8_t grasp_fresh(const uint8_t address[GRASP_ADDRESS_BYTES], uint16_t port, uint32_t ttl,
+                    uint64_t interfaces, uint64_t links, uint64_t numbers[GRASP_RECORD_FIELDS]);
+
+/* As grasp_record_set_links. */
+uint8_t grasp_set_links(const uint8_t address[GRASP_ADDRESS_BYTES], uint64_t numbers[GRASP_RECORD_FIELDS],
+                        uint64_t links);
+
+/* As grasp_record_call. */
+uint8_t grasp_node_call(const uint8_t address[GRASP_ADDRESS_BYTES], uint64_t numbers[GRASP_RECORD_FIELDS],
+                        uint8_t *table, size_t table_size, uint64_t clock, uint64_t interface,
+                        const uint8_t *names, size_t names_len, const uint8_t *message, size_t len,
+                        uint8_t *out, size_t size, uint64_t answer[GRASP_ANSWER_FIELDS]);
 
 #ifdef __cplusplus
 }

@@ -18,7 +18,7 @@ pub struct Guarded<T> {
 impl Guarded<u8> {
     /// So many bytes of a pattern.
     pub fn bytes(length: usize) -> Guarded<u8> {
-        let byte = |place: usize| (167 * place + 90) as u8;
+        let byte = |place: usize| (place as u8).wrapping_mul(167).wrapping_add(90);
         let memory = (0..length + 2 * MARGIN).map(byte).collect();
         Guarded { memory }
     }
@@ -51,11 +51,11 @@ impl<T: Copy + Eq + LowerHex> Guarded<T> {
 
     /// The first place, which the margin before has below 0, from where on two memories differ.
     pub fn difference(&self, other: &Guarded<T>, name: &str) -> Option<Difference> {
-        let both = self.memory.iter().zip(&other.memory);
-        let from = both.take_while(|(one, other)| one == other).count();
-        if from == self.memory.len() && from == other.memory.len() {
+        if self.memory == other.memory {
             return None;
         }
+        let both = self.memory.iter().zip(&other.memory);
+        let from = both.take_while(|(one, other)| one == other).count();
         Some(Difference {
             call: format!("{name} from {} on", from as isize - MARGIN as isize),
             library: self.said(from),

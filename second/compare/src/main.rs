@@ -1,32 +1,19 @@
 //! Compares the proved library with the second program through the archive for C, on stored and
 //! generated inputs: reading, node histories, negotiations and writing.
 
-mod answer;
-mod archive;
-mod check;
-mod expected;
-mod guarded;
-mod inputs;
-mod negotiation;
-mod node;
-mod options;
-mod shrink;
-mod writing;
-
 use std::env;
 use std::fmt::Display;
 use std::process::ExitCode;
 
+use compare::check::{difference, every_place, some_places, Difference};
+use compare::inputs::{Input, Inputs};
+use compare::negotiation::{Talk, Talks};
+use compare::node::{Histories, History};
+use compare::options::{Options, USAGE};
+use compare::shrink::{shrink, Case};
+use compare::writing::{Write, Writes};
 use second::random::Random;
 use second::vectors::hex;
-
-use check::{difference, every_place, some_places, Difference};
-use inputs::{Input, Inputs};
-use negotiation::{Talk, Talks};
-use node::{Histories, History};
-use options::{Options, USAGE};
-use shrink::{shrink, Case};
-use writing::{Write, Writes};
 
 /// How many messages or descriptions, and how many lists, after the first failing one are tried
 /// for a smaller one.

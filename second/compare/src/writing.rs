@@ -52,8 +52,7 @@ impl Iterator for Writes {
             0 => good_draft(&mut self.random),
             _ => damaged_draft(&mut self.random),
         };
-        let outcome = draft.outcome();
-        Some(Write { draft, outcome })
+        Some(Write::of(draft))
     }
 }
 
@@ -69,6 +68,12 @@ impl Written {
 }
 
 impl Write {
+    /// A description, with what the second program makes of it.
+    pub fn of(draft: Draft) -> Write {
+        let outcome = draft.outcome();
+        Write { draft, outcome }
+    }
+
     /// How long it is to read.
     pub fn size(&self) -> usize {
         self.draft.source.len() + self.draft.list.len()

@@ -50,8 +50,8 @@ const VERDICTS: [Verdict; 9] = [
     Verdict::Hand,
 ];
 
-impl Host {
-    pub fn new() -> Host {
+impl Default for Host {
+    fn default() -> Host {
         Host {
             returned: 0,
             address: [0; 16],
@@ -61,6 +61,12 @@ impl Host {
             out: Guarded::bytes(MOST_BYTES),
             answer: Guarded::numbers(ANSWER_FIELDS),
         }
+    }
+}
+
+impl Host {
+    pub fn new() -> Host {
+        Host::default()
     }
 
     pub fn tally(&self) -> u64 {

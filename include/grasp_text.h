@@ -1,0 +1,91 @@
+/*
+ * Words for the numbers of grasp.h, for logs. Every number has some; what they
+ * point at is constant and never NULL.
+ */
+#ifndef GRASP_TEXT_H
+#define GRASP_TEXT_H
+
+#include "grasp.h"
+
+static inline const char *grasp_refusal_text(uint8_t refusal) {
+    static const char *const texts[] = {
+        "accepted",
+        "no bytes, or over 2,048",
+        "ends inside an item",
+        "reserved head",
+        "indefinite length",
+        "head longer than needed",
+        "nested too deep",
+        "bytes after the item",
+        "unknown kind",
+        "not the shape of a message",
+        "name over 64 bytes",
+        "text that isn't UTF-8",
+        "bad record",
+        "no such link, or it is down",
+        "clock earlier than the record's",
+        "bad relay table",
+        "bad own names",
+        "output shorter than 2,048 bytes",
+        "no message has this description",
+        "output shorter than the message",
+        "step not allowed",
+    };
+    return refusal < sizeof texts / sizeof *texts ? texts[refusal] : "unknown refusal";
+}
+
+static inline const char *grasp_verdict_text(uint64_t verdict) {
+    switch (verdict) {
+    case GRASP_OWN:
+        return "OWN";
+    case GRASP_ANSWER:
+        return "ANSWER";
+    case GRASP_DUPLICATE:
+        return "DUPLICATE";
+    case GRASP_LAST:
+        return "LAST";
+    case GRASP_NOWHERE:
+        return "NOWHERE";
+    case GRASP_NO_ROW:
+        return "NOROW";
+    case GRASP_RELAY:
+        return "RELAY";
+    case GRASP_NOTHING:
+        return "NOOP";
+    case GRASP_HAND:
+        return "HAND";
+    default:
+        return "unknown verdict";
+    }
+}
+
+static inline const char *grasp_kind_text(uint64_t kind) {
+    switch (kind) {
+    case GRASP_NOOP:
+        return "Noop";
+    case GRASP_DISCOVERY:
+        return "Discovery";
+    case GRASP_RESPONSE:
+        return "Response";
+    case GRASP_REQUEST_NEGOTIATION:
+        return "Request negotiation";
+    case GRASP_REQUEST_SYNCHRONIZATION:
+        return "Request synchronization";
+    case GRASP_NEGOTIATE:
+        return "Negotiate";
+    case GRASP_END:
+        return "End";
+    case GRASP_WAIT:
+        return "Wait";
+    case GRASP_SYNCH:
+        return "Synch";
+    case GRASP_FLOOD:
+        return "Flood";
+    case GRASP_INVALID:
+        return "Invalid";
+    default:
+        return "unknown kind";
+    }
+}
+
+#endif
