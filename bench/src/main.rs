@@ -1,76 +1,210 @@
-//! How long reading takes: the proved library, the second program and libcbor.
+//! How long reading, writing and a node call take: the proved library, the second program and, for
+//! reading, libcbor.
 
+mod foreign;
+mod measure;
 mod messages;
-mod readers;
+mod nodes;
 
 use std::hint::black_box;
 use std::process::ExitCode;
-use std::time::{Duration, Instant};
 
-use messages::messages;
-use readers::{Reader, READERS};
+use measure::{medians, Call, ROUNDS};
+use messages::{From, MANY_PAIRS};
+use nodes::{Case, EX1, EX2};
+use second::node::Verdict;
+use second::{message, writer};
 
-/// How often each reader has its turn with each message, and how long a turn takes.
-const ROUNDS: usize = 201;
-const TURN: Duration = Duration::from_millis(1);
+/// Why there are no numbers: what was measured did something else than it should.
+type Fault = String;
 
 fn main() -> ExitCode {
-    let messages = messages();
-    for (message, bytes) in &messages {
-        for (name, reader) in READERS {
-            if !reader(bytes) {
-                eprintln!("{name} does not accept the message: {message}");
-                return ExitCode::FAILURE;
-            }
-        }
-    }
-    println!("ns per message (ratio to libgrasp), median of {ROUNDS} interleaved rounds, warm;");
+    println!("ns per call (ratio to the first number of the row), median of {ROUNDS} interleaved rounds, warm;");
     println!("no block or other buffer is cleared before a call.");
-    print_row("", "bytes", READERS.map(|(name, _)| String::from(name)));
-    for (name, bytes) in &messages {
-        let times = medians(bytes);
-        let cells = times.map(|time| format!("{time:.1} ({:.2})", time / times[0]));
-        print_row(name, &bytes.len().to_string(), cells);
+    let parts = [
+        reading,
+        writing,
+        short_calls,
+        long_calls,
+        by_length,
+        by_rows,
+        stages,
+    ];
+    for part in parts {
+        if let Err(fault) = part() {
+            eprintln!("{fault}");
+            return ExitCode::FAILURE;
+        }
     }
     ExitCode::SUCCESS
 }
 
-fn print_row(name: &str, bytes: &str, cells: [String; READERS.len()]) {
-    let cells = cells.map(|cell| format!(" {cell:>17}")).concat();
-    println!("{name:<21}{bytes:>6}{cells}");
+/// Prints a table's name and what its columns are.
+fn head(title: &str, columns: &[&str]) {
+    let columns: String = columns.iter().map(|name| format!(" {name:>17}")).collect();
+    println!("\n{title:<31}{:>6}{columns}", "bytes");
 }
 
-/// The median time of each reader in ns; the readers take turns.
-fn medians(bytes: &[u8]) -> [f64; READERS.len()] {
-    let often = READERS.map(|(_, reader)| calls_in_a_turn(reader, bytes));
-    let mut times = READERS.map(|_| Vec::new());
-    for _ in 0..ROUNDS {
-        for (place, (_, reader)) in READERS.into_iter().enumerate() {
-            let taken = time(reader, bytes, often[place]).as_nanos() as f64;
-            times[place].push(taken / f64::from(often[place]));
+/// Prints a row: each program's median and its ratio to the first one's.
+fn row(name: &str, bytes: usize, calls: Vec<Call>) -> Result<(), Fault> {
+    let times = medians(calls).map_err(|place| format!("{name}: program {place} did not do it"))?;
+    let cell = |time: &f64| format!(" {:>17}", format!("{time:.1} ({:.2})", time / times[0]));
+    let cells: String = times.iter().map(cell).collect();
+    println!("{name:<31}{bytes:>6}{cells}");
+    Ok(())
+}
+
+fn read_by_libgrasp(bytes: &[u8]) -> Call<'_> {
+    Box::new(|| foreign::read(bytes))
+}
+
+fn read_by_second(bytes: &[u8]) -> Call<'_> {
+    Box::new(|| black_box(message::read(bytes)).is_ok())
+}
+
+fn reading() -> Result<(), Fault> {
+    head("Reading", &["libgrasp", "with list", "second", "libcbor"]);
+    let flood = messages::flood(From::Them, 2, MANY_PAIRS);
+    let messages = [
+        ("Discovery", messages::discovery(From::Them, 2)),
+        ("Response, 8 locators", messages::response()),
+        ("Flood, 35 pairs", flood),
+        ("Negotiate, 8 levels", messages::deep()),
+    ];
+    for (name, bytes) in &messages {
+        let calls: Vec<Call> = vec![
+            read_by_libgrasp(bytes),
+            Box::new(|| foreign::read_with_list(bytes)),
+            read_by_second(bytes),
+            Box::new(|| foreign::libcbor(bytes)),
+        ];
+        row(name, bytes.len(), calls)?;
+    }
+    Ok(())
+}
+
+/// Writing the message again from its description.
+fn written(bytes: &[u8]) -> Result<[Call<'_>; 2], Fault> {
+    let said = writer::describe(bytes).map_err(|number| format!("refusal {number}"))?;
+    let again = said.clone();
+    let mut out = [0; foreign::OUTPUT];
+    let mut ours = move || foreign::write(bytes, &said.list, &said.fields, &mut out);
+    let theirs = move || writer::write(bytes, &again.list, &again.fields, foreign::OUTPUT);
+    Ok([
+        Box::new(move || ours() == Ok(bytes.len())),
+        Box::new(move || black_box(theirs()).is_ok_and(|encoding| encoding.len() == bytes.len())),
+    ])
+}
+
+fn writing() -> Result<(), Fault> {
+    head("Writing", &["libgrasp", "second"]);
+    let flood = messages::flood(From::Them, 2, MANY_PAIRS);
+    let messages = [
+        ("Discovery", messages::discovery(From::Them, 2)),
+        ("Response, 8 locators", messages::response()),
+        ("Flood, 35 pairs", flood),
+    ];
+    for (name, bytes) in &messages {
+        row(name, bytes.len(), written(bytes)?.into())?;
+    }
+    Ok(())
+}
+
+/// Prints a row for each node call.
+fn node_rows(cases: &[(&str, Vec<u8>, &[u8], usize, Verdict)]) -> Result<(), Fault> {
+    for (name, message, names, rows, verdict) in cases {
+        let case = Case {
+            message,
+            names,
+            rows: *rows,
+            verdict: *verdict,
+        };
+        row(name, message.len(), case.calls())?;
+    }
+    Ok(())
+}
+
+fn short_calls() -> Result<(), Fault> {
+    head("Node call, short message", &["libgrasp", "second"]);
+    let once = || messages::discovery(From::Them, 2);
+    let (ours, last) = (
+        messages::discovery(From::Us, 2),
+        messages::discovery(From::Them, 1),
+    );
+    node_rows(&[
+        ("OWN", ours, EX2, 0, Verdict::Own),
+        ("ANSWER", once(), EX1, 0, Verdict::Answer),
+        ("DUPLICATE", once(), EX2, 0, Verdict::Duplicate),
+        ("LAST", last, EX2, 0, Verdict::Last),
+        ("RELAY, no other row", once(), EX2, 0, Verdict::Relay),
+        ("RELAY, 63 other rows", once(), EX2, 63, Verdict::Relay),
+        ("HAND", messages::negotiate(), EX2, 0, Verdict::Hand),
+    ])
+}
+
+fn long_calls() -> Result<(), Fault> {
+    head("Node call, long message", &["libgrasp", "second"]);
+    let flood = |from, count| messages::flood(from, count, MANY_PAIRS);
+    let once = || flood(From::Them, 2);
+    let (ours, last) = (flood(From::Us, 2), flood(From::Them, 1));
+    node_rows(&[
+        ("OWN", ours, EX2, 0, Verdict::Own),
+        (
+            "ANSWER",
+            messages::long_discovery(),
+            EX1,
+            0,
+            Verdict::Answer,
+        ),
+        ("DUPLICATE", once(), EX2, 0, Verdict::Duplicate),
+        ("LAST", last, EX2, 0, Verdict::Last),
+        ("RELAY, no other row", once(), EX2, 0, Verdict::Relay),
+        ("RELAY, 63 other rows", once(), EX2, 63, Verdict::Relay),
+        ("HAND", messages::long_negotiate(), EX2, 0, Verdict::Hand),
+    ])
+}
+
+/// Floods of more and more pairs, read, written and relayed.
+fn by_length() -> Result<(), Fault> {
+    let lengths = [1, 2, 4, 9, 18, MANY_PAIRS].map(|pairs| messages::flood(From::Them, 2, pairs));
+    for part in ["read", "written", "relayed"] {
+        head(&["Flood, ", part].concat(), &["libgrasp", "second"]);
+        for bytes in &lengths {
+            let case = Case {
+                message: bytes,
+                names: EX2,
+                rows: 0,
+                verdict: Verdict::Relay,
+            };
+            let calls = match part {
+                "read" => vec![read_by_libgrasp(bytes), read_by_second(bytes)],
+                "written" => written(bytes)?.into(),
+                _ => case.calls(),
+            };
+            row("", bytes.len(), calls)?;
         }
     }
-    times.map(|mut times| {
-        times.sort_by(f64::total_cmp);
-        times[ROUNDS / 2]
-    })
+    Ok(())
 }
 
-/// How many calls fill a turn; trying it out warms caches and branches.
-fn calls_in_a_turn(reader: Reader, bytes: &[u8]) -> u32 {
-    let mut calls = 1;
-    while time(reader, bytes, calls) < TURN {
-        calls *= 2;
+/// The short Discovery relayed beside more and more rows.
+fn by_rows() -> Result<(), Fault> {
+    head("RELAY, by other rows", &["libgrasp", "second"]);
+    for rows in [0, 8, 16, 32, 48, 63] {
+        let message = messages::discovery(From::Them, 2);
+        node_rows(&[(&format!("{rows}"), message, EX2, rows, Verdict::Relay)])?;
     }
-    calls
+    Ok(())
 }
 
-/// How long so many calls take.
-fn time(reader: Reader, bytes: &[u8], calls: u32) -> Duration {
-    let reader = black_box(reader);
-    let start = Instant::now();
-    for _ in 0..calls {
-        black_box(reader(black_box(bytes)));
+/// How far calls of the library come that end early, and how long they take.
+fn stages() -> Result<(), Fault> {
+    head(
+        "libgrasp, by other rows",
+        &["12, no table", "12", "1", "Noop"],
+    );
+    for rows in [0, 63] {
+        row(&format!("{rows}"), 0, nodes::stages(rows))?;
     }
-    start.elapsed()
+    Ok(())
 }
