@@ -55,11 +55,11 @@ abbrev pub all-handed : {n : ℕ} (ss : List (Slot n)) (ks : Kepts ss) → Stays
 all-handed [] ks = tt
 all-handed (s ∷ ss) ks = (handed s (ks .0), all-handed ss (ks .1))
 
-pub all-fit : {n : ℕ} (κs : Lfts n) (ss : List (Slot n)) (ks : Kepts ss) (a : Denots (typesAt ss κs)) (ws : Fins κs ss ks a) → fitsOf κs ss ks (all-handed ss ks) a ws
+all-fit : {n : ℕ} (κs : Lfts n) (ss : List (Slot n)) (ks : Kepts ss) (a : Denots (typesAt ss κs)) (ws : Fins κs ss ks a) → fitsOf κs ss ks (all-handed ss ks) a ws
 all-fit κs [] ks a ws = tt
 all-fit κs (s ∷ ss) ks a ws = (tt, all-fit κs ss (ks .1) (a .1) (ws .1))
 
-pub all-go : {M : Type 1} (𝓤 : URA M) (H : Heap 𝓤) (A : Atoms 𝓤) (W : Given 𝓤 H A) {n : ℕ} (ss : List (Slot n)) (ks : Kepts ss) → AllGo 𝓤 H A W n ss ks (all-handed ss ks)
+all-go : {M : Type 1} (𝓤 : URA M) (H : Heap 𝓤) (A : Atoms 𝓤) (W : Given 𝓤 H A) {n : ℕ} (ss : List (Slot n)) (ks : Kepts ss) → AllGo 𝓤 H A W n ss ks (all-handed ss ks)
 all-go 𝓤 H A W [] ks = tt
 all-go 𝓤 H A W (s ∷ ss) ks = ((λ κs x f vs fits. W .laws .⇛-intro (sem 𝓤 H A (left (s .row κs .exit (ks .0)) x f))), all-go 𝓤 H A W ss (ks .1))
 
