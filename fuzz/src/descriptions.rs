@@ -11,8 +11,8 @@ use crate::messages::message;
 /// The most numbers of a list that is said number by number.
 const MOST_LISTED: usize = 64;
 
-/// The description of a message that is accepted, with up to three numbers changed.
-pub fn changed(input: &mut Input) -> Option<Write> {
+/// The description of a message with up to three numbers changed, or the message if it is refused.
+pub fn changed(input: &mut Input) -> Result<Write, Vec<u8>> {
     let changes: Vec<(u8, u64)> = (0..input.below(4))
         .map(|_| (input.byte(), input.number()))
         .collect();
@@ -21,10 +21,13 @@ pub fn changed(input: &mut Input) -> Option<Write> {
         0..=127 => message(input),
         _ => input.rest().to_vec(),
     };
-    let Description {
+    let Ok(Description {
         mut fields,
         mut list,
-    } = describe(&source).ok()?;
+    }) = describe(&source)
+    else {
+        return Err(source);
+    };
     let slots = FIELDS + list.len();
     for (slot, number) in changes {
         match usize::from(slot) % slots {
@@ -32,7 +35,7 @@ pub fn changed(input: &mut Input) -> Option<Write> {
             listed => list[listed - FIELDS] = number,
         }
     }
-    Some(fitted(source, list, fields, room))
+    Ok(fitted(source, list, fields, room))
 }
 
 /// A description said number by number.

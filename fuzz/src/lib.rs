@@ -69,7 +69,7 @@ pub extern "C" fn LLVMFuzzerInitialize(_argc: *mut i32, _argv: *mut *mut *mut i8
     0
 }
 
-/// Called by libFuzzer with each input; one of a sort that isn't asked for is not kept.
+/// Called by libFuzzer with each input; one of a sort that isn't asked for is taken as one that is.
 ///
 /// # Safety
 ///
@@ -80,26 +80,35 @@ pub unsafe extern "C" fn LLVMFuzzerTestOneInput(data: *const u8, size: usize) ->
         0 => &[],
         _ => std::slice::from_raw_parts(data, size),
     };
-    let is_asked = |first: &u8| ONLY.get().is_none_or(|only| only.contains(first));
-    if !bytes.first().is_some_and(is_asked) {
-        return -1;
+    if let Some((&first, rest)) = bytes.split_first() {
+        compare(asked(first), rest);
     }
-    compare(bytes);
     0
 }
 
-/// Compares what the bytes say.
-pub fn compare(bytes: &[u8]) {
+/// A first byte of the sort that is asked for.
+fn asked(first: u8) -> u8 {
+    match ONLY.get() {
+        Some(only) if !only.contains(&first) => only.start() + first % (only.end() - only.start()),
+        _ => first,
+    }
+}
+
+/// Compares what the bytes say as an input of this sort.
+pub fn compare(sort: u8, bytes: &[u8]) {
     let mut input = Input::new(bytes);
-    match input.byte() {
+    match sort {
         0..=47 => read(input.rest()),
         48..=79 => read(&message(&mut input)),
         80..=87 => read_everywhere(input.rest()),
         88..=95 => read_everywhere(&message(&mut input)),
-        96..=127 => descriptions::changed(&mut input).iter().for_each(write),
+        96..=127 => match descriptions::changed(&mut input) {
+            Ok(changed) => write(&changed),
+            Err(refused) => read(&refused),
+        },
         128..=143 => write(&descriptions::spelled(&mut input)),
-        sort @ 144..=223 => run(&histories::history(&mut input, sort >= 184)),
-        sort => talk(&mut input, sort >= 240),
+        144..=223 => run(&histories::history(&mut input, sort >= 184)),
+        224..=255 => talk(&mut input, sort >= 240),
     }
 }
 

@@ -56,10 +56,23 @@ fn crowded(input: &mut Input) -> Vec<u8> {
 /// Own names, mostly good ones.
 pub fn names(input: &mut Input) -> Vec<u8> {
     match input.byte() {
-        sort @ 0..=199 => OWN[usize::from(sort) % 3].to_vec(),
-        200..=219 => OWN[3].to_vec(),
+        sort @ 0..=179 => OWN[usize::from(sort) % 3].to_vec(),
+        180..=209 => many_names(input),
+        210..=219 => OWN[3].to_vec(),
         _ => input.bytes().to_vec(),
     }
+}
+
+/// Up to 17 names of objectives.
+fn many_names(input: &mut Input) -> Vec<u8> {
+    let many = input.below(18);
+    let mut names = vec![0x80 + many as u8];
+    for _ in 0..many {
+        let name = NAMES[input.below(NAMES.len())];
+        names.extend(head(3, name.len() as u64));
+        names.extend(name);
+    }
+    names
 }
 
 /// The same with a byte changed, taken away or put.
