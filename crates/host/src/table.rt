@@ -4,18 +4,16 @@ ghost use Prim.Native.Nat.{_<_};
 ghost use lib.ListN.{length};
 ghost use Rattle.host.specs.Table.{spelledBy, numberAt, loadedUpTo, putNumber, savedUpTo};
 
-// The number that eight bytes spell.
+// The number that eight bytes spell. The two halves are added last: so it is compiled to one load of eight bytes.
 fn spelled_by(a: u8, b: u8, c: u8, d: u8, e: u8, f: u8, g: u8, h: u8) -> u64
     ensures { λ r. ⌜ r ≡ spelledBy a b c d e f g h ⌝ }
 {
-    (a as u64) * 72_057_594_037_927_936
+    let high = (a as u64) * 72_057_594_037_927_936
         + (b as u64) * 281_474_976_710_656
         + (c as u64) * 1_099_511_627_776
-        + (d as u64) * 4_294_967_296
-        + (e as u64) * 16_777_216
-        + (f as u64) * 65_536
-        + (g as u64) * 256
-        + (h as u64)
+        + (d as u64) * 4_294_967_296;
+    let low = (e as u64) * 16_777_216 + (f as u64) * 65_536 + (g as u64) * 256 + (h as u64);
+    high + low
 }
 
 // Number i of the table.
