@@ -1,6 +1,5 @@
--- For readers: `ItemLaws`, the first whole item held against the standard; `Utf8Exact`; `PutExact`, heads written.
+-- For readers: `ItemLaws`, the first whole item held against the standard; `PutExact`, heads written.
 pub mod ItemLaws
-pub mod Utf8Exact
 pub mod PutExact
 -- For callers' proofs: heads read and written, items accepted and refused, tokens and their bounds.
 pub mod HeadExact
@@ -17,4 +16,3 @@ mod Turn
 mod Steps
 mod Within
 mod Stores
-mod Utf8Scalar

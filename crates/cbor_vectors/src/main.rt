@@ -46,7 +46,7 @@ fn run(operation: u8, first: u8, second: u8, content: &mut [u8]) {
         print_head(cbor::head::read(content));
     }
     if operation == 3 {
-        print_text(cbor::utf8::is_utf8(content));
+        print_text(utf8::is_utf8(content));
     }
     if operation == 4 {
         put(first, second as usize, content);

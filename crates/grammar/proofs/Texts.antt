@@ -12,7 +12,7 @@ use borrow.Author.Tests.{ltb-true, ltb-false, eqb-true, eqb-false}
 use Rattle.base.specs.Pick.{pick}
 use Rattle.base.proofs.Picks.{pick-case}
 use Rattle.cbor.specs.declared.token.Token.{Token}
-use Rattle.cbor.specs.Utf8.{isUtf8}
+use Rattle.utf8.specs.Utf8.{isUtf8}
 use Rattle.options.specs.Text.{contentIn, badText, firstOf}
 use Rattle.options.specs.Objective.{mostName, longName}
 use Rattle.grammar.specs.Limits.{Utf8, Short}

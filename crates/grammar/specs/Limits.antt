@@ -1,4 +1,4 @@
--- The rules' limits on texts: named texts are UTF-8 (`Utf8Exact.utf8-exactly` of `cbor` says what that means), and names have at most 64 bytes.
+-- The rules' limits on texts: named texts are UTF-8 (`Utf8Exact.utf8-exactly` of `utf8` says what that means), and names have at most 64 bytes.
 use Prim.Native.Nat.{ℕ, _≤_}
 use mathlib.Core.List.{List, [], _∷_, _++_}
 use mathlib.Core.Bool.{true}
@@ -6,7 +6,7 @@ use mathlib.Core.Path.{_≡_}
 use mathlib.Core.Option.{Option, none, some}
 use lib.ListN.{length}
 use Rattle.base.specs.Lists.{Every}
-use Rattle.cbor.specs.Utf8.{isUtf8}
+use Rattle.utf8.specs.Utf8.{isUtf8}
 use Rattle.options.specs.Objective.{mostName}
 use Rattle.grammar.specs.Cddl.{Loc, Obj, Aim, Ending, Msg}
 

@@ -9,7 +9,7 @@ use Rattle.cbor.specs.declared.item.ItemRead.{ItemRead}
 use Rattle.cbor.specs.declared.token.Token.{Token}
 use Rattle.cbor.specs.Item.{firstItem}
 use Rattle.cbor.specs.Token.{tokenAt}
-use Rattle.cbor.specs.Utf8.{isUtf8}
+use Rattle.utf8.specs.Utf8.{isUtf8}
 use Rattle.options.specs.Text.{contentIn}
 use Rattle.options.specs.Objective.{mostName}
 use Rattle.message.specs.Read.{mostBytes}

@@ -5,7 +5,6 @@ use cbor::item;
 use cbor::item::ItemRead;
 use cbor::token;
 use cbor::token::Token;
-use cbor::utf8;
 use message::MOST_BYTES;
 use options::objective::MOST_NAME;
 

@@ -8,7 +8,7 @@ use Rattle.base.specs.BigEndian.{bigEndian}
 use Rattle.cbor.specs.Head.{widthOf, leastOf, initialOf, argOf, judged as headJudged, headFrom, headBy, headOf, headAt}
 use Rattle.cbor.specs.Item.{opens, stepOf, stepFrom as itemFrom, stepAt, itemsOf, next, run, enough, firstItem}
 use Rattle.cbor.specs.Token.{nothingAt, tokenOf, tokenFrom, tokenAt, itemsIn, upTo}
-use Rattle.cbor.specs.Utf8.{tailsOf, leastTail, greatestTail, goesOn, isUtf8}
+use Rattle.utf8.specs.Utf8.{tailsOf, leastTail, greatestTail, goesOn, isUtf8}
 use Rattle.options.specs.Text.{badText}
 use Rattle.options.specs.Objective.{longName, objectiveIn}
 use Rattle.message.specs.Shape.{exchangeOf, exchanged, exchangeAt, waitAt, optionAt, endAt}

@@ -6,7 +6,7 @@ use lib.ListN.{take, drop}
 use lib.Dec.{eqb}
 use Rattle.base.specs.Pick.{pick}
 use Rattle.cbor.specs.declared.token.Token.{Token}
-use Rattle.cbor.specs.Utf8.{isUtf8}
+use Rattle.utf8.specs.Utf8.{isUtf8}
 use Rattle.options.specs.declared.Span.{Span}
 
 -- the rest where a test holds

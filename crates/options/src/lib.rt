@@ -4,7 +4,6 @@
 ghost use mathlib.Core.Path.{_≡_};
 ghost use Rattle.options.specs.Text.{badText, firstOf};
 use cbor::token::Token;
-use cbor::utf8;
 
 pub mod locator;
 pub mod objective;

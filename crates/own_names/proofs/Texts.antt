@@ -17,7 +17,7 @@ use Rattle.base.proofs.Bools.{and-left, and-right, and-true, or-true, not-both}
 use Rattle.cbor.specs.declared.token.Token.{Token}
 use Rattle.cbor.specs.Token.{tokenAt}
 use Rattle.cbor.specs.Tree.{Items, count, depth, depths}
-use Rattle.cbor.specs.Utf8.{isUtf8}
+use Rattle.utf8.specs.Utf8.{isUtf8}
 use Rattle.grammar.specs.Cddl.{text}
 use Rattle.grammar.specs.Limits.{Utf8, Short}
 use Rattle.grammar.specs.Stands.{Stands, StandAll}

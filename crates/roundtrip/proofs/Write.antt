@@ -34,7 +34,6 @@ use Rattle.roundtrip.proofs.Drafts.{described-told, draft-bytes}
 
 -- an answer that is a message
 accepted-is : (r : Reading) → accepted r ≡ true → (m : Message) × (r ≡ Reading.Read m)
-unfolding accepted
 accepted-is (Reading.Refused number) h = absurd (let z : _≡_ {A = ℕ} 0 1 = cc in omega arith)
 accepted-is (Reading.Read m) h = (m, refl)
 
@@ -92,7 +91,7 @@ module _ (source list : List ℕ) (d : Description) (b : Bytes source) where
 
   -- and back
   says-passes : {s : List ℕ} (a : Accepted s) → Says source list d (plain (a .message .msg)) → Passes source list d
-  unfolding accepts accepted
+  unfolding accepts
   says-passes {s} a h =
       let same : draftOf source list d ≡ s = read-drafted s source list d a (h .is) in
       let values : ValuedMsg (msgOf source list d) = subst ValuedMsg (sym (h .is)) (plain-valued (a .message .good) (a .message .shallow) (a .message .is)) in

@@ -11,7 +11,7 @@ use Rattle.base.specs.BigEndian.{bigEndian, bytesOf}
 use Rattle.cbor.specs.Head.{widthOf, leastOf, initialOf, argOf, judged as headJudged, headFrom, headBy, headOf, headAt}
 use Rattle.cbor.specs.Item.{opens, stepOf, stepFrom, stepAt, itemsOf, next, run, enough, firstItem}
 use Rattle.cbor.specs.Token.{nothingAt, tokenOf, tokenFrom, tokenAt, sizeFrom, sizeAt, itemsIn, upTo}
-use Rattle.cbor.specs.Utf8.{tailsOf, leastTail, greatestTail, goesOn, isUtf8}
+use Rattle.utf8.specs.Utf8.{tailsOf, leastTail, greatestTail, goesOn, isUtf8}
 use Rattle.cbor.specs.Tree.{infoOf, headBytes, shortest}
 use Rattle.cbor.specs.Put.{head}
 use Rattle.options.specs.declared.objective.Objective.{Objective}

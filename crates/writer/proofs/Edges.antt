@@ -11,7 +11,7 @@ use Rattle.base.specs.BigEndian.{bigEndian, bytesOf}
 use Rattle.cbor.specs.Head.{widthOf, leastOf, initialOf, argOf, judged as headJudged, headFrom, headBy, headOf, headAt}
 use Rattle.cbor.specs.Item.{opens, stepOf, stepFrom, stepAt, itemsOf, next, run, enough, firstItem}
 use Rattle.cbor.specs.Token.{nothingAt, tokenOf, tokenFrom, tokenAt, sizeFrom, sizeAt, itemsIn, upTo as tokenUpTo}
-use Rattle.cbor.specs.Utf8.{tailsOf, leastTail, greatestTail, goesOn, isUtf8}
+use Rattle.utf8.specs.Utf8.{tailsOf, leastTail, greatestTail, goesOn, isUtf8}
 use Rattle.cbor.specs.Tree.{infoOf, headBytes, shortest}
 use Rattle.cbor.specs.Put.{head}
 use Rattle.options.specs.Text.{badText, firstOf}
@@ -27,7 +27,7 @@ use Rattle.message.specs.Read.{byKind, judged, shaped, framed, examined, placel
 use Rattle.description.specs.Grasp.{string, numberOrNull, reached, fixed, encodeLoc, encodeLocs, oneMore, encodeObj, maybeObj, howMany, locOrEmpty, encodePair, encodePairs, targetItems, encodeTargets, reason, opening, encodeMsg}
 use Rattle.description.specs.Describe.{upTo, entryOf, objOf, orNull, locOf, placeAt, rowLoc, locsOf, targetsOf, extraOf, entryAt, locOrNone, rowPair, pairsOf, endOf, msgOf}
 use Rattle.description.specs.Judge.{alone, whole, inside, okValue, okItem, okEntry, okPlace, blank, okNoneOr, allFrom, okRow, okRows, okPair, okPairs, okExtra, okEnding, okDiscovery, okResponse, okFlood, okParts, hasList, okList, okDescribed}
-use Rattle.writer.specs.Write.{accepted, accepts, handAnswer, handOut, passes, passAnswer, passOut, draftOf, writeAnswer, writeOut, lowered, okLower, lowerAnswer, lowerOut, answerOf}
+use Rattle.writer.specs.Write.{accepts, handAnswer, handOut, passes, passAnswer, passOut, draftOf, writeAnswer, writeOut, lowered, okLower, lowerAnswer, lowerOut, answerOf}
 use Rattle.description.specs.declared.Description.{Description}
 use Rattle.description.specs.declared.Description.the-variants as D
 use Rattle.description.specs.declared.Extra.the-variants as X
@@ -82,7 +82,7 @@ pub written :
     × (writeOut source floodRow floodTold (replicate 20 0) ≡ floodBytes 2)
     × (writeAnswer [] [] endTold (replicate 6 0) ≡ Written.Length 6)
     × (writeOut [] [] endTold (replicate 6 0) ≡ endBytes)
-unfolding pick bigEndian bytesOf widthOf leastOf initialOf argOf headJudged headFrom headBy headOf headAt opens stepOf stepFrom stepAt itemsOf next run enough firstItem nothingAt tokenOf tokenFrom tokenAt sizeFrom sizeAt itemsIn tokenUpTo tailsOf leastTail greatestTail goesOn isUtf8 infoOf headBytes shortest head badText firstOf isNull addressFits protocolOf portOf locatorOf textOf locatorIn longName objectiveIn isEmpty pairTagged pairTail pairLed pairIn isInitiator openingAt textLed locatorNext locatorsFrom pairNext pairsFrom noopAt discovered discoveryAt exchangeOf exchanged exchangeAt waitAt invalidAt optionAt endAt responseBy responseAt floodedBy floodedOf floodedAt floodBy floodAt byKind judged shaped framed examined placeless readOf string numberOrNull reached fixed encodeLoc encodeLocs oneMore encodeObj maybeObj howMany locOrEmpty encodePair encodePairs targetItems encodeTargets reason opening encodeMsg upTo entryOf objOf orNull locOf placeAt rowLoc locsOf targetsOf extraOf entryAt locOrNone rowPair pairsOf endOf msgOf alone whole accepted accepts inside okValue okItem okEntry okPlace blank okNoneOr allFrom okRow okRows okPair okPairs okExtra okEnding okDiscovery okResponse okFlood okParts hasList okList okDescribed handAnswer handOut passes passAnswer passOut draftOf writeAnswer writeOut lowered okLower lowerAnswer lowerOut answerOf targetsAt locatedAt locatedOf restAt
+unfolding pick bigEndian bytesOf widthOf leastOf initialOf argOf headJudged headFrom headBy headOf headAt opens stepOf stepFrom stepAt itemsOf next run enough firstItem nothingAt tokenOf tokenFrom tokenAt sizeFrom sizeAt itemsIn tokenUpTo tailsOf leastTail greatestTail goesOn isUtf8 infoOf headBytes shortest head badText firstOf isNull addressFits protocolOf portOf locatorOf textOf locatorIn longName objectiveIn isEmpty pairTagged pairTail pairLed pairIn isInitiator openingAt textLed locatorNext locatorsFrom pairNext pairsFrom noopAt discovered discoveryAt exchangeOf exchanged exchangeAt waitAt invalidAt optionAt endAt responseBy responseAt floodedBy floodedOf floodedAt floodBy floodAt byKind judged shaped framed examined placeless readOf string numberOrNull reached fixed encodeLoc encodeLocs oneMore encodeObj maybeObj howMany locOrEmpty encodePair encodePairs targetItems encodeTargets reason opening encodeMsg upTo entryOf objOf orNull locOf placeAt rowLoc locsOf targetsOf extraOf entryAt locOrNone rowPair pairsOf endOf msgOf alone whole accepts inside okValue okItem okEntry okPlace blank okNoneOr allFrom okRow okRows okPair okPairs okExtra okEnding okDiscovery okResponse okFlood okParts hasList okList okDescribed handAnswer handOut passes passAnswer passOut draftOf writeAnswer writeOut lowered okLower lowerAnswer lowerOut answerOf targetsAt locatedAt locatedOf restAt
 written = (refl, refl, refl, refl, refl, refl, refl)
 
 -- for readers

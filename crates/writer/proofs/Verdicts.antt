@@ -1,13 +1,17 @@
 -- Bytes handed over, drafts, and the writer's answers.
 -- Assumes nothing.
 use Prim.Native.Nat.{ℕ, _≤_, _<_}
-use mathlib.Core.Path.{_≡_, refl, sym, ap, _∙_}
+use mathlib.Core.Path.{_≡_, refl, sym, _∙_}
 use mathlib.Core.Bool.{Bool, true, false}
-use mathlib.Core.List.{List}
+use mathlib.Core.Logic.{_⊎_, inl, inr, _≢_}
+use mathlib.Core.List.{List, _++_}
 use native.Mathlib.Omega.{arith}
-use lib.ListN.{length, take}
-use borrow.Author.Tests.{lt-ltb, le-ltb}
+use lib.Dec.{ltb, leb}
+use lib.ListN.{length, take, drop}
+use lib.Seq.{length-take-le}
+use borrow.Author.Tests.{lt-ltb, le-ltb, lt-leb, le-leb, ltb-true, ltb-false}
 use Rattle.base.specs.Pick.{pick}
+use Rattle.base.proofs.Bools.{true-or-false}
 use Rattle.message.specs.Read.{mostBytes}
 use Rattle.description.specs.declared.Description.{Description}
 use Rattle.writer.specs.declared.Written.{Written}
@@ -16,38 +20,56 @@ use Rattle.description.specs.Judge.{okDescribed}
 use Rattle.writer.specs.Write.{accepts, handAnswer, handOut, passes, passAnswer, passOut, draftOf, writeAnswer, writeOut}
 use Rattle.encode.proofs.Puts.{finished, drafted, long}
 
--- ---- bytes handed over
-module _ (bs out : List ℕ) where
-  pub hand-short : length out < length bs → (Written.Refused 19 ≡ handAnswer bs out) × (out ≡ handOut bs out)
-  unfolding handAnswer handOut pick
-  hand-short h = rw (lt-ltb (length out) (length bs) h) (refl, refl)
+-- ---- bytes that a test lets pass, judged before they are put
+-- what `refusal` answers, by its two tests
+abbrev numberBy : (good short : Bool) → ℕ
+numberBy good short = pick good (pick short 19 0) 18
 
-  pub handed : {out′ : List ℕ} {n : ℕ} → length bs ≤ length out → Wrote out out′ 0 bs n → (Written.Length (length bs) ≡ handAnswer bs out) × (out′ ≡ handOut bs out)
-  unfolding handAnswer handOut pick
-  handed h w = rw (le-ltb (length out) (length bs) h) (refl, finished w h .1)
+module _ (test : Bool) (bs out : List ℕ) {good : Bool} {len number : ℕ} (g : good ≡ passes test bs) (l : len ≡ length bs) (e : number ≡ numberBy good (ltb (length out) len)) where
+  pub pass-not : number ≢ 0 → (Written.Refused number ≡ passAnswer test bs out) × (out ≡ passOut test bs out)
+  unfolding passAnswer passOut handAnswer handOut pick
+  pass-not h = rw (e, ← g, ← l) (go good (ltb (length out) len) (λ z. h (e ∙ z)))
+    where
+      go : (x y : Bool) → numberBy x y ≢ 0
+          → (Written.Refused (numberBy x y) ≡ pick x (pick y (Written.Refused 19) (Written.Length len)) (Written.Refused 18)) × (out ≡ pick x (pick y out (bs ++ drop len out)) out)
+      go true true m = (refl, refl)
+      go true false m = absurd (m refl)
+      go false y m = (refl, refl)
+
+  pub pass-put : {r : ℕ} {out′ : List ℕ} → number ≡ 0 → Wrote out out′ 0 bs r → (Written.Length len ≡ passAnswer test bs out) × (out′ ≡ passOut test bs out)
+  unfolding passAnswer passOut handAnswer handOut pick
+  pass-put {r} {out′} z w = rw (← g, ← l) (go good (ltb (length out) len) refl (sym e ∙ z))
+    where
+      go : (x y : Bool) → ltb (length out) len ≡ y → numberBy x y ≡ 0
+          → (Written.Length len ≡ pick x (pick y (Written.Refused 19) (Written.Length len)) (Written.Refused 18)) × (out′ ≡ pick x (pick y out (bs ++ drop len out)) out)
+      go true true q m = absurd (let z : _≡_ {A = ℕ} 19 0 = m in omega arith)
+      go true false q m = (refl, rw l (finished w (omega (arith, ltb-false (length out) len q)) .1))
+      go false y q m = absurd (let z : _≡_ {A = ℕ} 18 0 = m in omega arith)
+
+-- no more than 2,048 bytes
+pub few : (n : ℕ) (l : List ℕ) → n ≤ length l → n ≤ mostBytes → length (take n l) ≤ mostBytes
+few n l h g = rw (length-take-le n l h) g
+
+pub in-length : (test : Bool) (bs : List ℕ) → length bs ≤ mostBytes → test ≡ passes test bs
+unfolding passes pick
+in-length test bs h = rw (le-ltb mostBytes (length bs) h)
+
+pub by-length : (bs : List ℕ) (n : ℕ) → n ≡ length bs → leb n mostBytes ≡ passes true bs
+unfolding passes pick
+by-length bs n e = rw (← e) (go (true-or-false (ltb mostBytes n)))
+  where
+    go : (ltb mostBytes n ≡ true) ⊎ (ltb mostBytes n ≡ false) → leb n mostBytes ≡ pick (ltb mostBytes n) false true
+    go (inl q) = rw (q, lt-leb n mostBytes (ltb-true mostBytes n q))
+    go (inr q) = rw (q, le-leb n mostBytes (ltb-false mostBytes n q))
 
 -- ---- a draft of 2,048 bytes that ends in time
 module _ {l l′ bs : List ℕ} {r : ℕ} (w : Wrote l l′ 0 bs r) (g : length l ≡ mostBytes) (h : r ≤ mostBytes) where
-  in-time : r ≤ length l
-  in-time = omega arith
-
-  fits : length bs ≤ mostBytes
-  fits = omega (arith, drafted w in-time .1)
-
   draft-is : take r l′ ≡ bs
-  draft-is = drafted w in-time .0
+  draft-is = let k : r ≤ length l = omega arith in drafted w k .0
 
-  pub judged : {x : Bool} → x ≡ accepts (take r l′) → accepts bs ≡ x
-  judged f = sym (f ∙ ap accepts draft-is)
-
-  pub pass-not : (test : Bool) (out : List ℕ) → test ≡ false → (Written.Refused 18 ≡ passAnswer test bs out) × (out ≡ passOut test bs out)
-  unfolding passAnswer passOut passes pick
-  pass-not test out e = rw (e, le-ltb mostBytes (length bs) fits) (refl, refl)
-
-  pub passed : (test : Bool) (out : List ℕ) {out′ : List ℕ} {a : Written} → test ≡ true → a ≡ handAnswer (take r l′) out → out′ ≡ handOut (take r l′) out
-      → (a ≡ passAnswer test bs out) × (out′ ≡ passOut test bs out)
-  unfolding passAnswer passOut passes pick
-  passed test out e p q = rw (e, le-ltb mostBytes (length bs) fits) (rw draft-is at p, rw draft-is at q)
+  pub passed : (out : List ℕ) {out′ : List ℕ} {x : Bool} {a : Written} → x ≡ accepts (take r l′) → a ≡ passAnswer x (take r l′) out → out′ ≡ passOut x (take r l′) out
+      → (a ≡ passAnswer (accepts bs) bs out) × (out′ ≡ passOut (accepts bs) bs out)
+  passed out e p q = rw (← draft-is, ← e) (p, q)
 
 -- one that doesn't
 pub pass-long : {l l′ bs : List ℕ} {r : ℕ} → Wrote l l′ 0 bs r → length l ≡ mostBytes → (test : Bool) (out : List ℕ) → mostBytes < r
@@ -57,20 +79,6 @@ pass-long {l} {l′} {bs} {r} w g test out h =
     let k : length l < r = omega arith in
     let k′ : mostBytes < length bs = omega (arith, long w k) in
     rw (lt-ltb mostBytes (length bs) k′) (refl, refl)
-
--- ---- bytes whose number is known before they are put
-module _ (bs out : List ℕ) (n : ℕ) (e : n ≡ length bs) where
-  pub pass-over : mostBytes < n → (Written.Refused 18 ≡ passAnswer true bs out) × (out ≡ passOut true bs out)
-  unfolding passAnswer passOut passes pick
-  pass-over h = let k : mostBytes < length bs = omega arith in rw (lt-ltb mostBytes (length bs) k) (refl, refl)
-
-  pub pass-short : n ≤ mostBytes → length out < n → (Written.Refused 19 ≡ passAnswer true bs out) × (out ≡ passOut true bs out)
-  unfolding passAnswer passOut passes pick
-  pass-short h g = let k : length bs ≤ mostBytes = omega arith in rw (le-ltb mostBytes (length bs) k) (hand-short bs out (omega arith))
-
-  pub pass-put : {out′ : List ℕ} {r : ℕ} → n ≤ mostBytes → n ≤ length out → Wrote out out′ 0 bs r → (Written.Length n ≡ passAnswer true bs out) × (out′ ≡ passOut true bs out)
-  unfolding passAnswer passOut passes pick
-  pass-put h g w = let k : length bs ≤ mostBytes = omega arith in rw (le-ltb mostBytes (length bs) k, e) (handed bs out (omega arith) w)
 
 -- ---- the description by itself
 module _ (source list : List ℕ) (m : Description) (out : List ℕ) (b : Bool) (e : b ≡ okDescribed source list m) where

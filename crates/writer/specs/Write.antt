@@ -33,7 +33,7 @@ unfoldable pub passOut : Bool → List ℕ → List ℕ → List ℕ
 passOut test bs out = pick (passes test bs) (handOut bs out) out
 
 -- the reader accepts the bytes
-unfoldable pub accepted : Reading → Bool
+abbrev pub accepted : Reading → Bool
 accepted (Reading.Refused number) = false
 accepted (Reading.Read m) = true
 

@@ -6,7 +6,10 @@ ghost use Rattle.description.specs.Grasp.{string, fixed};
 ghost use mathlib.Core.Bool.{true};
 ghost use Prim.Native.Nat.{_<_, _≤_};
 ghost use lib.ListN.{length};
-ghost use Rattle.writer.specs.Write.{accepts, writeAnswer, writeOut, lowered, lowerAnswer, lowerOut, answerOf, handAnswer, handOut, passAnswer, passOut};
+ghost use lib.Dec.{ltb};
+ghost use Rattle.base.specs.Pick.{pick};
+ghost use Rattle.message.specs.Read.{mostBytes};
+ghost use Rattle.writer.specs.Write.{accepted, accepts, writeAnswer, writeOut, lowered, lowerAnswer, lowerOut, answerOf, passAnswer, passOut};
 use description::Description;
 use description::judge;
 use encode::put;
@@ -32,10 +35,8 @@ pub fn write(source: &[u8], list: &[u64], m: Description, out: &mut [u8]) -> Wri
     if MOST_BYTES < len {
         return Written::Refused(18);
     }
-    if !accepts(&draft[..len]) {
-        return Written::Refused(18);
-    }
-    hand(&draft[..len], out)
+    let accepted = accepts(&draft[..len]);
+    hand(accepted, &draft[..len], out)
 }
 
 // The message with its bytes from `at` to `end`, the head of its loop count, replaced by the shortest head of one less.
@@ -54,11 +55,9 @@ pub fn lower(message: &[u8], at: usize, end: usize, count: u8, out: &mut [u8]) -
     }
     let kept = at + (message.len() - end);
     let len = kept + cbor::put::head_len((count - 1) as u64);
-    if MOST_BYTES < len {
-        return Written::Refused(18);
-    }
-    if out.len() < len {
-        return Written::Refused(19);
+    let number = refusal(len <= MOST_BYTES, len, out.len());
+    if number != 0 {
+        return Written::Refused(number);
     }
     put_lowered(out, message, at, end, count);
     Written::Length(len)
@@ -77,11 +76,9 @@ pub fn answer(
     ensures { λ r. ⌜ now (out .exit) ≡ passOut true (answerOf session (now (initiator .entry)) ttl (now (address .entry)) port) (now (out .entry)) ⌝ }
 {
     let len = answer_len(session, initiator, ttl, address, port);
-    if MOST_BYTES < len {
-        return Written::Refused(18);
-    }
-    if out.len() < len {
-        return Written::Refused(19);
+    let number = refusal(len <= MOST_BYTES, len, out.len());
+    if number != 0 {
+        return Written::Refused(number);
     }
     put_answer(out, session, initiator, ttl, &address[..], port);
     Written::Length(len)
@@ -91,20 +88,41 @@ pub fn answer(
 fn accepts(s: &[u8]) -> bool
     ensures { λ r. ⌜ r ≡ accepts (now (s .entry)) ⌝ }
 {
-    let reading = message::read(s);
+    is_accepted(message::read(s))
+}
+
+// Whether what was read is a message.
+fn is_accepted(reading: Reading) -> bool
+    ensures { λ r. ⌜ r ≡ accepted reading ⌝ }
+{
     match reading {
         Reading::Refused(_) => false,
         Reading::Read(_) => true,
     }
 }
 
-// Bytes handed over to the front of the output; 19 where that is shorter.
-fn hand(bs: &[u8], out: &mut [u8]) -> Written
-    ensures { λ r. ⌜ r ≡ handAnswer (now (bs .entry)) (now (out .entry)) ⌝ }
-    ensures { λ r. ⌜ now (out .exit) ≡ handOut (now (bs .entry)) (now (out .entry)) ⌝ }
+// 18 where there is no such message, however short the output; then 19 where the output is shorter than the message; 0 for neither.
+fn refusal(good: bool, len: usize, room: usize) -> u8
+    ensures { λ r. ⌜ r ≡ pick good (pick (ltb room len) 19 0) 18 ⌝ }
 {
-    if out.len() < bs.len() {
-        return Written::Refused(19);
+    if !good {
+        return 18;
+    }
+    if room < len {
+        return 19;
+    }
+    0
+}
+
+// A draft handed over to the front of the output.
+fn hand(accepted: bool, bs: &[u8], out: &mut [u8]) -> Written
+    requires { ⌜ length (now bs) ≤ mostBytes ⌝ }
+    ensures { λ r. ⌜ r ≡ passAnswer accepted (now (bs .entry)) (now (out .entry)) ⌝ }
+    ensures { λ r. ⌜ now (out .exit) ≡ passOut accepted (now (bs .entry)) (now (out .entry)) ⌝ }
+{
+    let number = refusal(accepted, bs.len(), out.len());
+    if number != 0 {
+        return Written::Refused(number);
     }
     put::all(out, 0, bs);
     Written::Length(bs.len())

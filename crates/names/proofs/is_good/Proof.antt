@@ -9,7 +9,7 @@ use Rattle.names.proofs.is_good.Statement.{statement}
 use Rattle.names.proofs.is_good.Tie as tie
 use Rattle.names.proofs.is_good.Reads as reads
 use Rattle.names.proofs.is_good.Lts as lts
-use Rattle.cbor.proofs.utf8.is_utf8_in.Reads as is-utf8-in-reads
+use Rattle.utf8.proofs.is_utf8_in.Reads as is-utf8-in-reads
 
 -- src/lib.rt:71:9
 returns : tie.Need-returns

@@ -7,7 +7,7 @@ use Rattle.options.proofs.bad_text.Statement.{statement}
 use Rattle.options.proofs.bad_text.Tie as tie
 use Rattle.options.proofs.bad_text.Reads as reads
 use Rattle.options.proofs.bad_text.Lts as lts
-use Rattle.cbor.proofs.utf8.is_utf8_in.Reads as is-utf8-in-reads
+use Rattle.utf8.proofs.is_utf8_in.Reads as is-utf8-in-reads
 
 -- src/lib.rt:23:8
 is-utf8-in-requires : tie.Need-is-utf8-in-requires

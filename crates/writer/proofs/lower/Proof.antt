@@ -6,7 +6,7 @@ use borrow.Author.Tests.{lt-ltb, le-ltb, eq-eqb, ne-eqb}
 use Rattle.base.specs.Pick.{pick}
 use Rattle.writer.specs.Write.{okLower, lowerAnswer, lowerOut}
 use Rattle.writer.proofs.Lengths.{head-few, lowered-length}
-use Rattle.writer.proofs.Verdicts.{pass-over, pass-short, pass-put}
+use Rattle.writer.proofs.Verdicts.{pass-not, pass-put, by-length}
 use borrow.Author.Needs.{needs}
 use Rattle.writer.proofs.lower.Statement.{statement}
 use Rattle.writer.proofs.lower.Tie as tie
@@ -41,15 +41,13 @@ head-len-requires c κs = search needs
 add-len : tie.Need-add-len
 add-len c = omega (arith, head-few _ _ (c .head-len .ensures))
 
+refusal-requires : tie.Need-refusal-requires
+refusal-requires c κs = search needs
+
 returns-4 : tie.Need-returns-4
 unfolding lowerAnswer lowerOut okLower pick
-returns-4 c = rw (ne-eqb _ _ (c .before .before .before .before .if1 .left), le-ltb _ _ (c .before .before .before .if2 .left), le-ltb _ _ (c .before .before .if3 .left))
-    (pass-over _ _ _ (lowered-length _ _ _ _ _ (c .before .before .before .if2 .left) (c .before .before .if3 .left) (c .before .head-len .ensures)) (c .if4 .taken))
-
-returns-5 : tie.Need-returns-5
-unfolding lowerAnswer lowerOut okLower pick
-returns-5 c = rw (ne-eqb _ _ (c .before .before .before .before .before .if1 .left), le-ltb _ _ (c .before .before .before .before .if2 .left), le-ltb _ _ (c .before .before .before .if3 .left))
-    (pass-short _ _ _ (lowered-length _ _ _ _ _ (c .before .before .before .before .if2 .left) (c .before .before .before .if3 .left) (c .before .before .head-len .ensures)) (c .before .if4 .left) (c .if5 .taken))
+returns-4 c = rw (ne-eqb _ _ (c .before .before .before .before .before .if1 .left), le-ltb _ _ (c .before .before .before .before .if2 .left), le-ltb _ _ (c .before .before .before .if3 .left))
+    (let e = (lowered-length _ _ _ _ _ (c .before .before .before .before .if2 .left) (c .before .before .before .if3 .left) (c .before .before .head-len .ensures)) in pass-not _ _ _ (by-length _ _ e) e (c .before .refusal .ensures) (c .if4 .taken))
 
 put-lowered-requires : tie.Need-put-lowered-requires
 put-lowered-requires c κs = search needs
@@ -57,10 +55,10 @@ put-lowered-requires c κs = search needs
 same-length : tie.Need-same-length
 same-length c = search needs
 
-returns-6 : tie.Need-returns-6
+returns-5 : tie.Need-returns-5
 unfolding lowerAnswer lowerOut okLower pick
-returns-6 c = rw (ne-eqb _ _ (c .before .before .before .before .before .before .before .before .before .if1 .left), le-ltb _ _ (c .before .before .before .before .before .before .before .before .if2 .left), le-ltb _ _ (c .before .before .before .before .before .before .before .if3 .left))
-    (pass-put _ _ _ (lowered-length _ _ _ _ _ (c .before .before .before .before .before .before .before .before .if2 .left) (c .before .before .before .before .before .before .before .if3 .left) (c .before .before .before .before .before .before .head-len .ensures)) (c .before .before .before .before .before .if4 .left) (c .before .before .before .before .if5 .left) (c .before .before .put-lowered .ensures))
+returns-5 c = rw (ne-eqb _ _ (c .before .before .before .before .before .before .before .before .before .if1 .left), le-ltb _ _ (c .before .before .before .before .before .before .before .before .if2 .left), le-ltb _ _ (c .before .before .before .before .before .before .before .if3 .left))
+    (let e = (lowered-length _ _ _ _ _ (c .before .before .before .before .before .before .before .before .if2 .left) (c .before .before .before .before .before .before .before .if3 .left) (c .before .before .before .before .before .before .head-len .ensures)) in pass-put _ _ _ (by-length _ _ e) e (c .before .before .before .before .before .refusal .ensures) (c .before .before .before .before .if4 .left) (c .before .before .put-lowered .ensures))
 
 pub lower-spec : {M : Type 1} → statement M
 lower-spec =
@@ -75,8 +73,8 @@ lower-spec =
     cast-head-len
     head-len-requires
     add-len
+    refusal-requires
     returns-4
-    returns-5
     put-lowered-requires
     same-length
-    returns-6)
+    returns-5)

@@ -9,7 +9,7 @@ use mathlib.Core.Path.{_∙_}
 use borrow.Author.Tests.{not-true, not-false}
 use Rattle.encode.proofs.Puts.{front-step}
 use Rattle.writer.specs.Write.{draftOf}
-use Rattle.writer.proofs.Verdicts.{not-described, described, pass-long, pass-not, passed, judged}
+use Rattle.writer.proofs.Verdicts.{not-described, described, pass-long, passed, few}
 use borrow.Author.Needs.{needs}
 use Rattle.writer.proofs.write.Statement.{statement}
 use Rattle.writer.proofs.write.Tie as tie
@@ -39,25 +39,21 @@ slice-aggregate-accepts c = sym (length-take-le _ _ (omega (arith, (c .before .b
 accepts-requires : tie.Need-accepts-requires
 accepts-requires c κs = search needs
 
-returns-3 : tie.Need-returns-3
-unfolding draftOf
-returns-3 c = described _ _ _ _ _ (c .before .before .before .before .before .before .before .before .ok-described .ensures) (not-false _ (c .before .before .before .before .before .before .before .if1 .left)) (pass-not (front-step (c .before .before .before .before .before .message .ensures .0) (c .before .before .before .before .before .message .ensures .1)) (length-replicate {A = ℕ} 2048 0) (c .before .before .before .if2 .left) _ _ (judged (front-step (c .before .before .before .before .before .message .ensures .0) (c .before .before .before .before .before .message .ensures .1)) (length-replicate {A = ℕ} 2048 0) (c .before .before .before .if2 .left) (c .before .accepts .ensures) ∙ not-true _ (c .if3 .taken)))
-
 array-share-prefix-draft-2 : tie.Need-array-share-prefix-draft-2
 array-share-prefix-draft-2 c = search needs
 
 slice-aggregate-hand : tie.Need-slice-aggregate-hand
-slice-aggregate-hand c = sym (length-take-le _ _ (omega (arith, (c .before .before .before .before .before .draft2 .given))))
+slice-aggregate-hand c = sym (length-take-le _ _ (omega (arith, (c .before .before .before .before .draft2 .given))))
 
 hand-requires : tie.Need-hand-requires
-hand-requires c κs = search needs
+hand-requires c κs = few _ _ (omega (arith, (c .before .before .before .before .before .draft2 .given))) (c .before .before .before .before .if2 .left)
 
 same-length : tie.Need-same-length
 same-length c = search needs
 
-returns-4 : tie.Need-returns-4
+returns-3 : tie.Need-returns-3
 unfolding draftOf
-returns-4 c = described _ _ _ _ _ (c .before .before .before .before .before .before .before .before .before .before .before .before .before .ok-described .ensures) (not-false _ (c .before .before .before .before .before .before .before .before .before .before .before .before .if1 .left)) (passed (front-step (c .before .before .before .before .before .before .before .before .before .before .message .ensures .0) (c .before .before .before .before .before .before .before .before .before .before .message .ensures .1)) (length-replicate {A = ℕ} 2048 0) (c .before .before .before .before .before .before .before .before .if2 .left) _ _ (judged (front-step (c .before .before .before .before .before .before .before .before .before .before .message .ensures .0) (c .before .before .before .before .before .before .before .before .before .before .message .ensures .1)) (length-replicate {A = ℕ} 2048 0) (c .before .before .before .before .before .before .before .before .if2 .left) (c .before .before .before .before .before .before .accepts .ensures) ∙ not-false _ (c .before .before .before .before .before .if3 .left)) (c .before .before .hand .ensures .0) (c .before .before .hand .ensures .1))
+returns-3 c = described _ _ _ _ _ (c .before .before .before .before .before .before .before .before .before .before .before .before .ok-described .ensures) (not-false _ (c .before .before .before .before .before .before .before .before .before .before .before .if1 .left)) (passed (front-step (c .before .before .before .before .before .before .before .before .before .message .ensures .0) (c .before .before .before .before .before .before .before .before .before .message .ensures .1)) (length-replicate {A = ℕ} 2048 0) (c .before .before .before .before .before .before .before .if2 .left) _ (c .before .before .before .before .before .accepts .ensures) (c .before .before .hand .ensures .0) (c .before .before .hand .ensures .1))
 
 pub write-spec : {M : Type 1} → statement M
 write-spec =
@@ -71,9 +67,8 @@ write-spec =
     array-share-prefix-draft
     slice-aggregate-accepts
     accepts-requires
-    returns-3
     array-share-prefix-draft-2
     slice-aggregate-hand
     hand-requires
     same-length
-    returns-4)
+    returns-3)

@@ -1,4 +1,4 @@
--- `cbor::utf8::is_utf8_in` meets its contract: no bytes, those that there are, or the part asked for.
+-- `utf8::is_utf8_in` meets its contract: no bytes, those that there are, or the part asked for.
 -- Assumes nothing.
 use mathlib.Core.Path.{_≡_, sym, ap, _∙_}
 use mathlib.Core.Bool.{true}
@@ -8,13 +8,13 @@ use native.Mathlib.Omega.{arith}
 use lib.ListN.{length, take, drop, length-drop}
 use lib.Seq.{take-all}
 use Rattle.base.proofs.Parts.{rest-is, drop-past}
-use Rattle.cbor.specs.Utf8.{isUtf8, goesOn}
+use Rattle.utf8.specs.Utf8.{isUtf8, goesOn}
 use borrow.Author.Needs.{needs}
-use Rattle.cbor.proofs.utf8.is_utf8_in.Statement.{statement}
-use Rattle.cbor.proofs.utf8.is_utf8_in.Tie as tie
-use Rattle.cbor.proofs.utf8.is_utf8_in.Reads as reads
-use Rattle.cbor.proofs.utf8.is_utf8_in.Lts as lts
-use Rattle.cbor.proofs.utf8.is_utf8.Reads as is-utf8-reads
+use Rattle.utf8.proofs.is_utf8_in.Statement.{statement}
+use Rattle.utf8.proofs.is_utf8_in.Tie as tie
+use Rattle.utf8.proofs.is_utf8_in.Reads as reads
+use Rattle.utf8.proofs.is_utf8_in.Lts as lts
+use Rattle.utf8.proofs.is_utf8.Reads as is-utf8-reads
 
 -- no bytes are UTF-8
 none-before : (s : List ℕ) (from to : ℕ) → to ≤ from → true ≡ isUtf8 (take (to - from) (drop from s))

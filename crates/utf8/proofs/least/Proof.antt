@@ -1,10 +1,10 @@
--- `cbor::utf8::least` meets its contract: its tests are those of `leastTail`.
+-- `utf8::least` meets its contract: its tests are those of `leastTail`.
 -- Assumes nothing.
 use Rattle.base.specs.Pick.{pick}
 use Rattle.base.proofs.Tests.{tests}
-use Rattle.cbor.specs.Utf8.{leastTail}
-use Rattle.cbor.proofs.utf8.least.Statement.{statement}
-use Rattle.cbor.proofs.utf8.least.Tie as tie
+use Rattle.utf8.specs.Utf8.{leastTail}
+use Rattle.utf8.proofs.least.Statement.{statement}
+use Rattle.utf8.proofs.least.Tie as tie
 
 returns : tie.Need-returns
 unfolding leastTail pick

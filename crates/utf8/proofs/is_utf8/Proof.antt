@@ -1,4 +1,4 @@
--- `cbor::utf8::is_utf8` meets its contract. The loop's invariant: the bytes from `at` on go on as the state asks just where the
+-- `utf8::is_utf8` meets its contract. The loop's invariant: the bytes from `at` on go on as the state asks just where the
 -- whole is UTF-8. The measure is what is left of the length.
 -- Assumes nothing.
 use mathlib.Core.Path.{_≡_, refl}
@@ -13,9 +13,9 @@ use lib.ListN.{length, drop, getD}
 use lib.Seq.{drop-cons}
 use Rattle.base.specs.Pick.{pick}
 use Rattle.base.proofs.Parts.{drop-past}
-use Rattle.cbor.specs.Utf8.{tailsOf, leastTail, greatestTail, goesOn, isUtf8}
-use Rattle.cbor.proofs.utf8.is_utf8.Statement.{statement}
-use Rattle.cbor.proofs.utf8.is_utf8.Tie as tie
+use Rattle.utf8.specs.Utf8.{tailsOf, leastTail, greatestTail, goesOn, isUtf8}
+use Rattle.utf8.proofs.is_utf8.Statement.{statement}
+use Rattle.utf8.proofs.is_utf8.Tie as tie
 
 -- one turn, at the byte `getD s at 0`
 module _ (s : List ℕ) (due low high at : ℕ) (v : Bool) (within : at < length s) (inv : goesOn due low high (drop at s) ≡ v) where

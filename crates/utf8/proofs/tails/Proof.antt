@@ -1,11 +1,11 @@
--- `cbor::utf8::tails` meets its contract: its tests are those of `tailsOf`.
+-- `utf8::tails` meets its contract: its tests are those of `tailsOf`.
 -- Assumes nothing.
 use native.Mathlib.Omega.{arith}
 use borrow.Author.Tests.{lt-ltb, le-ltb}
 use Rattle.base.specs.Pick.{pick}
-use Rattle.cbor.specs.Utf8.{tailsOf}
-use Rattle.cbor.proofs.utf8.tails.Statement.{statement}
-use Rattle.cbor.proofs.utf8.tails.Tie as tie
+use Rattle.utf8.specs.Utf8.{tailsOf}
+use Rattle.utf8.proofs.tails.Statement.{statement}
+use Rattle.utf8.proofs.tails.Tie as tie
 
 returns : tie.Need-returns
 unfolding tailsOf pick

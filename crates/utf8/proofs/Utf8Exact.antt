@@ -12,8 +12,8 @@ use lib.Dec.{ltb, eqb}
 use lib.ListN.{length}
 use Rattle.base.specs.Pick.{pick}
 use Rattle.base.proofs.Picks.{pick-case, past}
-use Rattle.cbor.specs.Utf8.{tailsOf, leastTail, greatestTail, goesOn, isUtf8, scalarBytes, textBytes, Scalars}
-use Rattle.cbor.proofs.Utf8Scalar.{tails-case, passed, Spells, spells-one, spells-two, spells-three, spells-four, firstOf, first-is, some-bytes}
+use Rattle.utf8.specs.Utf8.{tailsOf, leastTail, greatestTail, goesOn, isUtf8, scalarBytes, textBytes, Scalars}
+use Rattle.utf8.proofs.Utf8Scalar.{tails-case, passed, Spells, spells-one, spells-two, spells-three, spells-four, firstOf, first-is, some-bytes}
 
 -- for readers
 

@@ -11,7 +11,7 @@ use lib.Dec.{ltb, eqb}
 use lib.ListN.{length, getD}
 use Rattle.base.specs.Pick.{pick}
 use Rattle.base.proofs.Picks.{pick-case}
-use Rattle.cbor.specs.Utf8.{tailsOf, leastTail, greatestTail, goesOn, Scalar, scalarBytes}
+use Rattle.utf8.specs.Utf8.{tailsOf, leastTail, greatestTail, goesOn, Scalar, scalarBytes}
 
 -- Cases of the definitions.
 

@@ -1,10 +1,10 @@
--- `cbor::utf8::greatest` meets its contract: its tests are those of `greatestTail`.
+-- `utf8::greatest` meets its contract: its tests are those of `greatestTail`.
 -- Assumes nothing.
 use Rattle.base.specs.Pick.{pick}
 use Rattle.base.proofs.Tests.{tests}
-use Rattle.cbor.specs.Utf8.{greatestTail}
-use Rattle.cbor.proofs.utf8.greatest.Statement.{statement}
-use Rattle.cbor.proofs.utf8.greatest.Tie as tie
+use Rattle.utf8.specs.Utf8.{greatestTail}
+use Rattle.utf8.proofs.greatest.Statement.{statement}
+use Rattle.utf8.proofs.greatest.Tie as tie
 
 returns : tie.Need-returns
 unfolding greatestTail pick

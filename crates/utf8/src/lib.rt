@@ -2,7 +2,7 @@
 ghost use mathlib.Core.Path.{_≡_};
 ghost use Prim.Native.Nat.{_-_};
 ghost use lib.ListN.{take, drop};
-ghost use Rattle.cbor.specs.Utf8.{tailsOf, leastTail, greatestTail, isUtf8};
+ghost use Rattle.utf8.specs.Utf8.{tailsOf, leastTail, greatestTail, isUtf8};
 
 // Whether `s` is UTF-8.
 pub fn is_utf8(s: &[u8]) -> bool
