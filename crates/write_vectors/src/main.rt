@@ -1,5 +1,8 @@
 // Runs the stored cases over the writer, a line for each: the length or the refusal, and the whole output afterwards. A case is an operation and what
 // it takes: 1 writes a description, 2 lowers a count, 3 answers, 4 reads a message and writes it again.
+use blocks::told;
+use blocks::told::Told;
+use description::Description;
 use message::Message;
 use message::Reading;
 use writer::Written;
@@ -92,13 +95,18 @@ fn write_in(fields: &[u64; 19], list: &mut [u64], source: &mut [u8], out: &mut [
 }
 
 fn write(source: &[u8], list: &[u64], fields: &[u64; 19], out: &mut [u8]) {
-    let mut length: u64 = 0;
-    let number = grasp::writing::grasp_write(source, list, fields, out, &mut length);
-    if number == 0 {
-        print_number(b"length ", length);
-    } else {
-        print_number(b"refused ", number as u64);
+    let told = told::told_by(fields, list.len());
+    match told {
+        Told::Nothing => {
+            print_number(b"refused ", 18);
+            print_bytes(out);
+        }
+        Told::Says(description) => write_described(source, list, description, out),
     }
+}
+
+fn write_described(source: &[u8], list: &[u64], description: Description, out: &mut [u8]) {
+    print_written(writer::write(source, list, description, out));
     print_bytes(out);
 }
 
