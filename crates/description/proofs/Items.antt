@@ -6,7 +6,7 @@ use mathlib.Core.Bool.{false}
 use mathlib.Core.List.{List, [], _∷_}
 use native.Mathlib.Omega.{arith}
 use lib.ListN.{length, length-append}
-use Rattle.description.specs.Grasp.{oneMore, targetItems}
+use Rattle.description.specs.Encoding.{oneMore, targetItems}
 use Rattle.description.specs.Describe.{placeRow, upTo, locsOf, targetsOf}
 
 pub length-up : {A : Type 0} (f : ℕ → A) (n : ℕ) → length (upTo f n) ≡ n

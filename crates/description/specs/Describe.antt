@@ -3,10 +3,13 @@
 use Prim.Native.Nat.{ℕ, zero, suc, _+_, _*_, _/_}
 use mathlib.Core.Bool.{Bool, true, false}
 use mathlib.Core.List.{List, [], _∷_, _++_}
+use mathlib.Core.Option.{Option, none, some}
 use lib.ListN.{length, getD}
 use lib.Dec.{eqb}
 use Rattle.base.specs.Pick.{pick}
 use Rattle.options.specs.Text.{held}
+use Rattle.syntax.specs.Message as Syntax
+use Rattle.syntax.specs.Message.{Loc, orNull, Obj, Pair, Aim, Msg}
 use Rattle.description.specs.declared.Goal.{Goal}
 use Rattle.description.specs.declared.rows.Entry.{Entry}
 use Rattle.description.specs.declared.rows.Place.{Place}
@@ -16,7 +19,6 @@ use Rattle.description.specs.declared.Ending.{Ending}
 use Rattle.description.specs.declared.Ending.the-variants as E
 use Rattle.description.specs.declared.Description.{Description}
 use Rattle.description.specs.declared.Description.the-variants as D
-use Rattle.description.specs.Grasp.{Maybe, Loc, Obj, Pair, Targets, Msg}
 
 -- how many numbers a row has: a locator's, a pair's, and a pair's before its locator
 abbrev pub placeRow : ℕ
@@ -37,12 +39,8 @@ upTo f (suc n) = upTo f n ++ (f n ∷ [])
 unfoldable pub entryOf : Goal → Entry
 entryOf o = record { name = o .name; flags = o .flags; count = o .count; value = o .value }
 
-unfoldable pub objOf : List ℕ → Entry → Obj
+unfoldable pub objOf : List ℕ → Entry → Obj (List ℕ)
 objOf source o = record { name = held source (o .name); flags = o .flags; count = o .count; value = held source (o .value) }
-
--- a number, or null where it is the one that stands for null
-unfoldable pub orNull : ℕ → ℕ → Maybe ℕ
-orNull null n = pick (eqb n null) Maybe.none (Maybe.some n)
 
 -- protocol 0 and port 65,536 stand for null in a URI
 unfoldable pub locOf : List ℕ → Place → Loc
@@ -68,13 +66,13 @@ rowLoc source list i = locOf source (placeAt list (placeRow * i))
 unfoldable pub locsOf : List ℕ → List ℕ → List Loc
 locsOf source list = upTo (rowLoc source list) (length list / placeRow)
 
-unfoldable pub targetsOf : List ℕ → List ℕ → Bool → Targets
-targetsOf source list true = Targets.divert (locsOf source list)
-targetsOf source list false = Targets.locators (locsOf source list)
+unfoldable pub targetsOf : List ℕ → List ℕ → Bool → Aim
+targetsOf source list true = Aim.divert (locsOf source list)
+targetsOf source list false = Aim.locators (locsOf source list)
 
-unfoldable pub extraOf : List ℕ → Extra → Maybe Obj
-extraOf source X.Without = Maybe.none
-extraOf source (X.With o) = Maybe.some (objOf source (entryOf o))
+unfoldable pub extraOf : List ℕ → Extra → Option (Obj (List ℕ))
+extraOf source X.Without = none
+extraOf source (X.With o) = some (objOf source (entryOf o))
 
 -- an objective in seven numbers, from place k on: place and length of its name, flags, count, 0, place and length of its value
 unfoldable pub entryAt : List ℕ → ℕ → Entry
@@ -87,30 +85,29 @@ entryAt list k =
     }
 
 -- no locator where its kind is 0
-unfoldable pub locOrNone : List ℕ → Place → Maybe Loc
-locOrNone source p = pick (eqb (p .kind) 0) Maybe.none (Maybe.some (locOf source p))
+unfoldable pub locOrNone : List ℕ → Place → Option Loc
+locOrNone source p = pick (eqb (p .kind) 0) none (some (locOf source p))
 
-unfoldable pub rowPair : List ℕ → List ℕ → ℕ → Pair
-rowPair source list i =
-    record { objective = objOf source (entryAt list (pairRow * i)); locator = locOrNone source (placeAt list (pairRow * i + entryRow)) }
+unfoldable pub rowPair : List ℕ → List ℕ → ℕ → Pair (List ℕ)
+rowPair source list i = (objOf source (entryAt list (pairRow * i)), locOrNone source (placeAt list (pairRow * i + entryRow)))
 
-unfoldable pub pairsOf : List ℕ → List ℕ → List Pair
+unfoldable pub pairsOf : List ℕ → List ℕ → List (Pair (List ℕ))
 pairsOf source list = upTo (rowPair source list) (length list / pairRow)
 
-unfoldable pub endOf : List ℕ → ℕ → Ending → Msg
-endOf source session E.Accept = Msg.accept session
-endOf source session E.Decline = Msg.decline session Maybe.none
-endOf source session (E.Reason t) = Msg.decline session (Maybe.some (held source t))
+unfoldable pub endOf : List ℕ → Ending → Syntax.Ending
+endOf source E.Accept = Syntax.Ending.accept
+endOf source E.Decline = Syntax.Ending.decline
+endOf source (E.Reason t) = Syntax.Ending.reason (held source t)
 
-unfoldable pub msgOf : List ℕ → List ℕ → Description → Msg
+unfoldable pub msgOf : List ℕ → List ℕ → Description → Msg (List ℕ)
 msgOf source list D.Noop = Msg.noop
 msgOf source list (D.Discovery s i o) = Msg.discovery s (held source i) (objOf source (entryOf o))
 msgOf source list (D.Response s i t d o) = Msg.response s (held source i) t (targetsOf source list d) (extraOf source o)
-msgOf source list (D.RequestNegotiation s o) = Msg.exchange 3 s (objOf source (entryOf o))
-msgOf source list (D.RequestSynchronization s o) = Msg.exchange 4 s (objOf source (entryOf o))
-msgOf source list (D.Negotiate s o) = Msg.exchange 5 s (objOf source (entryOf o))
-msgOf source list (D.End s e) = endOf source s e
+msgOf source list (D.RequestNegotiation s o) = Msg.request-negotiation s (objOf source (entryOf o))
+msgOf source list (D.RequestSynchronization s o) = Msg.request-synchronization s (objOf source (entryOf o))
+msgOf source list (D.Negotiate s o) = Msg.negotiate s (objOf source (entryOf o))
+msgOf source list (D.End s e) = Msg.end s (endOf source e)
 msgOf source list (D.Wait s t) = Msg.wait s t
-msgOf source list (D.Synch s o) = Msg.exchange 8 s (objOf source (entryOf o))
+msgOf source list (D.Synch s o) = Msg.synch s (objOf source (entryOf o))
 msgOf source list (D.Flood s i t) = Msg.flood s (held source i) t (pairsOf source list)
 msgOf source list (D.Invalid s v) = Msg.invalid s (held source v)

@@ -1,4 +1,4 @@
--- `Grasp`: messages as data, and their encoding. `Describe`: which message a description speaks of. `Judge`: which descriptions speak of one.
-pub mod Grasp
+-- `Encoding`: a message's encoding with shortest heads. `Describe`: which message a description speaks of. `Judge`: which descriptions speak of one.
+pub mod Encoding
 pub mod Describe
 pub mod Judge

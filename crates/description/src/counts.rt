@@ -2,7 +2,7 @@
 ghost use mathlib.Core.Path.{_≡_};
 ghost use mathlib.Core.List.{[]};
 ghost use Rattle.options.specs.Text.{held};
-ghost use Rattle.description.specs.Grasp.{oneMore, howMany, targetItems};
+ghost use Rattle.description.specs.Encoding.{oneMore, howMany, targetItems};
 ghost use Rattle.description.specs.Describe.{targetsOf, extraOf};
 use crate::Extra;
 use crate::rows::PLACE_ROW;

@@ -3,45 +3,42 @@
 use Prim.Native.Nat.{ℕ, _+_, _/_, _≤_}
 use mathlib.Core.Path.{_≡_, refl, sym, ap, _∙_}
 use mathlib.Core.Bool.{Bool, true, false}
-use mathlib.Core.List.{List, [], _∷_, _++_, append-assoc, append-nil}
+use mathlib.Core.List.{List, [], _∷_, _++_, flatMap, append-assoc, append-nil}
 use native.Mathlib.Numerals.{add-one}
 use native.Mathlib.Nat.{le-antisymm}
 use native.Mathlib.Omega.{arith}
 use lib.ListN.{length}
 use Rattle.encode.specs.Put.{Wrote}
-use Rattle.description.specs.Grasp.{Loc, Pair, encodeLoc, encodeLocs, encodePair, encodePairs, targetItems, howMany}
+use Rattle.description.specs.Encoding.{targetItems, howMany}
 use Rattle.description.specs.declared.Extra.{Extra}
 use Rattle.description.specs.declared.Extra.the-variants as X
-use Rattle.description.specs.Describe.{placeRow, pairRow, upTo, rowLoc, locsOf, rowPair, pairsOf, targetsOf, extraOf}
+use Rattle.description.specs.Describe.{placeRow, pairRow, upTo, rowLoc, locsOf, pairsOf, targetsOf, extraOf}
 use Rattle.description.proofs.Items.{length-up}
 use Rattle.encode.proofs.Puts.{then, still}
 
-pub locs-more : (xs : List Loc) (x : Loc) → encodeLocs (xs ++ (x ∷ [])) ≡ encodeLocs xs ++ encodeLoc x
-unfolding encodeLocs
-locs-more [] x = append-nil (encodeLoc x)
-locs-more (y ∷ xs) x = ap (λ (t : List ℕ). encodeLoc y ++ t) (locs-more xs x) ∙ sym (append-assoc (encodeLoc y) (encodeLocs xs) (encodeLoc x))
+-- one more
+flat-more : {A : Type 0} (encode : A → List ℕ) (xs : List A) (x : A) → flatMap encode (xs ++ (x ∷ [])) ≡ flatMap encode xs ++ encode x
+unfolding flatMap
+flat-more encode [] x = append-nil (encode x)
+flat-more encode (y ∷ xs) x = ap (λ (t : List ℕ). encode y ++ t) (flat-more encode xs x) ∙ sym (append-assoc (encode y) (flatMap encode xs) (encode x))
 
-pub pairs-more : (xs : List Pair) (x : Pair) → encodePairs (xs ++ (x ∷ [])) ≡ encodePairs xs ++ encodePair x
-unfolding encodePairs
-pairs-more [] x = append-nil (encodePair x)
-pairs-more (y ∷ xs) x = ap (λ (t : List ℕ). encodePair y ++ t) (pairs-more xs x) ∙ sym (append-assoc (encodePair y) (encodePairs xs) (encodePair x))
+-- rows put one after the other, by what a row says and how that is encoded
+module _ {A : Type 0} (encode : A → List ℕ) (row : ℕ → A) where
+  -- the first i
+  unfoldable pub firstRows : ℕ → List ℕ
+  firstRows i = flatMap encode (upTo row i)
 
-module _ (source list : List ℕ) where
-  -- the first i locators
-  unfoldable pub firstLocs : ℕ → List ℕ
-  firstLocs i = encodeLocs (upTo (rowLoc source list) i)
+  pub rows-none : (l : List ℕ) (at : ℕ) → Wrote l l at (firstRows 0) at
+  unfolding firstRows upTo flatMap
+  rows-none l at = still l at
 
-  pub locs-none : (l : List ℕ) (at : ℕ) → Wrote l l at (firstLocs 0) at
-  unfolding firstLocs upTo encodeLocs
-  locs-none l at = still l at
+  pub rows-turn : {l l′ l″ : List ℕ} {at m r : ℕ} (i : ℕ) → Wrote l l′ at (firstRows i) m → Wrote l′ l″ m (encode (row i)) r → Wrote l l″ at (firstRows (i + 1)) r
+  unfolding firstRows upTo
+  rows-turn i v w = rw (add-one i, flat-more) (then v w)
 
-  pub locs-turn : {l l′ l″ : List ℕ} {at m r : ℕ} (i : ℕ) → Wrote l l′ at (firstLocs i) m → Wrote l′ l″ m (encodeLoc (rowLoc source list i)) r → Wrote l l″ at (firstLocs (i + 1)) r
-  unfolding firstLocs upTo
-  locs-turn i v w = rw (add-one i, locs-more) (then v w)
-
-  pub locs-done : {l l′ : List ℕ} {at r : ℕ} (i : ℕ) → i ≤ length list / placeRow → length list / placeRow ≤ i → Wrote l l′ at (firstLocs i) r → Wrote l l′ at (encodeLocs (locsOf source list)) r
-  unfolding firstLocs locsOf
-  locs-done i p q v = rw (le-antisymm p q) at v
+  pub rows-done : {l l′ : List ℕ} {at r : ℕ} (i n : ℕ) → i ≤ n → n ≤ i → Wrote l l′ at (firstRows i) r → Wrote l l′ at (flatMap encode (upTo row n)) r
+  unfolding firstRows
+  rows-done i n p q v = rw (le-antisymm p q) at v
 
 -- how many items the targets are doesn't depend on the source
 pub targets-many : (source list : List ℕ) (d : Bool) → targetItems (targetsOf [] list d) ≡ targetItems (targetsOf source list d)
@@ -74,23 +71,6 @@ targets-few list d t e = rw e (targets-le [] list d)
 pub extra-few : (m : Extra) (t : ℕ) → t ≡ howMany (extraOf [] m) → t ≤ 1
 extra-few m t e = rw e (extra-le [] m)
 
-module _ (source list : List ℕ) where
-  -- the first i pairs
-  unfoldable pub firstPairs : ℕ → List ℕ
-  firstPairs i = encodePairs (upTo (rowPair source list) i)
-
-  pub pairs-none : (l : List ℕ) (at : ℕ) → Wrote l l at (firstPairs 0) at
-  unfolding firstPairs upTo encodePairs
-  pairs-none l at = still l at
-
-  pub pairs-turn : {l l′ l″ : List ℕ} {at m r : ℕ} (i : ℕ) → Wrote l l′ at (firstPairs i) m → Wrote l′ l″ m (encodePair (rowPair source list i)) r → Wrote l l″ at (firstPairs (i + 1)) r
-  unfolding firstPairs upTo
-  pairs-turn i v w = rw (add-one i, pairs-more) (then v w)
-
-  pub pairs-done : {l l′ : List ℕ} {at r : ℕ} (i : ℕ) → i ≤ length list / pairRow → length list / pairRow ≤ i → Wrote l l′ at (firstPairs i) r → Wrote l l′ at (encodePairs (pairsOf source list)) r
-  unfolding firstPairs pairsOf
-  pairs-done i p q v = rw (le-antisymm p q) at v
-
-  pub length-pairs : length (pairsOf source list) ≡ length list / pairRow
-  unfolding pairsOf
-  length-pairs = length-up _ _
+pub length-pairs : (source list : List ℕ) → length (pairsOf source list) ≡ length list / pairRow
+unfolding pairsOf
+length-pairs source list = length-up _ _

@@ -8,7 +8,7 @@ use lib.ListN.{length, take, drop}
 use Rattle.options.specs.Text.{held}
 use Rattle.options.specs.declared.Span.{Span}
 use Rattle.encode.specs.Put.{Wrote}
-use Rattle.description.specs.Grasp.{oneMore}
+use Rattle.description.specs.Encoding.{oneMore}
 use Rattle.description.proofs.Held.{held-none, held-rest, held-part}
 use Rattle.encode.proofs.Puts.{still}
 

@@ -1,7 +1,9 @@
 // The eleven kinds put (RFC 8990, section 2.8), each from the front of the buffer.
 ghost use Rattle.options.specs.Text.{held};
 ghost use Rattle.encode.specs.Put.{Wrote};
-ghost use Rattle.description.specs.Grasp.{Maybe, Msg, opening, encodeMsg, encodeObj, encodeTargets, maybeObj};
+ghost use Rattle.syntax.specs.Message.{Msg};
+ghost use Rattle.syntax.specs.Message as Syntax;
+ghost use Rattle.description.specs.Encoding.{opening, exchange, encodeMsg, encodeObj, encodeTargets, maybeObj};
 ghost use Rattle.description.specs.Describe.{entryOf, objOf, targetsOf, pairsOf, extraOf, endOf, msgOf};
 use crate::locator;
 use crate::objective;
@@ -145,14 +147,14 @@ pub(crate) fn put_extra(out: &mut [u8], at: usize, source: &[u8], extra: Extra) 
 
 // Kinds 3, 4, 5 and 8.
 pub(crate) fn put_exchange(out: &mut [u8], source: &[u8], kind: u64, session: u32, o: Goal) -> usize
-    ensures { λ r. ⌜ Wrote (now (out .entry)) (now (out .exit)) 0 (encodeMsg (Msg.exchange kind session (objOf (now (source .entry)) (entryOf o)))) r ⌝ }
+    ensures { λ r. ⌜ Wrote (now (out .entry)) (now (out .exit)) 0 (exchange kind session (objOf (now (source .entry)) (entryOf o))) r ⌝ }
 {
     let a = put_opening(out, 3, kind, session);
     put_goal(out, a, source, o)
 }
 
 pub(crate) fn put_end(out: &mut [u8], source: &[u8], session: u32, ending: Ending) -> usize
-    ensures { λ r. ⌜ Wrote (now (out .entry)) (now (out .exit)) 0 (encodeMsg (endOf (now (source .entry)) session ending)) r ⌝ }
+    ensures { λ r. ⌜ Wrote (now (out .entry)) (now (out .exit)) 0 (encodeMsg (Msg.end session (endOf (now (source .entry)) ending))) r ⌝ }
 {
     match ending {
         Ending::Accept => put_accept(out, session),
@@ -162,7 +164,7 @@ pub(crate) fn put_end(out: &mut [u8], source: &[u8], session: u32, ending: Endin
 }
 
 pub(crate) fn put_accept(out: &mut [u8], session: u32) -> usize
-    ensures { λ r. ⌜ Wrote (now (out .entry)) (now (out .exit)) 0 (encodeMsg (Msg.accept session)) r ⌝ }
+    ensures { λ r. ⌜ Wrote (now (out .entry)) (now (out .exit)) 0 (encodeMsg (Msg.end session Syntax.Ending.accept)) r ⌝ }
 {
     let a = put_opening(out, 3, 6, session);
     let b = put::head(out, a, 4, 1);
@@ -170,7 +172,7 @@ pub(crate) fn put_accept(out: &mut [u8], session: u32) -> usize
 }
 
 pub(crate) fn put_decline(out: &mut [u8], session: u32) -> usize
-    ensures { λ r. ⌜ Wrote (now (out .entry)) (now (out .exit)) 0 (encodeMsg (Msg.decline session Maybe.none)) r ⌝ }
+    ensures { λ r. ⌜ Wrote (now (out .entry)) (now (out .exit)) 0 (encodeMsg (Msg.end session Syntax.Ending.decline)) r ⌝ }
 {
     let a = put_opening(out, 3, 6, session);
     let b = put::head(out, a, 4, 1);
@@ -178,7 +180,7 @@ pub(crate) fn put_decline(out: &mut [u8], session: u32) -> usize
 }
 
 pub(crate) fn put_reason(out: &mut [u8], source: &[u8], session: u32, text: Span) -> usize
-    ensures { λ r. ⌜ Wrote (now (out .entry)) (now (out .exit)) 0 (encodeMsg (Msg.decline session (Maybe.some (held (now (source .entry)) text)))) r ⌝ }
+    ensures { λ r. ⌜ Wrote (now (out .entry)) (now (out .exit)) 0 (encodeMsg (Msg.end session (Syntax.Ending.reason (held (now (source .entry)) text)))) r ⌝ }
 {
     let a = put_opening(out, 3, 6, session);
     let b = put::head(out, a, 4, 2);

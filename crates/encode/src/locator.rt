@@ -1,10 +1,12 @@
 // Locators put (RFC 8990, section 2.9.5), from rows of five numbers.
 ghost use Prim.Native.Nat.{_+_, _*_, _<_, _≤_};
+ghost use mathlib.Core.List.{flatMap};
 ghost use lib.ListN.{length};
 ghost use Rattle.options.specs.Text.{held};
 ghost use Rattle.encode.specs.Put.{Wrote};
-ghost use Rattle.description.specs.Grasp.{numberOrNull, reached, fixed, encodeLoc, encodeLocs};
-ghost use Rattle.description.specs.Describe.{placeRow, orNull, locOf, rowLoc, locsOf};
+ghost use Rattle.syntax.specs.Message.{orNull};
+ghost use Rattle.description.specs.Encoding.{numberOrNull, reached, fixed, encodeLoc};
+ghost use Rattle.description.specs.Describe.{placeRow, locOf, rowLoc, locsOf};
 use crate::put;
 use description::rows;
 use description::rows::PLACE_ROW;
@@ -13,7 +15,7 @@ use options::Span;
 
 // The locators of the list.
 pub(crate) fn put_rows(out: &mut [u8], at: usize, source: &[u8], list: &[u64]) -> usize
-    ensures { λ r. ⌜ Wrote (now (out .entry)) (now (out .exit)) at (encodeLocs (locsOf (now (source .entry)) (now (list .entry)))) r ⌝ }
+    ensures { λ r. ⌜ Wrote (now (out .entry)) (now (out .exit)) at (flatMap encodeLoc (locsOf (now (source .entry)) (now (list .entry)))) r ⌝ }
 {
     let rows = list.len() / PLACE_ROW;
     let mut end = at;

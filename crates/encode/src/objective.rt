@@ -1,7 +1,7 @@
 // Objectives put (RFC 8990, section 2.10.1).
 ghost use Prim.Native.Nat.{_+_};
 ghost use Rattle.encode.specs.Put.{Wrote};
-ghost use Rattle.description.specs.Grasp.{encodeObj};
+ghost use Rattle.description.specs.Encoding.{encodeObj};
 ghost use Rattle.description.specs.Describe.{objOf};
 use crate::put;
 use description::counts;

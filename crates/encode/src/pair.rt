@@ -1,8 +1,9 @@
 // The pairs of a Flood put (RFC 8990, section 2.8.11), from rows of twelve numbers.
 ghost use Prim.Native.Nat.{_+_, _*_, _≤_};
+ghost use mathlib.Core.List.{flatMap};
 ghost use lib.ListN.{length};
 ghost use Rattle.encode.specs.Put.{Wrote};
-ghost use Rattle.description.specs.Grasp.{locOrEmpty, encodePair, encodePairs};
+ghost use Rattle.description.specs.Encoding.{locOrEmpty, encodePair};
 ghost use Rattle.description.specs.Describe.{pairRow, locOrNone, rowPair, pairsOf};
 use crate::locator;
 use crate::objective;
@@ -14,7 +15,7 @@ use description::rows::Place;
 
 // The pairs of the list.
 pub(crate) fn put_pairs(out: &mut [u8], at: usize, source: &[u8], list: &[u64]) -> usize
-    ensures { λ r. ⌜ Wrote (now (out .entry)) (now (out .exit)) at (encodePairs (pairsOf (now (source .entry)) (now (list .entry)))) r ⌝ }
+    ensures { λ r. ⌜ Wrote (now (out .entry)) (now (out .exit)) at (flatMap encodePair (pairsOf (now (source .entry)) (now (list .entry)))) r ⌝ }
 {
     let rows = list.len() / PAIR_ROW;
     let mut end = at;

@@ -7,7 +7,7 @@ ghost use lib.ListN.{length};
 ghost use Rattle.options.specs.Text.{held};
 ghost use Rattle.cbor.specs.Put.{head};
 ghost use Rattle.encode.specs.Put.{allEnd, allPut, Wrote};
-ghost use Rattle.description.specs.Grasp.{string};
+ghost use Rattle.description.specs.Encoding.{string};
 use description::spans;
 use options::Span;
 

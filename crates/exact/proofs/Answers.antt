@@ -21,7 +21,8 @@ use Rattle.cbor.proofs.Accepts.{item-accepts}
 use Rattle.cbor.proofs.Exact.{item-exact}
 use Rattle.cbor.proofs.Unique.{unique}
 use Rattle.cbor.proofs.Refuses.{refusal-sound}
-use Rattle.grammar.specs.Cddl.{Msg, MessageItem}
+use Rattle.syntax.specs.Message.{Msg}
+use Rattle.grammar.specs.Cddl.{MessageItem, Value}
 use Rattle.grammar.specs.Limits.{TextsGood, NamesGood}
 use Rattle.grammar.specs.Stands.{Stands}
 use Rattle.grammar.proofs.Bridge.{advances}
@@ -68,7 +69,7 @@ module _ {s : List ℕ} (one : OneItem s) where
 
 -- ---- one message
 -- what is read of it, and its description
-pub record MessageShape (s : List ℕ) (msg : Msg) : Type 0 where
+pub record MessageShape (s : List ℕ) (msg : Msg Value) : Type 0 where
   pub message : Message
   pub bad : ℕ
   pub long : ℕ

@@ -13,7 +13,8 @@ use Rattle.cbor.proofs.HeadExact.{head-read}
 use Rattle.options.specs.declared.Span.{Span}
 use Rattle.options.specs.declared.objective.Objective.{Objective}
 use Rattle.options.specs.Text.{spanOf}
-use Rattle.grammar.specs.Cddl.{Loc, LocatorItems, Obj, PairItems, Aim, Ending, Msg}
+use Rattle.syntax.specs.Message.{Loc, Obj, Pair, Aim, Ending, Msg}
+use Rattle.grammar.specs.Cddl.{LocatorItems, PairItems, Value}
 use Rattle.grammar.specs.Stands.{Stands, StandAll, ArrayHead, ValueIs, ObjectiveIs}
 use Rattle.grammar.proofs.Bridge.{split, none-end, stands-once}
 use Rattle.message.specs.declared.Series.{Series}
@@ -66,7 +67,7 @@ initiator-once {from = from} q a b =
 
 -- ---- objectives and values
 -- a value, from one place
-value-once : {s : List ℕ} {i i′ : Span} {v : Option Item} → i .at ≡ i′ .at → ValueIs s i v → ValueIs s i′ v → i .len ≡ i′ .len
+value-once : {s : List ℕ} {i i′ : Span} {v : Value} → i .at ≡ i′ .at → ValueIs s i v → ValueIs s i′ v → i .len ≡ i′ .len
 value-once q (ValueIs.absent e) (ValueIs.absent e′) = e ∙ sym e′
 value-once q (ValueIs.present a) (ValueIs.present b) = omega (arith, ends-once q a b)
 
@@ -85,7 +86,7 @@ objective-ext o o′ a b c d e = same a b c d e
     same a b c d e = cc
 
 -- an objective, from one place
-objective-once : {s : List ℕ} {p p′ e e′ : ℕ} {o o′ : Objective} {obj : Obj} → p ≡ p′ → ObjectiveIs s p e o obj → ObjectiveIs s p′ e′ o′ obj → o ≡ o′
+objective-once : {s : List ℕ} {p p′ e e′ : ℕ} {o o′ : Objective} {obj : Obj Value} → p ≡ p′ → ObjectiveIs s p e o obj → ObjectiveIs s p′ e′ o′ obj → o ≡ o′
 objective-once {o = o} {o′} {obj} q a b =
     let name = head-once q (a .opened) (b .opened) in
     let flags = ends-once name (a .name-item) (b .name-item) in
@@ -109,7 +110,7 @@ locators-count LocatorItems.empty = refl
 locators-count (LocatorItems.more i is) = ap suc (locators-count is)
 
 -- and as pairs
-pub pairs-count : {xs : Items} {ps : List (Obj × Option Loc)} → PairItems xs ps → count xs ≡ length ps
+pub pairs-count : {xs : Items} {ps : List (Pair Value)} → PairItems xs ps → count xs ≡ length ps
 unfolding count
 pairs-count PairItems.empty = refl
 pairs-count (PairItems.more i is) = ap suc (pairs-count is)
@@ -126,7 +127,7 @@ aim-once q (AimIs.divert {series} head lead i) (AimIs.divert {series = series′
     (ap Targets.Divert (series-ext series series′ place (i .many ∙ many ∙ sym (i′ .many))), all-end-once (i .items) (i′ .items) place many (i .stand) (i′ .stand))
 
 -- an objective that may be left out
-extra-once : {s : List ℕ} {p p′ : ℕ} {x x′ : Extra} {obj : Option Obj} → p ≡ p′ → ExtraIs s p x obj → ExtraIs s p′ x′ obj → x ≡ x′
+extra-once : {s : List ℕ} {p p′ : ℕ} {x x′ : Extra} {obj : Option (Obj Value)} → p ≡ p′ → ExtraIs s p x obj → ExtraIs s p′ x′ obj → x ≡ x′
 extra-once q (ExtraIs.without e) (ExtraIs.without e′) = refl
 extra-once q (ExtraIs.with-one i) (ExtraIs.with-one i′) = ap Extra.With (objective-once q i i′)
 
@@ -138,12 +139,12 @@ outcome-once (OutcomeIs.reason h) (OutcomeIs.reason h′) = ap Outcome.Reason (h
 
 -- ---- messages
 -- a session and an objective
-exchange-once : {s : List ℕ} {k p p′ q q′ session : ℕ} {o o′ : Objective} {obj : Obj} → KindIs s k p → NumberIs s p q session → ObjectiveIs s q (length s) o obj
+exchange-once : {s : List ℕ} {k p p′ q q′ session : ℕ} {o o′ : Objective} {obj : Obj Value} → KindIs s k p → NumberIs s p q session → ObjectiveIs s q (length s) o obj
     → KindIs s k p′ → NumberIs s p′ q′ session → ObjectiveIs s q′ (length s) o′ obj → o ≡ o′
 exchange-once k i o k′ i′ o′ = objective-once (number-once (kind-once k k′) i i′) o o′
 
 -- a message is described in one way
-pub described-once : {s : List ℕ} {m m′ : Message} {msg : Msg} → Describes s m msg → Describes s m′ msg → m ≡ m′
+pub described-once : {s : List ℕ} {m m′ : Message} {msg : Msg Value} → Describes s m msg → Describes s m′ msg → m ≡ m′
 described-once Describes.noop Describes.noop = refl
 described-once (Describes.discovery {session} k n i o) (Describes.discovery k′ n′ i′ o′) =
     let (after, initiator) = initiator-once (number-once (kind-once k k′) n n′) i i′ in

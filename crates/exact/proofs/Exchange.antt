@@ -12,7 +12,8 @@ use Rattle.options.specs.declared.Span.{Span}
 use Rattle.options.specs.declared.objective.Objective.{Objective}
 use Rattle.options.specs.declared.objective.ObjectiveRead.{ObjectiveRead}
 use Rattle.options.specs.Objective.{objectiveAt}
-use Rattle.grammar.specs.Cddl.{uint, list, array, Number, Initiator, Obj, ObjectiveItem, Msg, MessageItem}
+use Rattle.syntax.specs.Message.{Obj, Msg}
+use Rattle.grammar.specs.Cddl.{uint, list, array, Number, Initiator, ObjectiveItem, MessageItem, Value}
 use Rattle.grammar.specs.Limits.{textsOf, namesOf}
 use Rattle.grammar.specs.Stands.{StandAll, ObjectiveIs}
 use Rattle.grammar.proofs.Objectives.{objective-sound, objective-complete}
@@ -49,14 +50,14 @@ discovery-sound {s} {n} {at} k =
     discovered-sound (subst (λ (n : ℕ). Kinded s 1 n at) (eqb-true n 4 four) k) i j _ refl)))
 
 -- an objective that stands is read
-pub objective-reads : {s : List ℕ} {p e : ℕ} {x : Item} {obj : Obj} → StandAll s p e (list (x ∷ [])) → depth x ≤ mostLevels → ObjectiveItem x obj
+pub objective-reads : {s : List ℕ} {p e : ℕ} {x : Item} {obj : Obj Value} → StandAll s p e (list (x ∷ [])) → depth x ≤ mostLevels → ObjectiveItem x obj
     → (f : ObjectiveRead → Shape) → ((o : Objective) (size bad long : ℕ) → Reads (f (ObjectiveRead.Got o size bad long))) → Reads (f (objectiveAt s p))
 objective-reads {s} a d i f reads =
     let (o, bad, long, same) = objective-complete (only a) d i in
     subst (λ (r : ObjectiveRead). Reads (f r)) (sym same) (reads o _ bad long)
 
 -- a Discovery is read
-pub discovery-complete : {s : List ℕ} {at e session : ℕ} {x y z : Item} {from : List ℕ} {obj : Obj} → StandAll s at e (list (x ∷ y ∷ z ∷ []))
+pub discovery-complete : {s : List ℕ} {at e session : ℕ} {x y z : Item} {from : List ℕ} {obj : Obj Value} → StandAll s at e (list (x ∷ y ∷ z ∷ []))
     → Number x session → Initiator y from → ObjectiveItem z obj → depth z ≤ mostLevels → Reads (discoveryAt s 4 at)
 unfolding discoveryAt discovered
 discovery-complete a i j o d =
@@ -67,12 +68,12 @@ discovery-complete a i j o d =
 -- ---- 3, 4, 5 and 8
 -- a kind that has a session and an objective
 record Exchange (kind : ℕ) : Type 0 where
-  msg : ℕ → Obj → Msg
-  item : (w v session : ℕ) (i x : Item) (obj : Obj) → Number i session → ObjectiveItem x obj → MessageItem (array w (uint v kind ∷ i ∷ x ∷ [])) (msg session obj)
-  tells : (s : List ℕ) (p q session : ℕ) (o : Objective) (obj : Obj) → KindIs s kind p → NumberIs s p q session → ObjectiveIs s q (length s) o obj
+  msg : ℕ → Obj Value → Msg Value
+  item : (w v session : ℕ) (i x : Item) (obj : Obj Value) → Number i session → ObjectiveItem x obj → MessageItem (array w (uint v kind ∷ i ∷ x ∷ [])) (msg session obj)
+  tells : (s : List ℕ) (p q session : ℕ) (o : Objective) (obj : Obj Value) → KindIs s kind p → NumberIs s p q session → ObjectiveIs s q (length s) o obj
       → Describes s (exchangeOf kind session o) (msg session obj)
-  texts : (session : ℕ) (obj : Obj) → textsOf (msg session obj) ≡ obj .name ∷ []
-  names : (session : ℕ) (obj : Obj) → namesOf (msg session obj) ≡ obj .name ∷ []
+  texts : (session : ℕ) (obj : Obj Value) → textsOf (msg session obj) ≡ obj .name ∷ []
+  names : (session : ℕ) (obj : Obj Value) → namesOf (msg session obj) ≡ obj .name ∷ []
 
 -- the objective
 exchanged-sound : {s : List ℕ} {kind at p session : ℕ} → Exchange kind → Kinded s kind 3 at → NumberHere s at p session
@@ -147,7 +148,7 @@ synch-sound =
     })
 
 -- such a message is read, whatever the kind
-pub exchange-complete : {s : List ℕ} (kind : ℕ) {at e session : ℕ} {x y : Item} {obj : Obj} → StandAll s at e (list (x ∷ y ∷ []))
+pub exchange-complete : {s : List ℕ} (kind : ℕ) {at e session : ℕ} {x y : Item} {obj : Obj Value} → StandAll s at e (list (x ∷ y ∷ []))
     → Number x session → ObjectiveItem y obj → depth y ≤ mostLevels → Reads (exchangeAt s kind 3 at)
 unfolding exchangeAt exchanged
 exchange-complete kind a i o d =

@@ -3,7 +3,6 @@
 use mathlib.Core.Path.{_≡_, refl, sym, ap, subst}
 use mathlib.Core.Logic.{_↔_}
 use mathlib.Core.List.{List, [], _∷_}
-use mathlib.Core.Option.{Option}
 use Prim.Native.Nat.{ℕ, zero, suc, _+_, _-_, _≤_}
 use native.Mathlib.Omega.{arith}
 use lib.ListN.{length}
@@ -17,7 +16,8 @@ use Rattle.options.specs.declared.pair.Tag.{Tag}
 use Rattle.options.specs.declared.pair.PairRead.{PairRead}
 use Rattle.options.specs.Text.{firstOf}
 use Rattle.options.specs.Pair.{pairAt}
-use Rattle.grammar.specs.Cddl.{Loc, Obj, Number, Initiator, PairItems, Msg, MessageItem}
+use Rattle.syntax.specs.Message.{Pair, Msg}
+use Rattle.grammar.specs.Cddl.{Number, Initiator, PairItems, MessageItem, Value}
 use Rattle.grammar.specs.Limits.{Utf8, Short, pairTexts, pairsTexts, pairsNames, textsOf, namesOf}
 use Rattle.grammar.specs.Stands.{StandAll}
 use Rattle.grammar.proofs.Bridge.{join, none, split}
@@ -37,7 +37,7 @@ use Rattle.exact.proofs.Opening.{OpeningHere, OpeningOk, opening-sound,
 -- pairs, and what is noted of them
 record PairsHere (s : List ℕ) (p n bad long bad′ long′ : ℕ) : Type 0 where
   items : Items
-  pairs : List (Obj × Option Loc)
+  pairs : List (Pair Value)
   end : ℕ
   are : PairItems items pairs
   stand : StandAll s p end items
@@ -133,7 +133,7 @@ unfolding pairsFrom pairNext
 passed s p n bad long e step (bad″, long″, rest) = (bad″, long″, rw (e, step) rest)
 
 -- pairs that stand one after the other are read
-pairs-complete : {s : List ℕ} {p e : ℕ} {xs : Items} {ps : List (Obj × Option Loc)} → StandAll s p e xs → depths xs ≤ mostLevels → PairItems xs ps
+pairs-complete : {s : List ℕ} {p e : ℕ} {xs : Items} {ps : List (Pair Value)} → StandAll s p e xs → depths xs ≤ mostLevels → PairItems xs ps
     → (bad long : ℕ) → Run s (count xs) p bad long
 unfolding count depth pairsFrom
 pairs-complete a d PairItems.empty bad long = (bad, long, refl)
@@ -149,7 +149,7 @@ unfolding floodedAt floodedOf floodedBy
 first-passed s p parts opening less step e (bad′, long′, rest) = rw (e, less, step, rest) Reads.reads
 
 -- after the opening
-flooded-complete : {s : List ℕ} {p e parts : ℕ} {xs : Items} {pair : Obj × Option Loc} {ps : List (Obj × Option Loc)} (opening : Opening) → StandAll s p e xs
+flooded-complete : {s : List ℕ} {p e parts : ℕ} {xs : Items} {pair : Pair Value} {ps : List (Pair Value)} (opening : Opening) → StandAll s p e xs
     → depths xs ≤ mostLevels → parts ≡ count xs → PairItems xs (pair ∷ ps) → Reads (floodedAt s opening parts p)
 unfolding count depth
 flooded-complete {s} {p} {parts = parts} opening a d counted (PairItems.more {xs = xs} i is) =
@@ -158,12 +158,12 @@ flooded-complete {s} {p} {parts = parts} opening a d counted (PairItems.more {xs
     first-passed s p parts opening {n = count xs} {m = c .mid} (omega arith) (omega (arith, c .first .end)) same (pairs-complete (c .rest) (omega arith) is bad long)
 
 -- there is a pair
-some-pairs : {xs : Items} {pair : Obj × Option Loc} {ps : List (Obj × Option Loc)} → PairItems xs (pair ∷ ps) → 1 ≤ count xs
+some-pairs : {xs : Items} {pair : Pair Value} {ps : List (Pair Value)} → PairItems xs (pair ∷ ps) → 1 ≤ count xs
 unfolding count
 some-pairs (PairItems.more i is) = omega arith
 
 -- a Flood is read
-pub flood-complete : {s : List ℕ} {n at e session ttl : ℕ} {x y z : Item} {xs : Items} {from : List ℕ} {pair : Obj × Option Loc} {ps : List (Obj × Option Loc)}
+pub flood-complete : {s : List ℕ} {n at e session ttl : ℕ} {x y z : Item} {xs : Items} {from : List ℕ} {pair : Pair Value} {ps : List (Pair Value)}
     → StandAll s at e (Items.more x (Items.more y (Items.more z xs))) → Number x session → Initiator y from → Number z ttl → PairItems xs (pair ∷ ps)
     → depths xs ≤ mostLevels → n ≡ 4 + count xs → Reads (floodAt s n at)
 unfolding floodAt floodBy

@@ -20,7 +20,8 @@ use Rattle.options.specs.declared.locator.Locator.{Locator}
 use Rattle.options.specs.declared.locator.LocatorRead.{LocatorRead}
 use Rattle.options.specs.Text.{firstOf}
 use Rattle.options.specs.Locator.{locatorAt}
-use Rattle.grammar.specs.Cddl.{uint, Loc, LocatorItem, LocatorItems, Obj, ObjectiveItem}
+use Rattle.syntax.specs.Message.{Loc, Obj}
+use Rattle.grammar.specs.Cddl.{uint, LocatorItem, LocatorItems, ObjectiveItem, Value}
 use Rattle.grammar.specs.Limits.{Utf8, locTexts, locsTexts}
 use Rattle.grammar.specs.Stands.{StandAll}
 use Rattle.grammar.proofs.Bridge.{join, none, none-end, split}
@@ -113,7 +114,7 @@ array-text-led {s} {p} {ys = ys} a =
     rw (ne-eqb (itemsIn (tokenAt s p)) 0 (array-items (tokenAt s p) (count ys) (o .major) (o .arg)), eq-eqb _ _ text)
 
 -- as an objective is
-pub objective-led : {s : List ℕ} {p e : ℕ} {x : Item} {xs : Items} {obj : Obj} → StandAll s p e (Items.more x xs) → ObjectiveItem x obj → textLed s p ≡ true
+pub objective-led : {s : List ℕ} {p e : ℕ} {x : Item} {xs : Items} {obj : Obj Value} → StandAll s p e (Items.more x xs) → ObjectiveItem x obj → textLed s p ≡ true
 objective-led a (ObjectiveItem.bare i j) = array-text-led a
 objective-led a (ObjectiveItem.valued i j) = array-text-led a
 

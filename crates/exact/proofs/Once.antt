@@ -6,7 +6,8 @@ use mathlib.Core.Option.{Option, some}
 use Prim.Native.Nat.{ℕ}
 use native.Mathlib.Omega.{arith}
 use Rattle.cbor.specs.Tree.{Item, Items}
-use Rattle.grammar.specs.Cddl.{uint, joined, Number, Initiator, Loc, LocatorItem, LocatorItems, Obj, ObjectiveItem, OptionalItems, Aim, AimItems, Ending, EndingItem, Msg, MessageItem}
+use Rattle.syntax.specs.Message.{Loc, Obj, Aim, Ending, Msg}
+use Rattle.grammar.specs.Cddl.{uint, joined, Number, Initiator, LocatorItem, LocatorItems, ObjectiveItem, OptionalItems, AimItems, EndingItem, MessageItem, Value}
 use Rattle.grammar.proofs.One.{objective-one, locator-one, locators-one, pairs-one}
 
 -- ---- parts
@@ -21,12 +22,12 @@ ending-one EndingItem.accept EndingItem.accept = refl
 ending-one EndingItem.decline EndingItem.decline = refl
 ending-one EndingItem.reason EndingItem.reason = refl
 
-optional-one : {xs : Items} {o o′ : Option Obj} → OptionalItems xs o → OptionalItems xs o′ → o ≡ o′
+optional-one : {xs : Items} {o o′ : Option (Obj Value)} → OptionalItems xs o → OptionalItems xs o′ → o ≡ o′
 optional-one OptionalItems.without OptionalItems.without = refl
 optional-one (OptionalItems.with-one i) (OptionalItems.with-one i′) = ap some (objective-one i i′)
 
 -- no locator is an objective
-not-both : {x : Item} {l : Loc} {o : Obj} → LocatorItem x l → ObjectiveItem x o → ⊥
+not-both : {x : Item} {l : Loc} {o : Obj Value} → LocatorItem x l → ObjectiveItem x o → ⊥
 not-both (LocatorItem.v6 _ _ _) = elim [ ]
 not-both (LocatorItem.v4 _ _ _) = elim [ ]
 not-both (LocatorItem.domain _ _) = elim [ ]
@@ -45,7 +46,7 @@ filled : {x : Item} {xs : Items} → Items.done ≡ Items.more x xs → ⊥
 filled e = let z : _≡_ {A = ℕ} 0 1 = cc in omega arith
 
 -- locators, and then an objective or none: what follows the locators is no locator
-aimed-one : {xs ys xs′ ys′ : Items} {ls ls′ : List Loc} {o o′ : Option Obj} → LocatorItems xs ls → OptionalItems ys o → LocatorItems xs′ ls′ → OptionalItems ys′ o′
+aimed-one : {xs ys xs′ ys′ : Items} {ls ls′ : List Loc} {o o′ : Option (Obj Value)} → LocatorItems xs ls → OptionalItems ys o → LocatorItems xs′ ls′ → OptionalItems ys′ o′
     → joined xs ys ≡ joined xs′ ys′ → (ls ≡ ls′) × (o ≡ o′)
 aimed-one LocatorItems.empty i LocatorItems.empty i′ e = (refl, optional-one i (over OptionalItems (sym e) i′))
 aimed-one LocatorItems.empty OptionalItems.without (LocatorItems.more l ls) i′ e = absurd (filled e)
@@ -74,7 +75,7 @@ same-divert : {w k w′ k′ : ℕ} {xs ys xs′ ys′ : Items} → Items.more (
 same-divert e = (cc, cc)
 
 -- items are locators or a divert in one way
-aim-one : {xs xs′ : Items} {a a′ : Aim} {o o′ : Option Obj} → AimItems xs a o → AimItems xs′ a′ o′ → xs ≡ xs′ → (a ≡ a′) × (o ≡ o′)
+aim-one : {xs xs′ : Items} {a a′ : Aim} {o o′ : Option (Obj Value)} → AimItems xs a o → AimItems xs′ a′ o′ → xs ≡ xs′ → (a ≡ a′) × (o ≡ o′)
 aim-one (AimItems.locators is i) (AimItems.locators is′ i′) e = let (same, rest) = aimed-one is i is′ i′ e in (ap Aim.locators same, rest)
 aim-one (AimItems.locators {ys = ys} is i) (AimItems.divert is′ i′) e = absurd (not-mixed ys is e)
 aim-one (AimItems.divert is i) (AimItems.locators {ys = ys} is′ i′) e = absurd (not-mixed ys is′ (sym e))
@@ -84,7 +85,7 @@ aim-one (AimItems.divert is i) (AimItems.divert is′ i′) e =
 
 -- ---- messages
 -- an item is one message at most
-pub message-one : {x : Item} {m m′ : Msg} → MessageItem x m → MessageItem x m′ → m ≡ m′
+pub message-one : {x : Item} {m m′ : Msg Value} → MessageItem x m → MessageItem x m′ → m ≡ m′
 message-one MessageItem.noop MessageItem.noop = refl
 message-one (MessageItem.discovery i j o) (MessageItem.discovery i′ j′ o′) = rw (number-one i i′, initiator-one j j′, objective-one o o′)
 message-one (MessageItem.response i j t is) (MessageItem.response i′ j′ t′ is′) =

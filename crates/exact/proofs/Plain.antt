@@ -17,7 +17,8 @@ use Rattle.cbor.specs.Token.{tokenAt, sizeAt, itemsIn, upTo}
 use Rattle.cbor.specs.Tree.{Item, Items, count, depth}
 use Rattle.cbor.proofs.Tokens.{token-is, token-end}
 use Rattle.options.specs.Text.{contentIn}
-use Rattle.grammar.specs.Cddl.{uint, list, Number, Ending, EndingItem, Msg, MessageItem}
+use Rattle.syntax.specs.Message.{Ending, Msg}
+use Rattle.grammar.specs.Cddl.{uint, list, Number, EndingItem, MessageItem}
 use Rattle.grammar.specs.Limits.{Utf8, textsOf, namesOf, endingTexts}
 use Rattle.grammar.specs.Stands.{Stands, StandAll, ValueIs}
 use Rattle.grammar.proofs.Bridge.{token-heading, advances, join, none as no-items, last, only}

@@ -20,7 +20,8 @@ use Rattle.cbor.proofs.Tokens.{token-end}
 use Rattle.options.specs.declared.objective.ObjectiveRead.{ObjectiveRead}
 use Rattle.options.specs.Text.{firstOf}
 use Rattle.options.specs.Objective.{objectiveAt}
-use Rattle.grammar.specs.Cddl.{uint, joined, Loc, Number, Initiator, LocatorItems, Obj, OptionalItems, Aim, AimItems, Msg, MessageItem}
+use Rattle.syntax.specs.Message.{Loc, Obj, Aim, Msg}
+use Rattle.grammar.specs.Cddl.{uint, joined, Number, Initiator, LocatorItems, OptionalItems, AimItems, MessageItem, Value}
 use Rattle.grammar.specs.Limits.{Utf8, Short, locsTexts, optionalNames, aimTexts, textsOf, namesOf}
 use Rattle.grammar.specs.Stands.{Stands, StandAll, ArrayHead, ObjectiveIs}
 use Rattle.grammar.proofs.Objectives.{objective-sound}
@@ -58,7 +59,7 @@ count-joined (Items.more x xs) ys = ap suc (count-joined xs ys) ∙ omega arith
 -- nothing more, or one objective
 record RestHere (s : List ℕ) (p left bad bad′ long : ℕ) (extra : Extra) : Type 0 where
   items : Items
-  obj : Option Obj
+  obj : Option (Obj Value)
   end : ℕ
   stand : StandAll s p end items
   counted : left ≡ count items
@@ -69,7 +70,7 @@ record RestHere (s : List ℕ) (p left bad bad′ long : ℕ) (extra : Extra) : 
 
 module _ {s : List ℕ} {n at next : ℕ} (k : Kinded s 2 n at) {opening : Opening} (h : OpeningHere s at next opening) where
   -- the opening and what follows it are the message
-  responded : {e e′ bad long : ℕ} {xs : Items} {aim : Aim} {obj : Option Obj} {targets : Targets} {extra : Extra} → n ≡ 4 + count xs → StandAll s next e xs → AimItems xs aim obj
+  responded : {e e′ bad long : ℕ} {xs : Items} {aim : Aim} {obj : Option (Obj Value)} {targets : Targets} {extra : Extra} → n ≡ 4 + count xs → StandAll s next e xs → AimItems xs aim obj
       → AimIs s next e′ targets aim → (e ≡ length s → ExtraIs s e′ extra obj) → bad ≡ 0 ↔ Every Utf8 (aimTexts aim ++ optionalNames obj) → long ≡ 0 ↔ Every Short (optionalNames obj)
       → ShapeOk s (S.Good (responseOf opening targets extra) bad long)
   unfolding count textsOf namesOf
@@ -229,7 +230,7 @@ depths-joined Items.done ys d = d
 depths-joined (Items.more x xs) ys d = depths-joined xs ys (omega arith)
 
 -- the locators end where nothing more or an objective stands
-stops : {s : List ℕ} {p e : ℕ} {ys : Items} {obj : Option Obj} (bad : ℕ) → StandAll s p e ys → OptionalItems ys obj
+stops : {s : List ℕ} {p e : ℕ} {ys : Items} {obj : Option (Obj Value)} (bad : ℕ) → StandAll s p e ys → OptionalItems ys obj
     → locatorsFrom s (count ys) p bad ≡ LocatorsRead.Ran p (count ys) bad
 unfolding locatorsFrom count pick
 stops bad a OptionalItems.without = refl
@@ -246,7 +247,7 @@ unfolding count
 filled (LocatorItems.more i is) = omega arith
 
 -- what follows the ttl has items
-some-items : {xs : Items} {aim : Aim} {obj : Option Obj} → AimItems xs aim obj → 1 ≤ count xs
+some-items : {xs : Items} {aim : Aim} {obj : Option (Obj Value)} → AimItems xs aim obj → 1 ≤ count xs
 unfolding count
 some-items (AimItems.locators {xs} {ys} is o) = omega (arith, count-joined xs ys, filled is)
 some-items (AimItems.divert is o) = omega arith
@@ -258,7 +259,7 @@ first-led ys a (LocatorItems.more i is) = locator-led a i .1
 
 module _ (s : List ℕ) (opening : Opening) where
   -- what follows the locators or the divert is read
-  rest-complete : {p e left : ℕ} (bad : ℕ) {ys : Items} {obj : Option Obj} (targets : Targets) → StandAll s p e ys → OptionalItems ys obj → depths ys ≤ mostLevels → left ≡ count ys
+  rest-complete : {p e left : ℕ} (bad : ℕ) {ys : Items} {obj : Option (Obj Value)} (targets : Targets) → StandAll s p e ys → OptionalItems ys obj → depths ys ≤ mostLevels → left ≡ count ys
       → Reads (restAt s opening targets left p bad)
   unfolding restAt restOf count depth
   rest-complete bad targets a OptionalItems.without d counted = taken _ (eq-eqb _ _ counted) Reads.reads
@@ -267,7 +268,7 @@ module _ (s : List ℕ) (opening : Opening) where
       (objective-reads a (omega arith) i (restOf s opening targets left p bad) (λ o size bad′ long. taken _ (eq-eqb _ _ counted) Reads.reads))
 
   -- locators are read
-  located-complete : {p e parts : ℕ} {xs ys : Items} {l : Loc} {ls : List Loc} {obj : Option Obj} → StandAll s p e (joined xs ys) → depths (joined xs ys) ≤ mostLevels
+  located-complete : {p e parts : ℕ} {xs ys : Items} {l : Loc} {ls : List Loc} {obj : Option (Obj Value)} → StandAll s p e (joined xs ys) → depths (joined xs ys) ≤ mostLevels
       → parts ≡ count (joined xs ys) → LocatorItems xs (l ∷ ls) → OptionalItems ys obj → Reads (locatedAt s opening parts p)
   unfolding locatedAt locatedOf
   located-complete {p} {parts = parts} {xs} {ys} a d counted is o =
@@ -279,7 +280,7 @@ module _ (s : List ℕ) (opening : Opening) where
       (skipped _ (lt-leb parts (count ys) (omega (arith, filled is))) (rest-complete bad _ rest o (depths-joined xs ys d) refl))
 
   -- a divert is read
-  divert-complete : {p e w v left : ℕ} {xs ys : Items} {l : Loc} {ls : List Loc} {obj : Option Obj} → StandAll s p e (Items.more (Item.array w (Items.more (uint v 100) xs)) ys)
+  divert-complete : {p e w v left : ℕ} {xs ys : Items} {l : Loc} {ls : List Loc} {obj : Option (Obj Value)} → StandAll s p e (Items.more (Item.array w (Items.more (uint v 100) xs)) ys)
       → depths ys ≤ mostLevels → left ≡ count ys → LocatorItems xs (l ∷ ls) → OptionalItems ys obj
       → Reads (divertAt s opening left (tokenAt s p .arg) p (tokenAt s (tokenAt s p .next) .next))
   unfolding divertAt divertOf locatorsFrom count
@@ -294,7 +295,7 @@ module _ (s : List ℕ) (opening : Opening) where
       (subst (λ (r : LocatorsRead). Reads (divertOf s opening left (tokenAt s p .arg - 1) from r)) (sym all) (taken _ refl (rest-complete bad _ (t .rest) o d counted)))
 
   -- what follows the ttl is read
-  targets-complete : {p e parts : ℕ} {xs : Items} {aim : Aim} {obj : Option Obj} → StandAll s p e xs → depths xs ≤ mostLevels → parts ≡ count xs → AimItems xs aim obj
+  targets-complete : {p e parts : ℕ} {xs : Items} {aim : Aim} {obj : Option (Obj Value)} → StandAll s p e xs → depths xs ≤ mostLevels → parts ≡ count xs → AimItems xs aim obj
       → Reads (targetsAt s opening parts p)
   unfolding targetsAt depth count
   targets-complete {p} a d counted (AimItems.locators {ys = ys} is o) =
@@ -309,7 +310,7 @@ module _ (s : List ℕ) (opening : Opening) where
       (divert-complete a (omega arith) (omega arith) is o))
 
 -- a Response is read
-pub response-complete : {s : List ℕ} {n at e session ttl : ℕ} {x y z : Item} {xs : Items} {from : List ℕ} {aim : Aim} {obj : Option Obj}
+pub response-complete : {s : List ℕ} {n at e session ttl : ℕ} {x y z : Item} {xs : Items} {from : List ℕ} {aim : Aim} {obj : Option (Obj Value)}
     → StandAll s at e (Items.more x (Items.more y (Items.more z xs))) → Number x session → Initiator y from → Number z ttl → AimItems xs aim obj
     → depths xs ≤ mostLevels → n ≡ 4 + count xs → Reads (responseAt s n at)
 unfolding responseAt responseBy

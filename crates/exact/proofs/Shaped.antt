@@ -22,7 +22,8 @@ use Rattle.cbor.specs.Token.{tokenAt, itemsIn}
 use Rattle.cbor.specs.Tree.{Item, Items, Good, Right, headBytes, count, encode, encodes, depth}
 use Rattle.cbor.proofs.HeadExact.{head-read}
 use Rattle.cbor.proofs.Tokens.{token-end}
-use Rattle.grammar.specs.Cddl.{uint, Msg, MessageItem}
+use Rattle.syntax.specs.Message.{Msg}
+use Rattle.grammar.specs.Cddl.{uint, MessageItem, Value}
 use Rattle.grammar.specs.Stands.{Stands, StandAll}
 use Rattle.grammar.proofs.Bridge.{Heading, token-heading, split, last, stands-once}
 use Rattle.grammar.proofs.Pieces.{is-array, array-items, array-at, array-head}
@@ -220,7 +221,7 @@ reads-of : {s : List ℕ} (r : Shape) → shaped s ≡ judged r → Reads r → 
 reads-of _ e (Reads.reads {m} {bad} {long}) = record { message = m; bad = bad; long = long; is = e }
 
 -- each message is read
-pub shape-complete : {s : List ℕ} {x : Item} {msg : Msg} → Stands s 0 (length s) x → depth x ≤ mostLevels → MessageItem x msg → MessageReads s
+pub shape-complete : {s : List ℕ} {x : Item} {msg : Msg Value} → Stands s 0 (length s) x → depth x ≤ mostLevels → MessageItem x msg → MessageReads s
 unfolding byKind pick count depth
 shape-complete a d MessageItem.noop = reads-of _ (led a .is) noop-complete
 shape-complete a d (MessageItem.discovery i j o) = let l = led a in reads-of _ (l .is) (discovery-complete (l .stand) i j o (omega arith))

@@ -16,7 +16,8 @@ use Rattle.cbor.specs.Item.{mostLevels, firstItem}
 use Rattle.cbor.specs.Tree.{Item, Items, Good, count, depth, encode}
 use Rattle.cbor.proofs.Exact.{item-exact}
 use Rattle.cbor.proofs.Unique.{unique}
-use Rattle.grammar.specs.Cddl.{uint, Msg, MessageItem}
+use Rattle.syntax.specs.Message.{Msg}
+use Rattle.grammar.specs.Cddl.{uint, MessageItem, Value}
 use Rattle.grammar.specs.Limits.{TextsGood, NamesGood}
 use Rattle.grammar.specs.Stands.{Stands, StandAll, ArrayHead}
 use Rattle.grammar.proofs.Bridge.{join}
@@ -28,7 +29,7 @@ use Rattle.exact.specs.Describes.{KindIs, Describes}
 -- s is the encoding of a message that m describes, bad is 0 exactly if its texts are UTF-8, and long exactly if its names are short
 pub record ShapeIs (s : List ℕ) (m : Message) (bad long : ℕ) : Type 0 where
   pub item : Item
-  pub msg : Msg
+  pub msg : Msg Value
   pub bytes : encode item ≡ s
   pub good : Good item
   pub shallow : depth item ≤ mostLevels
@@ -87,7 +88,7 @@ pub kind-is : {s : List ℕ} {kind n at : ℕ} → Kinded s kind n at → KindIs
 kind-is {n = n} k = record { many = n; from = k .from; width = k .width; opened = k .opened; stands = k .lead }
 
 -- items that stand after the kind are the rest of the message
-pub built : {s : List ℕ} {kind n at : ℕ} {m : Message} {bad long : ℕ} → Kinded s kind n at → (e : ℕ) (xs : Items) (msg : Msg)
+pub built : {s : List ℕ} {kind n at : ℕ} {m : Message} {bad long : ℕ} → Kinded s kind n at → (e : ℕ) (xs : Items) (msg : Msg Value)
     → n ≡ suc (count xs) → StandAll s at e xs → ((w v : ℕ) → MessageItem (Item.array w (Items.more (uint v kind) xs)) msg)
     → (e ≡ length s → Describes s m msg) → bad ≡ 0 ↔ TextsGood msg → long ≡ 0 ↔ NamesGood msg → ShapeOk s (S.Good m bad long)
 unfolding count

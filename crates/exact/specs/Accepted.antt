@@ -5,14 +5,15 @@ use mathlib.Core.Path.{_≡_}
 use lib.ListN.{length}
 use Rattle.cbor.specs.Item.{mostLevels}
 use Rattle.cbor.specs.Tree.{Item, Good, depth, encode}
-use Rattle.grammar.specs.Cddl.{Msg, MessageItem}
+use Rattle.syntax.specs.Message.{Msg}
+use Rattle.grammar.specs.Cddl.{MessageItem, Value}
 use Rattle.grammar.specs.Limits.{TextsGood, NamesGood}
 use Rattle.message.specs.Read.{mostBytes}
 
 -- s is the encoding of a message, within the limits on bytes, levels and heads
 pub record IsMessage (s : List ℕ) : Type 0 where
   pub item : Item
-  pub msg : Msg
+  pub msg : Msg Value
   pub bytes : encode item ≡ s
   pub most : length s ≤ mostBytes
   pub good : Good item

@@ -4,11 +4,12 @@ use mathlib.Core.List.{List, _∷_}
 use mathlib.Core.Path.{_≡_}
 use mathlib.Core.Option.{Option, none, some}
 use lib.ListN.{length}
-use Rattle.cbor.specs.Tree.{Item, Items, count}
+use Rattle.cbor.specs.Tree.{Items, count}
 use Rattle.options.specs.declared.Span.{Span}
 use Rattle.options.specs.declared.objective.Objective.{Objective}
 use Rattle.options.specs.Text.{spanOf}
-use Rattle.grammar.specs.Cddl.{uint, bytes, Loc, LocatorItems, Obj, PairItems, Aim, Ending, Msg}
+use Rattle.syntax.specs.Message.{Loc, Obj, Pair, Aim, Ending, Msg}
+use Rattle.grammar.specs.Cddl.{uint, bytes, LocatorItems, PairItems, Value}
 use Rattle.grammar.specs.Stands.{Stands, StandAll, ArrayHead, ValueIs, ObjectiveIs}
 use Rattle.message.specs.declared.Series.{Series}
 use Rattle.message.specs.declared.Targets.{Targets}
@@ -54,9 +55,9 @@ pub data AimIs (s : List ℕ) (p e : ℕ) : Targets → Aim → Type 0 where
       → SeriesIs s series e (λ xs. LocatorItems xs ls) → AimIs s p e (Targets.Divert series) (Aim.divert ls)
 
 -- the message ends at p, or an objective stands from there on
-pub data ExtraIs (s : List ℕ) (p : ℕ) : Extra → Option Obj → Type 0 where
+pub data ExtraIs (s : List ℕ) (p : ℕ) : Extra → Option (Obj Value) → Type 0 where
   without : p ≡ length s → ExtraIs s p Extra.Without none
-  with-one : {o : Objective} {obj : Obj} → ObjectiveIs s p (length s) o obj → ExtraIs s p (Extra.With o) (some obj)
+  with-one : {o : Objective} {obj : Obj Value} → ObjectiveIs s p (length s) o obj → ExtraIs s p (Extra.With o) (some obj)
 
 pub data OutcomeIs (s : List ℕ) : Outcome → Ending → Type 0 where
   accept : OutcomeIs s Outcome.Accept Ending.accept
@@ -64,27 +65,27 @@ pub data OutcomeIs (s : List ℕ) : Outcome → Ending → Type 0 where
   reason : {span : Span} {content : List ℕ} → Before (length s) content span → OutcomeIs s (Outcome.Reason span) (Ending.reason content)
 
 -- the numbers are the message's, and each part stands right after the one before it, from the message's start on
-pub data Describes (s : List ℕ) : Message → Msg → Type 0 where
+pub data Describes (s : List ℕ) : Message → Msg Value → Type 0 where
   noop : Describes s M.Noop Msg.noop
-  discovery : {session p q r : ℕ} {i : Span} {from : List ℕ} {o : Objective} {obj : Obj}
+  discovery : {session p q r : ℕ} {i : Span} {from : List ℕ} {o : Objective} {obj : Obj Value}
       → KindIs s 1 p → NumberIs s p q session → InitiatorIs s q r i from → ObjectiveIs s r (length s) o obj
       → Describes s (M.Discovery session i o) (Msg.discovery session from obj)
-  response : {session ttl p q r a e : ℕ} {i : Span} {from : List ℕ} {targets : Targets} {aim : Aim} {extra : Extra} {obj : Option Obj}
+  response : {session ttl p q r a e : ℕ} {i : Span} {from : List ℕ} {targets : Targets} {aim : Aim} {extra : Extra} {obj : Option (Obj Value)}
       → KindIs s 2 p → NumberIs s p q session → InitiatorIs s q r i from → NumberIs s r a ttl → AimIs s a e targets aim → ExtraIs s e extra obj
       → Describes s (M.Response session i ttl targets extra) (Msg.response session from ttl aim obj)
-  request-negotiation : {session p q : ℕ} {o : Objective} {obj : Obj} → KindIs s 3 p → NumberIs s p q session → ObjectiveIs s q (length s) o obj
+  request-negotiation : {session p q : ℕ} {o : Objective} {obj : Obj Value} → KindIs s 3 p → NumberIs s p q session → ObjectiveIs s q (length s) o obj
       → Describes s (M.RequestNegotiation session o) (Msg.request-negotiation session obj)
-  request-synchronization : {session p q : ℕ} {o : Objective} {obj : Obj} → KindIs s 4 p → NumberIs s p q session → ObjectiveIs s q (length s) o obj
+  request-synchronization : {session p q : ℕ} {o : Objective} {obj : Obj Value} → KindIs s 4 p → NumberIs s p q session → ObjectiveIs s q (length s) o obj
       → Describes s (M.RequestSynchronization session o) (Msg.request-synchronization session obj)
-  negotiate : {session p q : ℕ} {o : Objective} {obj : Obj} → KindIs s 5 p → NumberIs s p q session → ObjectiveIs s q (length s) o obj
+  negotiate : {session p q : ℕ} {o : Objective} {obj : Obj Value} → KindIs s 5 p → NumberIs s p q session → ObjectiveIs s q (length s) o obj
       → Describes s (M.Negotiate session o) (Msg.negotiate session obj)
   end : {session : ℕ} {r : Outcome} {e : Ending} → OutcomeIs s r e → Describes s (M.End session r) (Msg.end session e)
   wait : {session time : ℕ} → Describes s (M.Wait session time) (Msg.wait session time)
-  synch : {session p q : ℕ} {o : Objective} {obj : Obj} → KindIs s 8 p → NumberIs s p q session → ObjectiveIs s q (length s) o obj
+  synch : {session p q : ℕ} {o : Objective} {obj : Obj Value} → KindIs s 8 p → NumberIs s p q session → ObjectiveIs s q (length s) o obj
       → Describes s (M.Synch session o) (Msg.synch session obj)
-  flood : {session ttl p q r a e : ℕ} {i : Span} {from : List ℕ} {o : Objective} {obj : Obj} {tag : Option Loc} {series : Series} {ps : List (Obj × Option Loc)}
+  flood : {session ttl p q r a e : ℕ} {i : Span} {from : List ℕ} {o : Objective} {obj : Obj Value} {tag : Option Loc} {series : Series} {ps : List (Pair Value)}
       → KindIs s 9 p → NumberIs s p q session → InitiatorIs s q r i from → NumberIs s r (series .at) ttl
       → SeriesIs s series (length s) (λ xs. PairItems xs ((obj, tag) ∷ ps)) → ArrayHead s (series .at) a 2 → ObjectiveIs s a e o obj
       → Describes s (M.Flood session i ttl o series) (Msg.flood session from ttl ((obj, tag) ∷ ps))
-  invalid : {session p : ℕ} {span : Span} {item : Option Item} → KindIs s 99 p → NumberIs s p (span .at) session → ValueIs s span item
+  invalid : {session p : ℕ} {span : Span} {item : Value} → KindIs s 99 p → NumberIs s p (span .at) session → ValueIs s span item
       → span .at + span .len ≡ length s → Describes s (M.Invalid session span) (Msg.invalid session item)

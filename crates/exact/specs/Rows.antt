@@ -7,7 +7,8 @@ use lib.ListN.{length}
 use Rattle.cbor.specs.Item.{mostLevels}
 use Rattle.cbor.specs.Tree.{Item, Items, Good, depth, encode, ItemIs}
 use Rattle.cbor.specs.Fault.{FirstFault}
-use Rattle.grammar.specs.Cddl.{uint, Msg, MessageItem}
+use Rattle.syntax.specs.Message.{Msg}
+use Rattle.grammar.specs.Cddl.{uint, MessageItem, Value}
 use Rattle.grammar.specs.Limits.{TextsGood, NamesGood}
 use Rattle.message.specs.Read.{mostBytes}
 use Rattle.exact.specs.Accepted.{IsMessage}
@@ -39,7 +40,7 @@ pub data Row (s : List ℕ) : ℕ → Type 0 where
   -- one item of no known kind
   kind : (one : OneItem s) → UnknownKind (one .item) → Row s 8
   -- one item that is no message for another reason
-  shape : (one : OneItem s) → (UnknownKind (one .item) → ⊥) → ((msg : Msg) → MessageItem (one .item) msg → ⊥) → Row s 9
+  shape : (one : OneItem s) → (UnknownKind (one .item) → ⊥) → ((msg : Msg Value) → MessageItem (one .item) msg → ⊥) → Row s 9
   -- a message with a text that isn't UTF-8
   text : (m : IsMessage s) → (TextsGood (m .msg) → ⊥) → Row s 11
   -- a message with good texts, and with a long name

@@ -20,9 +20,10 @@ use Rattle.cbor.specs.Token.{tokenAt}
 use Rattle.cbor.proofs.Tokens.{token-is}
 use Rattle.options.specs.Text.{contentIn, badText}
 use Rattle.options.specs.Locator.{isNull, addressFits, protocolOf, portOf, locatorOf, textOf}
-use Rattle.grammar.specs.Cddl.{uint, null, array, Protocol, Port, OrNull, Loc, LocatorItem}
+use Rattle.syntax.specs.Message.{Loc, orNull}
+use Rattle.grammar.specs.Cddl.{uint, null, array, Protocol, Port, OrNull, LocatorItem}
 use Rattle.grammar.specs.Limits.{Utf8, locTexts}
-use Rattle.grammar.specs.Stands.{Stands, orNull, locOf}
+use Rattle.grammar.specs.Stands.{Stands, locOf}
 use Rattle.grammar.proofs.Bridge.{token-heading, number-token, null-token}
 use Rattle.grammar.proofs.Pieces.{both-hold, Is, number-at, null-at}
 use Rattle.grammar.proofs.Texts.{bad-text}

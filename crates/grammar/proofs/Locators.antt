@@ -24,7 +24,8 @@ use Rattle.options.specs.declared.locator.Locator.{Locator}
 use Rattle.options.specs.declared.locator.LocatorRead.{LocatorRead}
 use Rattle.options.specs.Text.{contentIn}
 use Rattle.options.specs.Locator.{addressFits, protocolOf, portOf, locatorOf, textOf, locatorIn, locatorAt}
-use Rattle.grammar.specs.Cddl.{Loc, LocatorItem}
+use Rattle.syntax.specs.Message.{Loc}
+use Rattle.grammar.specs.Cddl.{LocatorItem}
 use Rattle.grammar.specs.Limits.{Utf8, locTexts}
 use Rattle.grammar.specs.Stands.{Stands, locOf}
 use Rattle.grammar.proofs.Bridge.{split, join, last, only, stands-once, lift-first, sink-first, advances, string-major, token-heading, number-token, text-token, array-token}

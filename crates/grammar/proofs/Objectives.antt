@@ -5,7 +5,7 @@ use mathlib.Core.Path.{_≡_, refl, sym, ap₂, _∙_, subst}
 use mathlib.Core.Logic.{_↔_, inr}
 use mathlib.Core.List.{List}
 use mathlib.Core.Bool.{true}
-use mathlib.Core.Option.{Option, none, some}
+use mathlib.Core.Option.{none, some}
 use Prim.Native.Nat.{ℕ, suc, _+_, _-_, _≤_, zero-le}
 use native.Mathlib.Nat.{add-assoc}
 use native.Mathlib.Omega.{arith}
@@ -25,7 +25,8 @@ use Rattle.options.specs.declared.objective.Objective.{Objective}
 use Rattle.options.specs.declared.objective.ObjectiveRead.{ObjectiveRead}
 use Rattle.options.specs.Text.{spanOf, contentIn, badText}
 use Rattle.options.specs.Objective.{longName, objectiveIn, objectiveAt}
-use Rattle.grammar.specs.Cddl.{uint, text, Obj, ObjectiveItem}
+use Rattle.syntax.specs.Message.{Obj}
+use Rattle.grammar.specs.Cddl.{uint, text, ObjectiveItem, Value}
 use Rattle.grammar.specs.Limits.{Utf8, Short}
 use Rattle.grammar.specs.Stands.{Stands, StandAll, ArrayHead, ValueIs, itemsWith, ObjectiveIs}
 use Rattle.grammar.proofs.Bridge.{split, join, none as no-more, none-end, only, last, stands-once, lift, lift-first, sink-first, advances, token-heading, number-token, text-token, array-token}
@@ -38,7 +39,7 @@ use Rattle.grammar.proofs.One.{objective-one}
 -- objective that it is
 pub record ObjectiveStands (m : List ℕ) (p e : ℕ) (o : Objective) (bad long : ℕ) : Type 0 where
   pub item : Item
-  pub obj : Obj
+  pub obj : Obj Value
   pub stands : Stands m p e item
   pub is : ObjectiveItem item obj
   pub described : ObjectiveIs m p e o obj
@@ -113,7 +114,7 @@ sound m base low by =
     bytes = bytes-drop base m by
 
     -- with a value, or with none: the item of so many items xs after the count
-    got : a .major ≡ 4 → n .major ≡ 3 → upTo 15 f ≤ 15 → upTo 255 c ≤ 255 → (len size : ℕ) (v : Option Item) (xs : Items) → size ≡ c .next + len
+    got : a .major ≡ 4 → n .major ≡ 3 → upTo 15 f ≤ 15 → upTo 255 c ≤ 255 → (len size : ℕ) (v : Value) (xs : Items) → size ≡ c .next + len
         → a .arg ≡ suc (suc (suc (count xs))) → suc (suc (suc (count xs))) ≡ itemsWith v → StandAll s (c .next) size xs → ValueIs m (spanOf (base + c .next) len) v
         → ((w u i j : ℕ)
         → ObjectiveItem (Item.array w (Items.more (text u (contentIn s n)) (Items.more (uint i (upTo 15 f)) (Items.more (uint j (upTo 255 c)) xs))))
@@ -216,7 +217,7 @@ unfolding ending pick
 ends-valued base s n f c has-value e = rw (ne-eqb _ _ has-value, e)
 
 -- an item that is an objective is read
-pub objective-complete : {m : List ℕ} {base e : ℕ} {x : Item} {obj : Obj} → Stands m base e x → depth x ≤ mostLevels → ObjectiveItem x obj
+pub objective-complete : {m : List ℕ} {base e : ℕ} {x : Item} {obj : Obj Value} → Stands m base e x → depth x ≤ mostLevels → ObjectiveItem x obj
     → (o : Objective) × (bad : ℕ) × (long : ℕ) × (objectiveAt m base ≡ ObjectiveRead.Got o (e - base) bad long)
 unfolding count depth
 objective-complete {m} {base} {e} st d (ObjectiveItem.bare few byte) =
@@ -230,7 +231,7 @@ objective-complete {m} {base} {e} st d (ObjectiveItem.valued few byte) =
 
 -- for readers
 -- and as the objective that it is
-pub objective-read : {m : List ℕ} {base e : ℕ} {x : Item} {obj : Obj} → Stands m base e x → depth x ≤ mostLevels → ObjectiveItem x obj → Bytes m
+pub objective-read : {m : List ℕ} {base e : ℕ} {x : Item} {obj : Obj Value} → Stands m base e x → depth x ≤ mostLevels → ObjectiveItem x obj → Bytes m
     → (o : Objective) × (bad : ℕ) × (long : ℕ) × (objectiveAt m base ≡ ObjectiveRead.Got o (e - base) bad long) × ObjectiveIs m base e o obj × (bad ≡ 0 ↔ Utf8 (obj .name)) × (long ≡ 0 ↔ Short (obj .name))
 objective-read {m} {base} {e} {x} {obj} st d is by =
     let (o, bad, long, read) = objective-complete st d is in

@@ -5,7 +5,8 @@ use mathlib.Core.List.{List, _∷_}
 use mathlib.Core.Option.{Option, none, some}
 use Prim.Native.Nat.{ℕ}
 use Rattle.cbor.specs.Tree.{Item, Items}
-use Rattle.grammar.specs.Cddl.{Protocol, Port, OrNull, Loc, LocatorItem, Obj, ObjectiveItem, LocatorItems, PairItem, PairItems}
+use Rattle.syntax.specs.Message.{Loc, Obj, Pair}
+use Rattle.grammar.specs.Cddl.{Protocol, Port, OrNull, LocatorItem, ObjectiveItem, LocatorItems, PairItem, PairItems, Value}
 
 protocol-one : {x : Item} {n n′ : ℕ} → Protocol x n → Protocol x n′ → n ≡ n′
 protocol-one Protocol.tcp Protocol.tcp = refl
@@ -31,14 +32,14 @@ locator-one (LocatorItem.domain i j) (LocatorItem.domain i′ j′) = rw (protoc
 locator-one (LocatorItem.uri i j) (LocatorItem.uri i′ j′) = rw (uri-protocol-one i i′, uri-port-one j j′)
 
 -- one objective
-pub objective-one : {x : Item} {o o′ : Obj} → ObjectiveItem x o → ObjectiveItem x o′ → o ≡ o′
+pub objective-one : {x : Item} {o o′ : Obj Value} → ObjectiveItem x o → ObjectiveItem x o′ → o ≡ o′
 objective-one (ObjectiveItem.bare _ _) (ObjectiveItem.bare _ _) = refl
 objective-one (ObjectiveItem.valued _ _) (ObjectiveItem.valued _ _) = refl
 
 -- one pair
-pub pair-one : {x : Item} {p p′ : Obj × Option Loc} → PairItem x p → PairItem x p′ → p ≡ p′
-pair-one (PairItem.untagged i) (PairItem.untagged i′) = ap (λ (o : Obj). (o, none)) (objective-one i i′)
-pair-one (PairItem.tagged i j) (PairItem.tagged i′ j′) = ap₂ (λ (o : Obj) (l : Loc). (o, some l)) (objective-one i i′) (locator-one j j′)
+pub pair-one : {x : Item} {p p′ : Pair Value} → PairItem x p → PairItem x p′ → p ≡ p′
+pair-one (PairItem.untagged i) (PairItem.untagged i′) = ap (λ (o : Obj Value). (o, none)) (objective-one i i′)
+pair-one (PairItem.tagged i j) (PairItem.tagged i′ j′) = ap₂ (λ (o : Obj Value) (l : Loc). (o, some l)) (objective-one i i′) (locator-one j j′)
 
 -- items are one list of locators at most
 pub locators-one : {xs : Items} {ls ls′ : List Loc} → LocatorItems xs ls → LocatorItems xs ls′ → ls ≡ ls′
@@ -46,6 +47,6 @@ locators-one LocatorItems.empty LocatorItems.empty = refl
 locators-one (LocatorItems.more i is) (LocatorItems.more i′ is′) = ap₂ (λ (l : Loc) (ls : List Loc). l ∷ ls) (locator-one i i′) (locators-one is is′)
 
 -- one list of pairs
-pub pairs-one : {xs : Items} {ps ps′ : List (Obj × Option Loc)} → PairItems xs ps → PairItems xs ps′ → ps ≡ ps′
+pub pairs-one : {xs : Items} {ps ps′ : List (Pair Value)} → PairItems xs ps → PairItems xs ps′ → ps ≡ ps′
 pairs-one PairItems.empty PairItems.empty = refl
-pairs-one (PairItems.more i is) (PairItems.more i′ is′) = ap₂ (λ (p : Obj × Option Loc) (ps : List (Obj × Option Loc)). p ∷ ps) (pair-one i i′) (pairs-one is is′)
+pairs-one (PairItems.more i is) (PairItems.more i′ is′) = ap₂ (λ (p : Pair Value) (ps : List (Pair Value)). p ∷ ps) (pair-one i i′) (pairs-one is is′)

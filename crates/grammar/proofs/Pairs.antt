@@ -31,7 +31,8 @@ use Rattle.options.specs.Text.{firstOf}
 use Rattle.options.specs.Locator.{locatorIn, locatorAt}
 use Rattle.options.specs.Objective.{objectiveIn, objectiveAt}
 use Rattle.options.specs.Pair.{isEmpty, pairTagged, pairTail, pairLed, pairIn, pairAt}
-use Rattle.grammar.specs.Cddl.{array, Loc, LocatorItem, Obj, ObjectiveItem, PairItem}
+use Rattle.syntax.specs.Message.{Loc, Obj, Pair}
+use Rattle.grammar.specs.Cddl.{array, LocatorItem, ObjectiveItem, PairItem, Value}
 use Rattle.grammar.specs.Limits.{Utf8, Short, tagTexts, pairTexts}
 use Rattle.grammar.specs.Stands.{Stands, ArrayHead, tagOf, ObjectiveIs}
 use Rattle.grammar.proofs.Bridge.{split, join, none as no-more, none-end, only, last, stands-once, lift, lift-first, sink-sized, sink-first, advances, Heading, token-heading, array-token}
@@ -46,7 +47,7 @@ use Rattle.grammar.proofs.Objectives.{ObjectiveStands, objective-sound,
 -- that it is
 pub record PairStands (m : List ℕ) (p e : ℕ) (o : Objective) (t : Tag) (bad long : ℕ) : Type 0 where
   pub item : Item
-  pub pair : Obj × Option Loc
+  pub pair : Pair Value
   pub stands : Stands m p e item
   pub is : PairItem item pair
   -- where the objective begins, after the array's head, and where it ends
@@ -185,7 +186,7 @@ record Begun (m : List ℕ) (base e : ℕ) (y : Item) : Type 0 where
   read : (r : PairRead) → pairTail base (drop base m) mid objective bad long ≡ r → pairAt m base ≡ r
   second : Stands (drop base m) mid (e - base) y
 
-begun : {m : List ℕ} {base e w : ℕ} {x y : Item} {obj : Obj} → Stands m base e (array w (x ∷ y ∷ [])) → depth x ≤ mostLevels → ObjectiveItem x obj → Begun m base e y
+begun : {m : List ℕ} {base e w : ℕ} {x y : Item} {obj : Obj Value} → Stands m base e (array w (x ∷ y ∷ [])) → depth x ≤ mostLevels → ObjectiveItem x obj → Begun m base e y
 unfolding count
 begun {m} {base} {e} st d is =
     let s : List ℕ = drop base m in
@@ -225,7 +226,7 @@ tagged-read {m} {base} {e} low b is =
     (b .objective, Tag.At l, firstOf (b .bad) bad′, b .long, b .read _ tail)
 
 -- an item that is a pair is read
-pub pair-complete : {m : List ℕ} {base e : ℕ} {x : Item} {pair : Obj × Option Loc} → Stands m base e x → depth x ≤ mostLevels → PairItem x pair
+pub pair-complete : {m : List ℕ} {base e : ℕ} {x : Item} {pair : Pair Value} → Stands m base e x → depth x ≤ mostLevels → PairItem x pair
     → (o : Objective) × (t : Tag) × (bad : ℕ) × (long : ℕ) × (pairAt m base ≡ PairRead.Got o t (e - base) bad long)
 unfolding depth
 pair-complete st d (PairItem.untagged is) = untagged-read (begun st (omega arith) is)
@@ -233,7 +234,7 @@ pair-complete st d (PairItem.tagged is loc) = tagged-read (omega (arith, st .wit
 
 -- for readers
 -- and as the pair that it is
-pub pair-read : {m : List ℕ} {base e : ℕ} {x : Item} {pair : Obj × Option Loc} → Stands m base e x → depth x ≤ mostLevels → PairItem x pair → Bytes m
+pub pair-read : {m : List ℕ} {base e : ℕ} {x : Item} {pair : Pair Value} → Stands m base e x → depth x ≤ mostLevels → PairItem x pair → Bytes m
     → (o : Objective) × (t : Tag) × (bad : ℕ) × (long : ℕ) × (pairAt m base ≡ PairRead.Got o t (e - base) bad long)
     × (at : ℕ) × (mid : ℕ) × ArrayHead m base at 2 × ObjectiveIs m at mid o (pair .0) × (tagOf m t ≡ pair .1)
     × (bad ≡ 0 ↔ Every Utf8 (pairTexts pair)) × (long ≡ 0 ↔ Short (pair .0 .name))

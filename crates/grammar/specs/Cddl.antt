@@ -1,5 +1,5 @@
--- Messages as the CDDL of RFC 8990 (section 4) has them, with the limits of the rules on numbers: what each is, and which CBOR items are it. Heads
--- have any width here; which widths are good is `Good`'s to say.
+-- Which CBOR items are which message, as the CDDL of RFC 8990 (section 4) has it, with the limits of the rules on numbers. Heads have any width here; which
+-- widths are good is `Good`'s to say.
 use Prim.Native.Nat.{ℕ, _≤_}
 use mathlib.Core.List.{List, [], _∷_}
 use mathlib.Core.Bool.{true, false}
@@ -8,6 +8,7 @@ use mathlib.Core.Logic.{_⊎_}
 use mathlib.Core.Option.{Option, none, some}
 use lib.ListN.{length}
 use Rattle.cbor.specs.Tree.{Item, Items}
+use Rattle.syntax.specs.Message.{Loc, Obj, Pair, Aim, Ending, Msg}
 
 -- ---- items
 abbrev pub uint : ℕ → ℕ → Item
@@ -44,12 +45,6 @@ pub data OrNull (P : Item → ℕ → Type 0) : Item → Option ℕ → Type 0 w
   is-null : OrNull P null none
   is : {x : Item} {n : ℕ} → P x n → OrNull P x (some n)
 
-pub data Loc : Type 0 where
-  v6 : (address : List ℕ) (protocol port : ℕ) → Loc
-  v4 : (address : List ℕ) (protocol port : ℕ) → Loc
-  domain : (name : List ℕ) (protocol port : ℕ) → Loc
-  uri : (uri : List ℕ) (protocol port : Option ℕ) → Loc
-
 -- [O_IPv6_LOCATOR, ..], [O_IPv4_LOCATOR, ..], [O_FQDN_LOCATOR, ..], [O_URI_LOCATOR, ..]
 pub data LocatorItem : Item → Loc → Type 0 where
   v6 : {w k b : ℕ} {x y : Item} {a : List ℕ} {p q : ℕ} → length a ≡ 16 → Protocol x p → Port y q
@@ -61,15 +56,13 @@ pub data LocatorItem : Item → Loc → Type 0 where
   uri : {w k b : ℕ} {x y : Item} {a : List ℕ} {p q : Option ℕ} → OrNull Protocol x p → OrNull Port y q
       → LocatorItem (array w (uint k 106 ∷ text b a ∷ x ∷ y ∷ [])) (Loc.uri a p q)
 
--- ---- objective, with its value's item
-pub record Obj : Type 0 where
-  pub name : List ℕ
-  pub flags : ℕ
-  pub count : ℕ
-  pub value : Option Item
+-- ---- objective
+-- a value, and Invalid's item: an item, or none
+abbrev pub Value : Type 0
+Value = Option Item
 
 -- [objective-name, objective-flags, loop-count, ?objective-value]
-pub data ObjectiveItem : Item → Obj → Type 0 where
+pub data ObjectiveItem : Item → Obj Value → Type 0 where
   bare : {w a b c : ℕ} {name : List ℕ} {flags count : ℕ} → flags ≤ 15 → count ≤ 255
       → ObjectiveItem (array w (text a name ∷ uint b flags ∷ uint c count ∷ [])) (record { name = name; flags = flags; count = count; value = none })
   valued : {w a b c : ℕ} {name : List ℕ} {flags count : ℕ} {x : Item} → flags ≤ 15 → count ≤ 255
@@ -81,39 +74,15 @@ pub data LocatorItems : Items → List Loc → Type 0 where
   more : {x : Item} {l : Loc} {xs : Items} {ls : List Loc} → LocatorItem x l → LocatorItems xs ls → LocatorItems (Items.more x xs) (l ∷ ls)
 
 -- [objective, (locator-option / [])]
-pub data PairItem : Item → Obj × Option Loc → Type 0 where
-  untagged : {w v : ℕ} {x : Item} {obj : Obj} → ObjectiveItem x obj → PairItem (array w (x ∷ array v [] ∷ [])) (obj, none)
-  tagged : {w : ℕ} {x y : Item} {obj : Obj} {loc : Loc} → ObjectiveItem x obj → LocatorItem y loc → PairItem (array w (x ∷ y ∷ [])) (obj, some loc)
+pub data PairItem : Item → Pair Value → Type 0 where
+  untagged : {w v : ℕ} {x : Item} {obj : Obj Value} → ObjectiveItem x obj → PairItem (array w (x ∷ array v [] ∷ [])) (obj, none)
+  tagged : {w : ℕ} {x y : Item} {obj : Obj Value} {loc : Loc} → ObjectiveItem x obj → LocatorItem y loc → PairItem (array w (x ∷ y ∷ [])) (obj, some loc)
 
-pub data PairItems : Items → List (Obj × Option Loc) → Type 0 where
+pub data PairItems : Items → List (Pair Value) → Type 0 where
   empty : PairItems Items.done []
-  more : {x : Item} {p : Obj × Option Loc} {xs : Items} {ps : List (Obj × Option Loc)} → PairItem x p → PairItems xs ps → PairItems (Items.more x xs) (p ∷ ps)
+  more : {x : Item} {p : Pair Value} {xs : Items} {ps : List (Pair Value)} → PairItem x p → PairItems xs ps → PairItems (Items.more x xs) (p ∷ ps)
 
 -- ---- the messages
--- a Response's locators, or its divert's
-pub data Aim : Type 0 where
-  locators : List Loc → Aim
-  divert : List Loc → Aim
-
--- accept-option, decline-option
-pub data Ending : Type 0 where
-  accept : Ending
-  decline : Ending
-  reason : List ℕ → Ending
-
-pub data Msg : Type 0 where
-  noop : Msg
-  discovery : (session : ℕ) (initiator : List ℕ) → Obj → Msg
-  response : (session : ℕ) (initiator : List ℕ) (ttl : ℕ) → Aim → Option Obj → Msg
-  request-negotiation : (session : ℕ) → Obj → Msg
-  request-synchronization : (session : ℕ) → Obj → Msg
-  negotiate : (session : ℕ) → Obj → Msg
-  end : (session : ℕ) → Ending → Msg
-  wait : (session time : ℕ) → Msg
-  synch : (session : ℕ) → Obj → Msg
-  flood : (session : ℕ) (initiator : List ℕ) (ttl : ℕ) → List (Obj × Option Loc) → Msg
-  invalid : (session : ℕ) → Option Item → Msg
-
 -- session-id, ttl, waiting-time: 0..4294967295
 pub data Number : Item → ℕ → Type 0 where
   number : {w n : ℕ} → n ≤ 4294967295 → Number (uint w n) n
@@ -123,9 +92,9 @@ pub data Initiator : Item → List ℕ → Type 0 where
   initiator : {w : ℕ} {content : List ℕ} → (length content ≡ 4) ⊎ (length content ≡ 16) → Initiator (bytes w content) content
 
 -- ?objective, after a message's other items
-pub data OptionalItems : Items → Option Obj → Type 0 where
+pub data OptionalItems : Items → Option (Obj Value) → Type 0 where
   without : OptionalItems Items.done none
-  with-one : {x : Item} {obj : Obj} → ObjectiveItem x obj → OptionalItems (Items.more x Items.done) (some obj)
+  with-one : {x : Item} {obj : Obj Value} → ObjectiveItem x obj → OptionalItems (Items.more x Items.done) (some obj)
 
 -- xs, and then ys
 abbrev pub joined : Items → Items → Items
@@ -133,10 +102,10 @@ joined Items.done ys = ys
 joined (Items.more x xs) ys = Items.more x (joined xs ys)
 
 -- (+locator-option / divert-option), ?objective
-pub data AimItems : Items → Aim → Option Obj → Type 0 where
-  locators : {xs ys : Items} {l : Loc} {ls : List Loc} {obj : Option Obj} → LocatorItems xs (l ∷ ls) → OptionalItems ys obj
+pub data AimItems : Items → Aim → Option (Obj Value) → Type 0 where
+  locators : {xs ys : Items} {l : Loc} {ls : List Loc} {obj : Option (Obj Value)} → LocatorItems xs (l ∷ ls) → OptionalItems ys obj
       → AimItems (joined xs ys) (Aim.locators (l ∷ ls)) obj
-  divert : {w k : ℕ} {xs ys : Items} {l : Loc} {ls : List Loc} {obj : Option Obj} → LocatorItems xs (l ∷ ls) → OptionalItems ys obj
+  divert : {w k : ℕ} {xs ys : Items} {l : Loc} {ls : List Loc} {obj : Option (Obj Value)} → LocatorItems xs (l ∷ ls) → OptionalItems ys obj
       → AimItems (Items.more (Item.array w (Items.more (uint k 100) xs)) ys) (Aim.divert (l ∷ ls)) obj
 
 pub data EndingItem : Item → Ending → Type 0 where
@@ -144,24 +113,24 @@ pub data EndingItem : Item → Ending → Type 0 where
   decline : {w k : ℕ} → EndingItem (array w (uint k 102 ∷ [])) Ending.decline
   reason : {w k t : ℕ} {content : List ℕ} → EndingItem (array w (uint k 102 ∷ text t content ∷ [])) (Ending.reason content)
 
-pub data MessageItem : Item → Msg → Type 0 where
+pub data MessageItem : Item → Msg Value → Type 0 where
   noop : {w k : ℕ} → MessageItem (array w (uint k 0 ∷ [])) Msg.noop
-  discovery : {w k session : ℕ} {s i x : Item} {from : List ℕ} {obj : Obj} → Number s session → Initiator i from → ObjectiveItem x obj
+  discovery : {w k session : ℕ} {s i x : Item} {from : List ℕ} {obj : Obj Value} → Number s session → Initiator i from → ObjectiveItem x obj
       → MessageItem (array w (uint k 1 ∷ s ∷ i ∷ x ∷ [])) (Msg.discovery session from obj)
-  response : {w k session ttl : ℕ} {s i t : Item} {from : List ℕ} {xs : Items} {aim : Aim} {obj : Option Obj}
+  response : {w k session ttl : ℕ} {s i t : Item} {from : List ℕ} {xs : Items} {aim : Aim} {obj : Option (Obj Value)}
       → Number s session → Initiator i from → Number t ttl → AimItems xs aim obj
       → MessageItem (Item.array w (Items.more (uint k 2) (Items.more s (Items.more i (Items.more t xs))))) (Msg.response session from ttl aim obj)
-  request-negotiation : {w k session : ℕ} {s x : Item} {obj : Obj} → Number s session → ObjectiveItem x obj
+  request-negotiation : {w k session : ℕ} {s x : Item} {obj : Obj Value} → Number s session → ObjectiveItem x obj
       → MessageItem (array w (uint k 3 ∷ s ∷ x ∷ [])) (Msg.request-negotiation session obj)
-  request-synchronization : {w k session : ℕ} {s x : Item} {obj : Obj} → Number s session → ObjectiveItem x obj
+  request-synchronization : {w k session : ℕ} {s x : Item} {obj : Obj Value} → Number s session → ObjectiveItem x obj
       → MessageItem (array w (uint k 4 ∷ s ∷ x ∷ [])) (Msg.request-synchronization session obj)
-  negotiate : {w k session : ℕ} {s x : Item} {obj : Obj} → Number s session → ObjectiveItem x obj
+  negotiate : {w k session : ℕ} {s x : Item} {obj : Obj Value} → Number s session → ObjectiveItem x obj
       → MessageItem (array w (uint k 5 ∷ s ∷ x ∷ [])) (Msg.negotiate session obj)
   end : {w k session : ℕ} {s x : Item} {e : Ending} → Number s session → EndingItem x e → MessageItem (array w (uint k 6 ∷ s ∷ x ∷ [])) (Msg.end session e)
   wait : {w k session time : ℕ} {s t : Item} → Number s session → Number t time → MessageItem (array w (uint k 7 ∷ s ∷ t ∷ [])) (Msg.wait session time)
-  synch : {w k session : ℕ} {s x : Item} {obj : Obj} → Number s session → ObjectiveItem x obj
+  synch : {w k session : ℕ} {s x : Item} {obj : Obj Value} → Number s session → ObjectiveItem x obj
       → MessageItem (array w (uint k 8 ∷ s ∷ x ∷ [])) (Msg.synch session obj)
-  flood : {w k session ttl : ℕ} {s i t : Item} {from : List ℕ} {xs : Items} {p : Obj × Option Loc} {ps : List (Obj × Option Loc)}
+  flood : {w k session ttl : ℕ} {s i t : Item} {from : List ℕ} {xs : Items} {p : Pair Value} {ps : List (Pair Value)}
       → Number s session → Initiator i from → Number t ttl → PairItems xs (p ∷ ps)
       → MessageItem (Item.array w (Items.more (uint k 9) (Items.more s (Items.more i (Items.more t xs))))) (Msg.flood session from ttl (p ∷ ps))
   invalid : {w k session : ℕ} {s : Item} → Number s session → MessageItem (array w (uint k 99 ∷ s ∷ [])) (Msg.invalid session none)

@@ -1,4 +1,4 @@
--- `Cddl`: messages as data, and which CBOR items are them, rule by rule of RFC 8990, section 4. `Limits`: named texts and names.
+-- `Cddl`: which CBOR items are which message, rule by rule of RFC 8990, section 4. `Limits`: named texts and names.
 -- `Stands`: what the answers of the readers describe.
 pub mod Cddl
 pub mod Limits

@@ -8,7 +8,8 @@ use lib.ListN.{length}
 use Rattle.base.specs.Lists.{Every}
 use Rattle.utf8.specs.Utf8.{isUtf8}
 use Rattle.options.specs.Objective.{mostName}
-use Rattle.grammar.specs.Cddl.{Loc, Obj, Aim, Ending, Msg}
+use Rattle.syntax.specs.Message.{Loc, Obj, Pair, Aim, Ending, Msg}
+use Rattle.grammar.specs.Cddl.{Value}
 
 abbrev pub Utf8 : List ℕ → Type 0
 Utf8 t = isUtf8 t ≡ true
@@ -31,19 +32,19 @@ unfoldable pub tagTexts : Option Loc → List (List ℕ)
 tagTexts none = []
 tagTexts (some l) = locTexts l
 
-unfoldable pub pairTexts : Obj × Option Loc → List (List ℕ)
+unfoldable pub pairTexts : Pair Value → List (List ℕ)
 pairTexts p = p .0 .name ∷ tagTexts (p .1)
 
-unfoldable pub pairsTexts : List (Obj × Option Loc) → List (List ℕ)
+unfoldable pub pairsTexts : List (Pair Value) → List (List ℕ)
 pairsTexts [] = []
 pairsTexts (p ∷ ps) = pairTexts p ++ pairsTexts ps
 
 -- the names of objectives
-unfoldable pub pairsNames : List (Obj × Option Loc) → List (List ℕ)
+unfoldable pub pairsNames : List (Pair Value) → List (List ℕ)
 pairsNames [] = []
 pairsNames (p ∷ ps) = p .0 .name ∷ pairsNames ps
 
-unfoldable pub optionalNames : Option Obj → List (List ℕ)
+unfoldable pub optionalNames : Option (Obj Value) → List (List ℕ)
 optionalNames none = []
 optionalNames (some obj) = obj .name ∷ []
 
@@ -56,7 +57,7 @@ endingTexts Ending.accept = []
 endingTexts Ending.decline = []
 endingTexts (Ending.reason t) = t ∷ []
 
-unfoldable pub namesOf : Msg → List (List ℕ)
+unfoldable pub namesOf : Msg Value → List (List ℕ)
 namesOf Msg.noop = []
 namesOf (Msg.discovery session initiator obj) = obj .name ∷ []
 namesOf (Msg.response session initiator ttl aim obj) = optionalNames obj
@@ -69,7 +70,7 @@ namesOf (Msg.synch session obj) = obj .name ∷ []
 namesOf (Msg.flood session initiator ttl ps) = pairsNames ps
 namesOf (Msg.invalid session item) = []
 
-unfoldable pub textsOf : Msg → List (List ℕ)
+unfoldable pub textsOf : Msg Value → List (List ℕ)
 textsOf Msg.noop = []
 textsOf (Msg.discovery session initiator obj) = obj .name ∷ []
 textsOf (Msg.response session initiator ttl aim obj) = aimTexts aim ++ optionalNames obj
@@ -83,8 +84,8 @@ textsOf (Msg.flood session initiator ttl ps) = pairsTexts ps
 textsOf (Msg.invalid session item) = []
 
 -- 11 and 10 aren't due
-abbrev pub TextsGood : Msg → Type 0
+abbrev pub TextsGood : Msg Value → Type 0
 TextsGood msg = Every Utf8 (textsOf msg)
 
-abbrev pub NamesGood : Msg → Type 0
+abbrev pub NamesGood : Msg Value → Type 0
 NamesGood msg = Every Short (namesOf msg)

@@ -4,8 +4,6 @@ use mathlib.Core.List.{List, _++_}
 use mathlib.Core.Path.{_≡_}
 use mathlib.Core.Option.{Option, none, some}
 use lib.ListN.{length, take, drop}
-use lib.Dec.{eqb}
-use Rattle.base.specs.Pick.{pick}
 use Rattle.cbor.specs.Tree.{Item, Items, Right, headBytes, encode, encodes, Good, Goods}
 use Rattle.options.specs.declared.Span.{Span}
 use Rattle.options.specs.declared.locator.Locator.{Locator}
@@ -13,7 +11,8 @@ use Rattle.options.specs.declared.locator.Locator.the-variants as L
 use Rattle.options.specs.declared.objective.Objective.{Objective}
 use Rattle.options.specs.declared.pair.Tag.{Tag}
 use Rattle.options.specs.Text.{spanOf, held}
-use Rattle.grammar.specs.Cddl.{uint, text, Loc, Obj}
+use Rattle.syntax.specs.Message.{Loc, orNull, Obj}
+use Rattle.grammar.specs.Cddl.{uint, text, Value}
 
 -- the item x stands in the bytes s from p to e
 pub record Stands (s : List ℕ) (p e : ℕ) (x : Item) : Type 0 where
@@ -35,11 +34,7 @@ pub record ArrayHead (s : List ℕ) (p q n : ℕ) : Type 0 where
   pub is : drop p s ≡ headBytes 4 width n ++ drop q s
   pub end : q ≡ p + length (headBytes 4 width n)
 
--- a URI's protocol and port, where 0 and 65,536 stand for null
-unfoldable pub orNull : ℕ → ℕ → Option ℕ
-orNull null n = pick (eqb n null) none (some n)
-
--- the locator that an answer describes
+-- the locator that an answer describes; a URI's protocol 0 and port 65,536 stand for null
 unfoldable pub locOf : List ℕ → Locator → Loc
 locOf s (L.V6 at protocol port) = Loc.v6 (take 16 (drop at s)) protocol port
 locOf s (L.V4 at protocol port) = Loc.v4 (take 4 (drop at s)) protocol port
@@ -51,17 +46,17 @@ tagOf s Tag.Empty = none
 tagOf s (Tag.At l) = some (locOf s l)
 
 -- the item that a span holds: none where it has no bytes
-pub data ValueIs (s : List ℕ) (span : Span) : Option Item → Type 0 where
+pub data ValueIs (s : List ℕ) (span : Span) : Value → Type 0 where
   absent : span .len ≡ 0 → ValueIs s span none
   present : {x : Item} → Stands s (span .at) (span .at + span .len) x → ValueIs s span (some x)
 
 -- how many items an objective's array has
-abbrev pub itemsWith : Option Item → ℕ
+abbrev pub itemsWith : Value → ℕ
 itemsWith none = 3
 itemsWith (some x) = 4
 
 -- the objective that an answer describes, read of the item from p to e: each part stands right after the one before it
-pub record ObjectiveIs (s : List ℕ) (p e : ℕ) (o : Objective) (obj : Obj) : Type 0 where
+pub record ObjectiveIs (s : List ℕ) (p e : ℕ) (o : Objective) (obj : Obj Value) : Type 0 where
   -- the widths of the heads of the name, the flags and the count
   pub name-width : ℕ
   pub flags-width : ℕ

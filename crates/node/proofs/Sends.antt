@@ -3,7 +3,7 @@
 use mathlib.Core.Path.{_≡_, refl, ap}
 use mathlib.Core.Bool.{true}
 use mathlib.Core.Logic.{_⊎_, inl, inr}
-use mathlib.Core.List.{List}
+use mathlib.Core.List.{List, flatMap}
 use Prim.Native.Nat.{ℕ, _+_, _-_, _≤_}
 use native.Mathlib.Omega.{arith}
 use lib.ListN.{length, take, drop, length-append, length-drop}
@@ -18,7 +18,7 @@ use Rattle.cbor.specs.Tree.{shortest}
 use Rattle.cbor.proofs.HeadExact.{length-head}
 use Rattle.options.specs.declared.Span.{Span}
 use Rattle.message.specs.Read.{mostBytes}
-use Rattle.description.specs.Grasp.{string, reached, fixed, encodeLoc, encodeLocs, targetItems, howMany, encodeTargets, maybeObj, opening, encodeMsg}
+use Rattle.description.specs.Encoding.{string, reached, fixed, encodeLoc, targetItems, howMany, encodeTargets, maybeObj, opening, encodeMsg}
 use Rattle.writer.specs.declared.Written.{Written}
 use Rattle.writer.specs.Write.{handAnswer, handOut, passes, passAnswer, passOut, lowerAnswer, lowerOut, answerOf}
 use Rattle.roundtrip.proofs.Relay.{lowered-given}
@@ -56,7 +56,7 @@ held-length s i h = length-take-le (i .len) (drop (i .at) s) (omega (arith, leng
 
 answer-most : (session : ℕ) (initiator : List ℕ) (ttl : ℕ) (address : List ℕ) (port : ℕ) → length initiator ≤ 16 → length address ≤ 16
     → length (answerOf session initiator ttl address port) ≤ mostBytes
-unfolding answerOf encodeMsg opening string targetItems howMany encodeTargets encodeLocs encodeLoc fixed reached maybeObj
+unfolding answerOf encodeMsg opening string targetItems howMany encodeTargets flatMap encodeLoc fixed reached maybeObj
 answer-most session initiator ttl address port i a =
     simp length-append
     (omega (arith, i, a, head-most 4 5, head-most 0 2, head-most 0 session, head-most 2 (length initiator), head-most 0 ttl, head-most 4 4, head-most 0 103, head-most 2 (length address), head-most 0 6, head-most 0 port))

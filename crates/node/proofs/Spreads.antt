@@ -12,7 +12,8 @@ use Rattle.cbor.specs.Tree.{Item}
 use Rattle.options.specs.declared.Span.{Span}
 use Rattle.options.specs.declared.objective.Objective.{Objective}
 use Rattle.options.specs.Text.{spanOf}
-use Rattle.grammar.specs.Cddl.{Obj, Msg, Number, Initiator, MessageItem}
+use Rattle.syntax.specs.Message.{Obj, Msg}
+use Rattle.grammar.specs.Cddl.{Number, Initiator, MessageItem, Value}
 use Rattle.grammar.specs.Stands.{ObjectiveIs}
 use Rattle.grammar.proofs.Bridge.{text-token}
 use Rattle.message.specs.declared.Message.{Message}
@@ -45,7 +46,7 @@ initiator-in {s} {from} {p} {e} {i} h =
     let q : i .at + i .len ≡ e = ends-before i (h .held) (omega (arith, c .end)) in
     omega arith
 
-name-in : {s : List ℕ} {p e : ℕ} {o : Objective} {obj : Obj} → ObjectiveIs s p e o obj → o .name .at + o .name .len ≤ length s
+name-in : {s : List ℕ} {p e : ℕ} {o : Objective} {obj : Obj Value} → ObjectiveIs s p e o obj → o .name .at + o .name .len ≤ length s
 name-in {o = o} h =
     let c = text-token (h .name-item) in
     let w = h .name-item .within in
@@ -65,7 +66,7 @@ initiator-bytes {from = from} {i = i} h (Initiator.initiator n) = go n
     go (inl e) = inl (len ∙ e)
     go (inr e) = inr (len ∙ e)
 
-spreading : {message : List ℕ} {m : Message} {msg : Msg} {x : Item} (s : Spread) → Describes message m msg → MessageItem x msg → roleOf m ≡ Role.Spreads s
+spreading : {message : List ℕ} {m : Message} {msg : Msg Value} {x : Item} (s : Spread) → Describes message m msg → MessageItem x msg → roleOf m ≡ Role.Spreads s
     → Spreading message m s
 unfolding roleOf
 spreading {message} s (Describes.discovery {session} {i = i} {o = o} k n h j) (MessageItem.discovery num ini obj) e =

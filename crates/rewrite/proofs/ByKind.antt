@@ -1,8 +1,8 @@
 -- The description and the rows of a message that was read say the message: by its kinds.
 -- Assumes nothing.
 use mathlib.Core.Path.{_≡_, refl, sym, ap, ap₂, _∙_, subst}
-use mathlib.Core.List.{List, _++_, append-assoc}
-use mathlib.Core.Option.{Option}
+use mathlib.Core.List.{List, _++_, map, append-assoc}
+use mathlib.Core.Option.{Option, some, Option·map}
 use Prim.Native.Nat.{ℕ, _*_, _/_, _%_, _≤_, _<_}
 use native.Mathlib.Nat.{mul-mod-right, mul-div-cancel-left}
 use native.Mathlib.Omega.{arith}
@@ -12,7 +12,8 @@ use Rattle.base.specs.BigEndian.{Bytes}
 use Rattle.cbor.specs.Item.{mostLevels}
 use Rattle.cbor.specs.Put.{head}
 use Rattle.cbor.specs.Tree.{Item, Items, encode, depth, depths, Good}
-use Rattle.grammar.specs.Cddl.{Loc, LocatorItems, Obj, PairItems, Aim, Ending, Msg, MessageItem}
+use Rattle.syntax.specs.Message.{Loc, Obj, Pair, Aim, Ending, Msg, valuedObj, valuedPair, valued}
+use Rattle.grammar.specs.Cddl.{LocatorItems, Value, PairItems, MessageItem}
 use Rattle.grammar.specs.Stands.{StandAll}
 use Rattle.message.specs.declared.Series.{Series}
 use Rattle.message.specs.declared.Targets.{Targets}
@@ -21,12 +22,13 @@ use Rattle.message.specs.declared.Outcome.{Outcome}
 use Rattle.message.specs.declared.Message.{Message}
 use Rattle.exact.specs.Describes.{SeriesIs, AimIs, ExtraIs, OutcomeIs, Describes}
 use Rattle.exact.proofs.Described.{locators-count, pairs-count}
-use Rattle.description.specs.Grasp as W
+use Rattle.description.specs.Encoding.{string, encodeEnding, opening, encodeMsg}
 use Rattle.description.specs.Describe.{placeRow, pairRow, locOf, placeAt, rowLoc, locsOf, targetsOf, extraOf, rowPair, pairsOf, endOf, msgOf}
 use Rattle.describe.specs.Describe as D
 use Rattle.describe.specs.Rows as R
-use Rattle.roundtrip.specs.Plain.{plainMaybe, plainAll, plainObj, plainLoc, plainPair, plainAim, plainEnd, plain}
+use Rattle.roundtrip.specs.Plain.{valueBytes, plain}
 use Rattle.roundtrip.specs.Says.{PlaceSays, PairSays, Rows, ExtraSays, EndingSays, Says}
+use Rattle.roundtrip.proofs.Encodes.{pairs-many}
 use Rattle.roundtrip.proofs.Places.{past-item, stands-whole, opened-place}
 use Rattle.rewrite.specs.Lent.{rowsLent}
 use Rattle.rewrite.proofs.Filled.{joined, joined-length, rows-many, lent, told-each, told-all}
@@ -43,23 +45,23 @@ module _ (s : List ℕ) (by : Bytes s) where
   -- a list of locators
   record Placed (list : List ℕ) (ls : List Loc) : Type 0 where
     says : Rows list placeRow (λ k. PlaceSays s (placeAt list (placeRow * k)))
-    are : locsOf s list ≡ plainAll plainLoc ls
+    are : locsOf s list ≡ ls
 
   placed-rows : {at : ℕ} {rows : List (List ℕ)} {ls : List Loc} → Locators s by at rows ls → Placed (joined rows) ls
   unfolding locsOf rowLoc
   placed-rows {rows = rows} chain =
       let (whole, many) = whole-rows placeRow (length rows) (length (joined rows)) (lit< tt) (joined-length chain) in
       record {
-        says = record { whole = whole; each = λ i h. told-each placeOf (locOf s) plainLoc (PlaceSays s) place-behind chain i (rw many at h) };
-        are = rw many (told-all placeOf (locOf s) plainLoc (PlaceSays s) place-behind chain);
+        says = record { whole = whole; each = λ i h. told-each placeOf (locOf s) (PlaceSays s) place-behind chain i (rw many at h) };
+        are = rw many (told-all placeOf (locOf s) (PlaceSays s) place-behind chain);
       }
 
   -- a list of pairs
-  record Paired (list : List ℕ) (ps : List (Obj × Option Loc)) : Type 0 where
+  record Paired (list : List ℕ) (ps : List (Pair (List ℕ))) : Type 0 where
     says : Rows list pairRow (PairSays s list)
-    are : pairsOf s list ≡ plainAll plainPair ps
+    are : pairsOf s list ≡ ps
 
-  paired-rows : {at : ℕ} {rows : List (List ℕ)} {ps : List (Obj × Option Loc)} → Pairs s by at rows ps → Paired (joined rows) ps
+  paired-rows : {at : ℕ} {rows : List (List ℕ)} {ps : List (Pair (List ℕ))} → Pairs s by at rows ps → Paired (joined rows) ps
   unfolding pairsOf rowPair rowAt
   paired-rows {rows = rows} chain =
       let (whole, many) = whole-rows pairRow (length rows) (length (joined rows)) (lit< tt) (joined-length chain) in
@@ -67,10 +69,10 @@ module _ (s : List ℕ) (by : Bytes s) where
         says = record {
           whole = whole;
           each = λ i h.
-              let r = told-each rowOf (pairOf s) plainPair (InOrder s) row-behind chain i (rw many at h) in
+              let r = told-each rowOf (pairOf s) (InOrder s) row-behind chain i (rw many at h) in
               record { kept = r .kept; objective = r .objective; locator = r .locator };
         };
-        are = rw many (told-all rowOf (pairOf s) plainPair (InOrder s) row-behind chain);
+        are = rw many (told-all rowOf (pairOf s) (InOrder s) row-behind chain);
       }
 
   -- ---- a list that is lent
@@ -84,53 +86,54 @@ module _ (s : List ℕ) (by : Bytes s) where
       subst (λ (l : List ℕ). Placed l ls) (sym (lent chain (series .many) list (ltb (length list / placeRow) (series .many)) many room)) (placed-rows chain)
 
   -- of a series of pairs
-  pairs-lent : {e : ℕ} {series : Series} {xs : Items} {ps : List (Obj × Option Loc)} (list : List ℕ) → depths xs ≤ mostLevels → StandAll s (series .at) e xs → PairItems xs ps
-      → series .many ≡ length ps → R.pairsEnd series list ≤ length list → Paired (take (R.pairsEnd series list) (R.pairsFilled s series list)) ps
+  pairs-lent : {e : ℕ} {series : Series} {xs : Items} {ps : List (Pair Value)} (list : List ℕ) → depths xs ≤ mostLevels → StandAll s (series .at) e xs → PairItems xs ps
+      → series .many ≡ length ps → R.pairsEnd series list ≤ length list → Paired (take (R.pairsEnd series list) (R.pairsFilled s series list)) (map (valuedPair valueBytes) ps)
   unfolding R.pairsEnd R.pairsFilled
   pairs-lent {series = series} {ps = ps} list d a i many room =
       let (rows, chain) = pairs-rows s by d a i in
-      subst (λ (l : List ℕ). Paired l ps) (sym (lent chain (series .many) list (ltb (length list / pairRow) (series .many)) (many ∙ sym (rows-many chain)) room)) (paired-rows chain)
+      subst (λ (l : List ℕ). Paired l (map (valuedPair valueBytes) ps)) (sym (lent chain (series .many) list (ltb (length list / pairRow) (series .many)) (many ∙ pairs-many ps ∙ sym (rows-many chain)) room)) (paired-rows chain)
 
   -- ---- the parts of a description
   -- a Response's locators
   aim-lent : {p e : ℕ} {targets : Targets} {aim : Aim} (list : List ℕ) → AimIs s p e targets aim → R.endBy list (R.targetRows targets) ≤ length list
       → (ls : List Loc) × Placed (take (R.endBy list (R.targetRows targets)) (R.filledBy s list (R.targetRows targets))) ls
-      × ((l : List ℕ) → locsOf s l ≡ plainAll plainLoc ls → targetsOf s l (D.isDivert targets) ≡ plainAim aim)
-  unfolding R.endBy R.filledBy R.targetRows D.isDivert targetsOf plainAim
-  aim-lent list (AimIs.locators {ls = ls} at i) room = (ls, locators-lent list i room, λ l e. ap W.Targets.locators e)
-  aim-lent list (AimIs.divert {ls = ls} head lead i) room = (ls, locators-lent list i room, λ l e. ap W.Targets.divert e)
+      × ((l : List ℕ) → locsOf s l ≡ ls → targetsOf s l (D.isDivert targets) ≡ aim)
+  unfolding R.endBy R.filledBy R.targetRows D.isDivert targetsOf
+  aim-lent list (AimIs.locators {ls = ls} at i) room = (ls, locators-lent list i room, λ l e. ap Aim.locators e)
+  aim-lent list (AimIs.divert {ls = ls} head lead i) room = (ls, locators-lent list i room, λ l e. ap Aim.divert e)
 
   -- an objective that may be left out
-  extra-says : {p : ℕ} {extra : Extra} {obj : Option Obj} → ExtraIs s p extra obj → ExtraSays s (D.extraOf extra) × (extraOf s (D.extraOf extra) ≡ plainMaybe plainObj obj)
-  unfolding D.extraOf extraOf plainMaybe
+  extra-says : {p : ℕ} {extra : Extra} {obj : Option (Obj Value)} → ExtraIs s p extra obj → ExtraSays s (D.extraOf extra) × (extraOf s (D.extraOf extra) ≡ Option·map (valuedObj valueBytes) obj)
+  unfolding D.extraOf extraOf
   extra-says (ExtraIs.without e) = (tt, refl)
-  extra-says (ExtraIs.with-one o) = let goal = objective-goals o in (goal .says, ap W.Maybe.some (goal .is))
+  extra-says (ExtraIs.with-one o) = let goal = objective-goals o in (goal .says, ap some (goal .is))
 
   -- how a negotiation ends; a reason is the end of the message
-  ending-says : {outcome : Outcome} {ending : Ending} (session : ℕ) → OutcomeIs s outcome ending → W.encodeMsg (plainEnd session ending) ≡ s
-      → EndingSays s (D.endingOf outcome) × (endOf s session (D.endingOf outcome) ≡ plainEnd session ending)
-  unfolding D.endingOf endOf plainEnd W.encodeMsg W.howMany W.reason W.string
+  ending-says : {outcome : Outcome} {ending : Ending} (session : ℕ) → OutcomeIs s outcome ending → encodeMsg (Msg.end session ending) ≡ s
+      → EndingSays s (D.endingOf outcome) × (endOf s (D.endingOf outcome) ≡ ending)
+  unfolding D.endingOf endOf encodeMsg encodeEnding string
   ending-says session OutcomeIs.accept e = (tt, refl)
   ending-says session OutcomeIs.decline e = (tt, refl)
   ending-says session (OutcomeIs.reason {content = content} q) e =
-      let before : List ℕ = W.opening 3 6 session ++ head 4 2 ++ head 0 102 in
-      let c = end-cuts (before ++ head 3 (length content)) content (append-assoc before (head 3 (length content)) content ∙ e) q in
-      (c .inside, ap (λ (t : List ℕ). W.Msg.decline session (W.Maybe.some t)) (c .is))
+      let before : List ℕ = opening 3 6 session ++ (head 4 2 ++ head 0 102 ++ head 3 (length content)) in
+      let whole : before ++ content ≡ opening 3 6 session ++ encodeEnding (Ending.reason content) = simp append-assoc in
+      let c = end-cuts before content (whole ∙ e) q in
+      (c .inside, ap Ending.reason (c .is))
 
   -- a Response by its parts
-  response-is : {session ttl : ℕ} {i i′ : List ℕ} {t t′ : W.Targets} {o o′ : W.Maybe W.Obj} → i ≡ i′ → t ≡ t′ → o ≡ o′ → W.Msg.response session i ttl t o ≡ W.Msg.response session i′ ttl t′ o′
+  response-is : {session ttl : ℕ} {i i′ : List ℕ} {t t′ : Aim} {o o′ : Option (Obj (List ℕ))} → i ≡ i′ → t ≡ t′ → o ≡ o′ → Msg.response session i ttl t o ≡ Msg.response session i′ ttl t′ o′
   response-is a b c = cc
 
   -- ---- the kinds
   -- The description of what was read, with the rows in a list that has room for them, says the message that stands in the bytes.
-  pub kind-says : (list : List ℕ) {m : Message} {msg : Msg} {x : Item} → Describes s m msg → MessageItem x msg → Good x → depth x ≤ mostLevels → encode x ≡ s → W.encodeMsg (plain msg) ≡ s
+  pub kind-says : (list : List ℕ) {m : Message} {msg : Msg Value} {x : Item} → Describes s m msg → MessageItem x msg → Good x → depth x ≤ mostLevels → encode x ≡ s → encodeMsg (plain msg) ≡ s
       → R.rowsEnd m list ≤ length list → Says s (rowsLent s m list) (D.descriptionOf m) (plain msg)
-  unfolding R.rowsEnd R.rowsFilled R.rowsIn R.endBy R.filledBy D.descriptionOf msgOf plain depth
+  unfolding R.rowsEnd R.rowsFilled R.rowsIn R.endBy R.filledBy D.descriptionOf msgOf plain valued depth
   kind-says list Describes.noop i g d e w room = record { parts = refl; is = refl }
   kind-says list (Describes.discovery {session} k n from o) i g d e w room =
       let c = string-cuts (from .stands) (from .held) in
       let goal = objective-goals o in
-      record { parts = (refl, c .inside, goal .says); is = ap₂ (W.Msg.discovery session) (c .is) (goal .is) }
+      record { parts = (refl, c .inside, goal .says); is = ap₂ (Msg.discovery session) (c .is) (goal .is) }
   kind-says list (Describes.response {session} {ttl} k n from t aim extra) i g d e w room =
       let c = string-cuts (from .stands) (from .held) in
       let (ls, rows, targets) = aim-lent list aim room in
@@ -138,23 +141,23 @@ module _ (s : List ℕ) (by : Bytes s) where
       record { parts = (c .inside, rows .says, says); is = response-is (c .is) (targets _ (rows .are)) is }
   kind-says list (Describes.request-negotiation {session} k n o) i g d e w room =
       let goal = objective-goals o in
-      record { parts = (refl, goal .says); is = ap (W.Msg.exchange 3 session) (goal .is) }
+      record { parts = (refl, goal .says); is = ap (Msg.request-negotiation session) (goal .is) }
   kind-says list (Describes.request-synchronization {session} k n o) i g d e w room =
       let goal = objective-goals o in
-      record { parts = (refl, goal .says); is = ap (W.Msg.exchange 4 session) (goal .is) }
+      record { parts = (refl, goal .says); is = ap (Msg.request-synchronization session) (goal .is) }
   kind-says list (Describes.negotiate {session} k n o) i g d e w room =
       let goal = objective-goals o in
-      record { parts = (refl, goal .says); is = ap (W.Msg.exchange 5 session) (goal .is) }
-  kind-says list (Describes.end {session} outcome) i g d e w room = let (says, is) = ending-says session outcome w in record { parts = (refl, says); is = is }
+      record { parts = (refl, goal .says); is = ap (Msg.negotiate session) (goal .is) }
+  kind-says list (Describes.end {session} outcome) i g d e w room = let (says, is) = ending-says session outcome w in record { parts = (refl, says); is = ap (Msg.end session) is }
   kind-says list Describes.wait i g d e w room = record { parts = refl; is = refl }
   kind-says list (Describes.synch {session} k n o) i g d e w room =
       let goal = objective-goals o in
-      record { parts = (refl, goal .says); is = ap (W.Msg.exchange 8 session) (goal .is) }
+      record { parts = (refl, goal .says); is = ap (Msg.synch session) (goal .is) }
   kind-says list (Describes.flood {session} {ttl} k n from t series h o) (MessageItem.flood sy sz sv pairs) g d e w room =
       let c = string-cuts (from .stands) (from .held) in
       let stand = past-item (opened-place (stands-whole g e) k n from .0) (t .stands) .0 in
       let rows = pairs-lent list (omega (arith, d)) stand pairs (series .many ∙ pairs-count (series .are)) room in
-      record { parts = (c .inside, rows .says); is = ap₂ (λ (i : List ℕ) (ps : List W.Pair). W.Msg.flood session i ttl ps) (c .is) (rows .are) }
+      record { parts = (c .inside, rows .says); is = ap₂ (λ (i : List ℕ) (ps : List (Pair (List ℕ))). Msg.flood session i ttl ps) (c .is) (rows .are) }
   kind-says list (Describes.invalid {session} k n v end) i g d e w room =
       let c = value-cuts v in
-      record { parts = (refl, c .inside); is = ap (W.Msg.invalid session) (c .is) }
+      record { parts = (refl, c .inside); is = ap (Msg.invalid session) (c .is) }

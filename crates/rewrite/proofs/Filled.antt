@@ -12,7 +12,6 @@ use lib.Seq.{sets, sets-eq, take-at}
 use Rattle.base.specs.Pick.{pick}
 use Rattle.describe.specs.Rows.{rowsFrom}
 use Rattle.description.specs.Describe.{upTo}
-use Rattle.roundtrip.specs.Plain.{plainAll}
 
 -- ---- stores
 -- lists one after the other
@@ -39,10 +38,10 @@ up-same f g zero h = refl
 up-same f g (suc n) h = ap₂ (λ l x. l ++ (x ∷ [])) (up-same f g n h) (h n)
 
 -- ---- rows
-module _ {A B X : Type 0} (view : List ℕ → ℕ → A) (f : A → B) (g : X → B) (Holds : A → Type 0) where
+module _ {A X : Type 0} (view : List ℕ → ℕ → A) (f : A → X) (Holds : A → Type 0) where
   -- the first row of a list is x, and in order
   abbrev pub Tells : List ℕ → X → Type 0
-  Tells list x = (f (view list 0) ≡ g x) × Holds (view list 0)
+  Tells list x = (f (view list 0) ≡ x) × Holds (view list 0)
 
 -- the elements xs from `at` on, each with its row of `size` numbers: they are stored in their place, and tell the element, whatever follows them
 pub data Chain {X : Type 0} (size : ℕ) (next : ℕ → ℕ) (row : ℕ → ℕ → List ℕ → List ℕ) (Told : List ℕ → X → Type 0) : ℕ → List (List ℕ) → List X → Type 0 where
@@ -98,10 +97,10 @@ module _ {X : Type 0} {size : ℕ} {next : ℕ → ℕ} {row : ℕ → ℕ → L
       (sym e) (lent-by chain list t)
 
 -- ---- what the rows tell
-module _ {A B X : Type 0} {size : ℕ} {next : ℕ → ℕ} {row : ℕ → ℕ → List ℕ → List ℕ} (view : List ℕ → ℕ → A) (f : A → B) (g : X → B) (Holds : A → Type 0)
+module _ {A X : Type 0} {size : ℕ} {next : ℕ → ℕ} {row : ℕ → ℕ → List ℕ → List ℕ} (view : List ℕ → ℕ → A) (f : A → X) (Holds : A → Type 0)
     (shift : (ns rest : List ℕ) (i : ℕ) → length ns ≡ size → view (ns ++ rest) (suc i) ≡ view rest i) where
   -- each is in order
-  pub told-each : {at : ℕ} {rows : List (List ℕ)} {xs : List X} → Chain size next row (Tells view f g Holds) at rows xs → (i : ℕ) → i < length rows → Holds (view (joined rows) i)
+  pub told-each : {at : ℕ} {rows : List (List ℕ)} {xs : List X} → Chain size next row (Tells view f Holds) at rows xs → (i : ℕ) → i < length rows → Holds (view (joined rows) i)
   unfolding joined
   told-each Chain.end i h = absurd (omega arith)
   told-each (Chain.step {rows = rows} len stored told more) zero h = told (joined rows) .1
@@ -109,9 +108,9 @@ module _ {A B X : Type 0} {size : ℕ} {next : ℕ → ℕ} {row : ℕ → ℕ �
       subst Holds (sym (shift ns (joined rows) i len)) (told-each more i (omega arith))
 
   -- and they are all of xs
-  pub told-all : {at : ℕ} {rows : List (List ℕ)} {xs : List X} → Chain size next row (Tells view f g Holds) at rows xs
-      → upTo (λ i. f (view (joined rows) i)) (length rows) ≡ plainAll g xs
-  unfolding joined upTo plainAll
+  pub told-all : {at : ℕ} {rows : List (List ℕ)} {xs : List X} → Chain size next row (Tells view f Holds) at rows xs
+      → upTo (λ i. f (view (joined rows) i)) (length rows) ≡ xs
+  unfolding joined upTo
   told-all Chain.end = refl
   told-all (Chain.step {ns = ns} {rows = rows} len stored told more) =
       up-first (λ i. f (view (ns ++ joined rows) i)) (length rows)

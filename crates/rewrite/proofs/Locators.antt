@@ -2,9 +2,7 @@
 -- Assumes nothing.
 use mathlib.Core.Path.{_≡_, refl, sym, ap, _∙_, subst}
 use mathlib.Core.Logic.{inl, inr}
-use mathlib.Core.Bool.{Bool, true, false}
 use mathlib.Core.List.{List, [], _∷_, _++_}
-use mathlib.Core.Option.{none, some}
 use Prim.Native.Nat.{ℕ, suc, _+_, _*_, _-_, _≤_, _<_}
 use native.Mathlib.Decide.{decLt}
 use native.Mathlib.Nat.{add-assoc}
@@ -23,16 +21,15 @@ use Rattle.options.specs.declared.locator.Locator.the-variants as L
 use Rattle.options.specs.declared.locator.LocatorRead.{LocatorRead}
 use Rattle.options.specs.Text.{spanOf}
 use Rattle.options.specs.Locator.{locatorOf, locatorIn, locatorAt, locatorNumbers}
-use Rattle.grammar.specs.Cddl.{Loc, LocatorItem, LocatorItems}
+use Rattle.syntax.specs.Message.{Loc}
+use Rattle.grammar.specs.Cddl.{LocatorItem, LocatorItems}
 use Rattle.grammar.specs.Stands as S
 use Rattle.grammar.specs.Stands.{Stands, StandAll}
 use Rattle.grammar.proofs.Bridge.{split, advances}
 use Rattle.grammar.proofs.Locators.{locator-read}
 use Rattle.description.specs.declared.rows.Place.{Place}
-use Rattle.description.specs.Grasp as W
-use Rattle.description.specs.Describe.{placeRow, orNull, locOf, placeAt}
+use Rattle.description.specs.Describe.{placeRow, locOf, placeAt}
 use Rattle.describe.specs.Rows.{locatorNextFrom, locatorRowFrom, locatorNext, locatorRow}
-use Rattle.roundtrip.specs.Plain.{plainMaybe, plainNumber, plainLoc}
 use Rattle.roundtrip.specs.Says.{Inside, PlaceSays}
 use Rattle.rewrite.proofs.Filled.{Tells, Chain}
 
@@ -89,30 +86,20 @@ place-behind ns rest i e = let sum : placeRow * suc i ≡ length ns + placeRow *
 address-in : (m : List ℕ) (at n : ℕ) → 1 ≤ n → length (take n (drop at m)) ≡ n → Inside m (spanOf at n)
 address-in m at n h e = inr (omega (arith, length-take n (drop at m), length-drop at m))
 
--- a number or null, by the test
-null-by : (t : Bool) (n : ℕ) → pick t W.Maybe.none (W.Maybe.some n) ≡ plainNumber (pick t none (some n))
-unfolding pick plainNumber plainMaybe
-null-by true n = refl
-null-by false n = refl
-
-null-plain : (null n : ℕ) → orNull null n ≡ plainNumber (S.orNull null n)
-unfolding orNull S.orNull
-null-plain null n = null-by (eqb n null) n
-
 -- a locator that was read is the place of its numbers
 pub record PlaceIs (m : List ℕ) (p : Place) (loc : Loc) : Type 0 where
-  pub is : locOf m p ≡ plainLoc loc
+  pub is : locOf m p ≡ loc
   pub says : PlaceSays m p
 
 pub placed : {m : List ℕ} {x : Item} (l : Locator) → TextIn m l → LocatorItem x (S.locOf m l) → (rest : List ℕ) → PlaceIs m (placeAt (locatorNumbers l ++ rest) 0) (S.locOf m l)
-unfolding locatorNumbers placeAt locOf S.locOf plainLoc pick
+unfolding locatorNumbers placeAt locOf S.locOf pick
 placed (L.V6 at protocol port) t (LocatorItem.v6 n _ _) rest =
     record { is = refl; says = record { least = lit≤ tt; most = lit≤ tt; content = address-in _ at 16 (lit≤ tt) n } }
 placed (L.V4 at protocol port) t (LocatorItem.v4 n _ _) rest =
     record { is = refl; says = record { least = lit≤ tt; most = lit≤ tt; content = address-in _ at 4 (lit≤ tt) n } }
 placed (L.Domain name protocol port) t i rest = record { is = refl; says = record { least = lit≤ tt; most = lit≤ tt; content = t } }
 placed (L.Uri uri protocol port) t i rest =
-    record { is = rw (null-plain 0 protocol, null-plain 65536 port); says = record { least = lit≤ tt; most = lit≤ tt; content = t } }
+    record { is = refl; says = record { least = lit≤ tt; most = lit≤ tt; content = t } }
 
 -- ---- the rows of all
 -- what a row is, and what is told of it
@@ -122,7 +109,7 @@ placeOf list i = placeAt list (placeRow * i)
 module _ (s : List ℕ) (by : Bytes s) where
   -- rows of locators
   abbrev pub Locators : ℕ → List (List ℕ) → List Loc → Type 0
-  Locators = Chain placeRow (locatorNext s) (locatorRow s) (Tells placeOf (locOf s) plainLoc (PlaceSays s))
+  Locators = Chain placeRow (locatorNext s) (locatorRow s) (Tells placeOf (locOf s) (PlaceSays s))
 
   -- one row
   locator-row : (p : ℕ) {l : Locator} {size bad : ℕ} (i : ℕ) (list : List ℕ) → locatorAt s p ≡ LocatorRead.Got l size bad
@@ -145,6 +132,6 @@ module _ (s : List ℕ) (by : Bytes s) where
       let told = placed l text (subst (LocatorItem x) (sym described) i) in
       let (rows, more) = locators-rows (c .rest) is in (
         locatorNumbers l ∷ rows,
-        Chain.step (locator-five l) (λ i list. locator-row p i list read) (λ rest. (told rest .is ∙ ap plainLoc described, told rest .says))
+        Chain.step (locator-five l) (λ i list. locator-row p i list read) (λ rest. (told rest .is ∙ described, told rest .says))
             (subst (λ (k : ℕ). Locators k rows ls) (sym (locator-next (advances (c .first)) read)) more),
       )

@@ -2,7 +2,7 @@
 -- Assumes nothing.
 use mathlib.Core.Path.{_≡_, refl, sym, ap, ap₂, _∙_, subst}
 use mathlib.Core.Logic.{_⊎_, inl, inr}
-use mathlib.Core.List.{List, [], _∷_, _++_}
+use mathlib.Core.List.{List, [], _∷_, _++_, map}
 use mathlib.Core.Option.{Option, none, some}
 use Prim.Native.Nat.{ℕ, suc, _+_, _*_, _-_, _≤_, _<_}
 use native.Mathlib.Nat.{add-assoc}
@@ -28,18 +28,18 @@ use Rattle.options.specs.Locator.{locatorIn, locatorNumbers}
 use Rattle.options.specs.Objective.{objectiveIn}
 use Rattle.options.specs.Pair.{pairTagged, pairTail, pairLed, pairIn, pairAt, five, tagNumbers, pairNumbers}
 use Rattle.options.proofs.Fits.{ObjectiveOk, objective-within}
-use Rattle.grammar.specs.Cddl.{Obj, Loc, LocatorItem, PairItem, PairItems}
+use Rattle.syntax.specs.Message.{Loc, Obj, Pair, valuedPair}
+use Rattle.grammar.specs.Cddl.{LocatorItem, Value, PairItem, PairItems}
 use Rattle.grammar.specs.Stands as S
 use Rattle.grammar.specs.Stands.{StandAll, tagOf}
 use Rattle.grammar.proofs.Bridge.{split, advances}
 use Rattle.grammar.proofs.Pairs.{pair-read}
 use Rattle.description.specs.declared.rows.Entry.{Entry}
 use Rattle.description.specs.declared.rows.Place.{Place}
-use Rattle.description.specs.Grasp as W
 use Rattle.description.specs.Describe.{pairRow, entryRow, entryOf, objOf, entryAt, locOf, placeAt, locOrNone}
 use Rattle.describe.specs.Describe.{goalOf}
 use Rattle.describe.specs.Rows as R
-use Rattle.roundtrip.specs.Plain.{plainMaybe, plainLoc, plainPair}
+use Rattle.roundtrip.specs.Plain.{valueBytes}
 use Rattle.roundtrip.specs.Says.{EntrySays, PlaceSays, Blank}
 use Rattle.rewrite.proofs.Filled.{Tells, Chain}
 use Rattle.rewrite.proofs.Spans.{Goals, objective-goals}
@@ -113,26 +113,26 @@ row-behind ns rest i e = let sum : pairRow * suc i ≡ length ns + pairRow * i =
 -- ---- what it tells
 -- a pair's place: five zeros, or its locator's numbers
 pub record TagIs (m : List ℕ) (p : Place) (tag : Option Loc) : Type 0 where
-  pub is : locOrNone m p ≡ plainMaybe plainLoc tag
+  pub is : locOrNone m p ≡ tag
   pub says : Blank p ⊎ PlaceSays m p
 
 -- none
 tag-empty : (m rest : List ℕ) → TagIs m (placeAt (tagNumbers Tag.Empty ++ rest) 0) none
-unfolding tagNumbers placeAt locOrNone plainMaybe pick
+unfolding tagNumbers placeAt locOrNone pick
 tag-empty m rest = record { is = refl; says = inl (record { kind = refl; at = refl; len = refl; protocol = refl; port = refl }) }
 
 -- a locator of a known kind isn't none
-known : {m : List ℕ} {p : Place} → PlaceSays m p → locOrNone m p ≡ W.Maybe.some (locOf m p)
+known : {m : List ℕ} {p : Place} → PlaceSays m p → locOrNone m p ≡ some (locOf m p)
 unfolding locOrNone pick
 known {p = p} says = rw (ne-eqb (p .kind) 0 (λ e. omega (arith, says .least)))
 
 tag-locator : {m : List ℕ} {x : Item} (l : Locator) → TextIn m l → LocatorItem x (S.locOf m l) → (rest : List ℕ)
     → TagIs m (placeAt (tagNumbers (Tag.At l) ++ rest) 0) (some (S.locOf m l))
-unfolding tagNumbers plainMaybe
-tag-locator l t i rest = let told = placed l t i rest in record { is = known (told .says) ∙ ap W.Maybe.some (told .is); says = inr (told .says) }
+unfolding tagNumbers
+tag-locator l t i rest = let told = placed l t i rest in record { is = known (told .says) ∙ ap some (told .is); says = inr (told .says) }
 
 -- of what was read
-tag-tells : {m : List ℕ} {x : Item} {pair : Obj × Option Loc} (tag : Tag) → TagIn m tag → PairItem x pair → tagOf m tag ≡ pair .1 → (rest : List ℕ)
+tag-tells : {m : List ℕ} {x : Item} {pair : Pair Value} (tag : Tag) → TagIn m tag → PairItem x pair → tagOf m tag ≡ pair .1 → (rest : List ℕ)
     → TagIs m (placeAt (tagNumbers tag ++ rest) 0) (pair .1)
 unfolding tagOf
 tag-tells Tag.Empty t (PairItem.untagged o) e rest = tag-empty _ rest
@@ -147,8 +147,8 @@ tag-tells {m} (Tag.At l) t (PairItem.tagged {y = y} {loc = loc} o i) e rest =
 abbrev pub rowOf : List ℕ → ℕ → Row
 rowOf list i = rowAt list (pairRow * i)
 
-abbrev pub pairOf : List ℕ → Row → W.Pair
-pairOf s r = record { objective = objOf s (r .entry); locator = locOrNone s (r .place) }
+abbrev pub pairOf : List ℕ → Row → Pair (List ℕ)
+pairOf s r = (objOf s (r .entry), locOrNone s (r .place))
 
 pub record InOrder (s : List ℕ) (r : Row) : Type 0 where
   pub kept : r .kept ≡ 0
@@ -157,8 +157,8 @@ pub record InOrder (s : List ℕ) (r : Row) : Type 0 where
 
 module _ (s : List ℕ) (by : Bytes s) where
   -- rows of pairs
-  abbrev pub Pairs : ℕ → List (List ℕ) → List (Obj × Option Loc) → Type 0
-  Pairs = Chain pairRow (R.pairNext s) (R.pairRow s) (Tells rowOf (pairOf s) plainPair (InOrder s))
+  abbrev pub Pairs : ℕ → List (List ℕ) → List (Pair (List ℕ)) → Type 0
+  Pairs = Chain pairRow (R.pairNext s) (R.pairRow s) (Tells rowOf (pairOf s) (InOrder s))
 
   -- one row
   pair-row : (p : ℕ) {o : Objective} {tag : Tag} {size bad long : ℕ} (i : ℕ) (list : List ℕ) → pairAt s p ≡ PairRead.Got o tag size bad long
@@ -172,18 +172,15 @@ module _ (s : List ℕ) (by : Bytes s) where
   pair-next {p} h q = ap (R.pairNextFrom p) q ∙ omega arith
 
   -- what the numbers tell
-  pair-tells : {obj : Obj} {loc : Option Loc} (o : Objective) (tag : Tag) → Goals s o obj → ((rest : List ℕ) → TagIs s (placeAt (tagNumbers tag ++ rest) 0) loc) → (rest : List ℕ)
-      → Tells rowOf (pairOf s) plainPair (InOrder s) (R.pairCells o tag ++ rest) (obj, loc)
-  unfolding R.pairCells pairNumbers rowAt entryAt placeAt entryOf goalOf plainPair
+  pair-tells : {obj : Obj Value} {loc : Option Loc} (o : Objective) (tag : Tag) → Goals s o obj → ((rest : List ℕ) → TagIs s (placeAt (tagNumbers tag ++ rest) 0) loc) → (rest : List ℕ)
+      → Tells rowOf (pairOf s) (InOrder s) (R.pairCells o tag ++ rest) (valuedPair valueBytes (obj, loc))
+  unfolding R.pairCells pairNumbers rowAt entryAt placeAt entryOf goalOf valuedPair
   pair-tells {loc = loc} o tag goal told rest =
       let tag-is = subst (λ (ns : List ℕ). TagIs s (placeAt (ns ++ rest) 0) loc) (sym (tag-five tag)) (told rest) in
-      (ap₂ (λ (x : W.Obj) (y : W.Maybe W.Loc). pair-of x y) (goal .is) (tag-is .is), record { kept = refl; objective = goal .says; locator = tag-is .says })
-    where
-      pair-of : W.Obj → W.Maybe W.Loc → W.Pair
-      pair-of x y = record { objective = x; locator = y }
+      (ap₂ (λ (x : Obj (List ℕ)) (y : Option Loc). (x, y)) (goal .is) (tag-is .is), record { kept = refl; objective = goal .says; locator = tag-is .says })
 
   -- the pairs that stand in a message
-  pub pairs-rows : {p e : ℕ} {xs : Items} {ps : List (Obj × Option Loc)} → depths xs ≤ mostLevels → StandAll s p e xs → PairItems xs ps → (rows : List (List ℕ)) × Pairs p rows ps
+  pub pairs-rows : {p e : ℕ} {xs : Items} {ps : List (Pair Value)} → depths xs ≤ mostLevels → StandAll s p e xs → PairItems xs ps → (rows : List (List ℕ)) × Pairs p rows (map (valuedPair valueBytes) ps)
   unfolding depth
   pairs-rows d a PairItems.empty = ([], Chain.end)
   pairs-rows {p} d a (PairItems.more {ps = ps} i is) =
@@ -193,5 +190,5 @@ module _ (s : List ℕ) (by : Bytes s) where
       let (rows, more) = pairs-rows (omega (arith, d)) (c .rest) is in (
         R.pairCells o tag ∷ rows,
         Chain.step (pair-twelve o tag) (λ i list. pair-row p i list read) (pair-tells o tag (objective-goals objective) (tag-tells tag text i described))
-            (subst (λ (k : ℕ). Pairs k rows ps) (sym (pair-next (advances (c .first)) read)) more),
+            (subst (λ (k : ℕ). Pairs k rows (map (valuedPair valueBytes) ps)) (sym (pair-next (advances (c .first)) read)) more),
       )

@@ -2,7 +2,6 @@
 -- Assumes nothing.
 use mathlib.Core.Path.{_≡_}
 use mathlib.Core.List.{List, [], _∷_}
-use mathlib.Core.Option.{Option}
 use Prim.Native.Nat.{ℕ, _+_, _*_, _/_, _≤_, _<_}
 use native.Mathlib.Omega.{arith}
 use lib.Dec.{ltb}
@@ -12,14 +11,15 @@ use Rattle.base.specs.Pick.{pick}
 use Rattle.base.specs.BigEndian.{Bytes}
 use Rattle.cbor.specs.Tree.{Item, Items, Sized, count, encode, encodes, Good, Goods}
 use Rattle.cbor.proofs.HeadExact.{length-head}
-use Rattle.grammar.specs.Cddl.{uint, array, Loc, LocatorItem, LocatorItems, Obj, ObjectiveItem, PairItem, PairItems, Msg}
+use Rattle.syntax.specs.Message.{Loc, Obj, Pair, Msg}
+use Rattle.grammar.specs.Cddl.{uint, array, LocatorItem, LocatorItems, Value, ObjectiveItem, PairItem, PairItems}
 use Rattle.message.specs.declared.Message.{Message}
 use Rattle.message.specs.declared.Series.{Series}
 use Rattle.message.specs.declared.Reading.{Reading}
 use Rattle.message.specs.Read.{mostBytes, readOf}
 use Rattle.exact.specs.Describes.{SeriesIs, AimIs, Describes}
 use Rattle.exact.proofs.Exact.{accepted-exactly, accepted-described}
-use Rattle.description.specs.Grasp.{oneMore}
+use Rattle.description.specs.Encoding.{oneMore}
 use Rattle.describe.specs.Rows as R
 use Rattle.roundtrip.proofs.Encodes.{has-bytes}
 use Rattle.rewrite.specs.Lent.{mostNumbers}
@@ -56,7 +56,7 @@ locator-six g (LocatorItem.domain {w} {k} {x = x} {y} i j) = led-six w k 105 _ x
 locator-six g (LocatorItem.uri {w} {k} {x = x} {y} i j) = led-six w k 106 _ x y (omega arith) (g .1 .0 .sized)
 
 -- an objective
-objective-four : {x : Item} {o : Obj} → ObjectiveItem x o → 4 ≤ length (encode x)
+objective-four : {x : Item} {o : Obj Value} → ObjectiveItem x o → 4 ≤ length (encode x)
 unfolding encode count
 objective-four (ObjectiveItem.bare f c) = simp (length-append, length-head) (omega arith)
 objective-four (ObjectiveItem.valued f c) = simp (length-append, length-head) (omega arith)
@@ -67,7 +67,7 @@ unfolding encode count
 two-more w x y = simp (length-append, length-head)
 
 -- a pair
-pair-six : {x : Item} {p : Obj × Option Loc} → PairItem x p → 6 ≤ length (encode x)
+pair-six : {x : Item} {p : Pair Value} → PairItem x p → 6 ≤ length (encode x)
 pair-six (PairItem.untagged {w} {v} {x} o) = omega (arith, two-more w x (array v []), objective-four o, one-byte (array v []))
 pair-six (PairItem.tagged {w} {x} {y} o l) = omega (arith, two-more w x y, objective-four o, one-byte y)
 
@@ -77,7 +77,7 @@ unfolding encode count
 locators-six g LocatorItems.empty = omega arith
 locators-six g (LocatorItems.more {x = x} {xs = xs} i is) = omega (arith, length-append (encode x) (encodes xs), locator-six (g .0) i, locators-six (g .1) is)
 
-pairs-six : {xs : Items} {ps : List (Obj × Option Loc)} → PairItems xs ps → 6 * count xs ≤ length (encodes xs)
+pairs-six : {xs : Items} {ps : List (Pair Value)} → PairItems xs ps → 6 * count xs ≤ length (encodes xs)
 unfolding encode count
 pairs-six PairItems.empty = omega arith
 pairs-six (PairItems.more {x = x} {xs = xs} i is) = omega (arith, length-append (encode x) (encodes xs), pair-six i, pairs-six is)
@@ -98,14 +98,14 @@ module _ {s : List ℕ} (few : length s ≤ mostBytes) (list : List ℕ) (long :
       fits list 5 (series .many) (omega (arith, i .many, i .stand .end, i .stand .within)) (omega (arith, i .many, i .stand .end, i .stand .within))
 
   -- of pairs
-  pairs-fit : {e : ℕ} {series : Series} {ps : List (Obj × Option Loc)} → SeriesIs s series e (λ xs. PairItems xs ps) → R.pairsEnd series list ≤ length list
+  pairs-fit : {e : ℕ} {series : Series} {ps : List (Pair Value)} → SeriesIs s series e (λ xs. PairItems xs ps) → R.pairsEnd series list ≤ length list
   unfolding R.pairsEnd
   pairs-fit {series = series} i =
       let six = pairs-six (i .are) in
       fits list 12 (series .many) (omega (arith, i .many, i .stand .end, i .stand .within)) (omega (arith, i .many, i .stand .end, i .stand .within))
 
   -- of a message
-  described-fit : {m : Message} {msg : Msg} → Describes s m msg → R.rowsEnd m list ≤ length list
+  described-fit : {m : Message} {msg : Msg Value} → Describes s m msg → R.rowsEnd m list ≤ length list
   unfolding R.rowsEnd R.rowsIn R.endBy R.targetRows
   described-fit Describes.noop = omega arith
   described-fit (Describes.discovery k n i o) = omega arith

@@ -4,7 +4,6 @@ use mathlib.Core.Path.{_≡_, sym, ap, _∙_, subst}
 use mathlib.Core.Logic.{inl, inr}
 use mathlib.Core.Bool.{Bool}
 use mathlib.Core.List.{List, _++_}
-use mathlib.Core.Option.{Option}
 use Prim.Native.Nat.{ℕ, _+_, _-_}
 use native.Mathlib.Omega.{arith}
 use lib.ListN.{length, take, drop, length-append}
@@ -13,13 +12,13 @@ use Rattle.cbor.specs.Tree.{Item, encode}
 use Rattle.options.specs.declared.Span.{Span}
 use Rattle.options.specs.declared.objective.Objective.{Objective}
 use Rattle.options.specs.Text.{spanOf, held}
-use Rattle.grammar.specs.Cddl.{Obj}
+use Rattle.syntax.specs.Message.{Obj, valuedObj}
+use Rattle.grammar.specs.Cddl.{Value}
 use Rattle.grammar.specs.Stands.{Stands, ValueIs, ObjectiveIs}
 use Rattle.grammar.proofs.Bridge.{text-token}
-use Rattle.description.specs.Grasp as W
 use Rattle.description.specs.Describe.{entryOf, objOf}
 use Rattle.describe.specs.Describe.{goalOf}
-use Rattle.roundtrip.specs.Plain.{plainItem, plainObj}
+use Rattle.roundtrip.specs.Plain.{valueBytes}
 use Rattle.roundtrip.specs.Says.{Inside, EntrySays}
 
 -- a span of these bytes
@@ -36,8 +35,8 @@ string-cuts {s} {e = e} {bs = bs} {span} a q =
     (record { inside = inr (omega (arith, string .end, a .within)); is = ap (λ (k : ℕ). take (length bs) (drop k s)) place ∙ string .content })
 
 -- an item, or none
-pub value-cuts : {s : List ℕ} {span : Span} {v : Option Item} → ValueIs s span v → Cuts s span (plainItem v)
-unfolding plainItem
+pub value-cuts : {s : List ℕ} {span : Span} {v : Value} → ValueIs s span v → Cuts s span (valueBytes v)
+unfolding valueBytes
 value-cuts {s} {span} (ValueIs.absent e) = record { inside = inl e; is = ap (λ (k : ℕ). take k (drop (span .at) s)) e }
 value-cuts {s} {span} (ValueIs.present {x} a) = record {
   inside = inr (a .within);
@@ -56,18 +55,18 @@ end-cuts {s} {span} before bs e q =
     })
 
 -- an objective, as the description has it
-pub record Goals (s : List ℕ) (o : Objective) (obj : Obj) : Type 0 where
+pub record Goals (s : List ℕ) (o : Objective) (obj : Obj Value) : Type 0 where
   pub says : EntrySays s (entryOf (goalOf o))
-  pub is : objOf s (entryOf (goalOf o)) ≡ plainObj obj
+  pub is : objOf s (entryOf (goalOf o)) ≡ valuedObj valueBytes obj
 
-pub objective-goals : {s : List ℕ} {p e : ℕ} {o : Objective} {obj : Obj} → ObjectiveIs s p e o obj → Goals s o obj
-unfolding entryOf goalOf objOf plainObj
+pub objective-goals : {s : List ℕ} {p e : ℕ} {o : Objective} {obj : Obj Value} → ObjectiveIs s p e o obj → Goals s o obj
+unfolding entryOf goalOf objOf valuedObj
 objective-goals {o = o} {obj} i =
     let name = string-cuts (i .name-item) (i .name) in
     let value = value-cuts (i .value) in
     record { says = record { name = name .inside; value = value .inside }; is = same (name .is) (i .flags) (i .count) (value .is) }
   where
-    of : List ℕ → ℕ → ℕ → List ℕ → W.Obj
+    of : List ℕ → ℕ → ℕ → List ℕ → Obj (List ℕ)
     of name flags count value = record { name = name; flags = flags; count = count; value = value }
 
     same : {n n′ v v′ : List ℕ} {f f′ c c′ : ℕ} → n ≡ n′ → f ≡ f′ → c ≡ c′ → v ≡ v′ → of n f c v ≡ of n′ f′ c′ v′

@@ -10,7 +10,8 @@ use Rattle.cbor.specs.Item.{mostLevels}
 use Rattle.cbor.specs.Tree.{Item, Items, Right, Sized, headBytes, count, encode, encodes, depth, Good}
 use Rattle.options.specs.declared.Span.{Span}
 use Rattle.options.specs.declared.objective.Objective.{Objective}
-use Rattle.grammar.specs.Cddl.{uint, text, array, Number, Initiator, Loc, Obj, ObjectiveItem, PairItem, PairItems, Msg, MessageItem}
+use Rattle.syntax.specs.Message.{Loc, Obj, Pair, Msg}
+use Rattle.grammar.specs.Cddl.{uint, text, array, Number, Initiator, ObjectiveItem, PairItem, PairItems, MessageItem, Value}
 use Rattle.grammar.specs.Stands.{Stands, ArrayHead, ObjectiveIs}
 use Rattle.grammar.proofs.Bridge.{split, only}
 use Rattle.message.specs.declared.Message.{Message}
@@ -19,7 +20,7 @@ use Rattle.roundtrip.specs.Lower.{withCount, lowerObj, lowerMsg, Lowers}
 use Rattle.roundtrip.proofs.Places.{past-head, past-item, stands-whole, opened-place}
 
 -- s is a message msg, whose count n has its head from `at` to `end`; its item, of no more levels than allowed, with any other head there
-pub record Hole (s : List ℕ) (at end n : ℕ) (msg : Msg) : Type 0 where
+pub record Hole (s : List ℕ) (at end n : ℕ) (msg : Msg Value) : Type 0 where
   pub item : ℕ → ℕ → Item
   pub before : List ℕ
   pub after : List ℕ
@@ -41,24 +42,24 @@ abbrev counted : ℕ → Item → Item → Items → ℕ → ℕ → Item
 counted a name flags vs w n = Item.array a (Items.more name (Items.more flags (Items.more (uint w n) vs)))
 
 -- an objective, with what makes its item one with any other count
-data Counted : Item → Obj → Type 0 where
-  of : {a b c d : ℕ} {vs : Items} {obj : Obj} → obj .count ≤ 255
+data Counted : Item → Obj Value → Type 0 where
+  of : {a b c d : ℕ} {vs : Items} {obj : Obj Value} → obj .count ≤ 255
       → ((w n : ℕ) → n ≤ 255 → ObjectiveItem (counted a (text b (obj .name)) (uint c (obj .flags)) vs w n) (withCount n obj))
       → Counted (counted a (text b (obj .name)) (uint c (obj .flags)) vs d (obj .count)) obj
 
 -- every objective's item is of that form
-counted-is : {x : Item} {obj : Obj} → ObjectiveItem x obj → Counted x obj
+counted-is : {x : Item} {obj : Obj Value} → ObjectiveItem x obj → Counted x obj
 unfolding withCount
 counted-is (ObjectiveItem.bare f c) = Counted.of c (λ w n h. ObjectiveItem.bare f h)
 counted-is (ObjectiveItem.valued f c) = Counted.of c (λ w n h. ObjectiveItem.valued f h)
 
 -- a pair's item, by its objective's
-data Paired : Item → Obj × Option Loc → Type 0 where
-  of : {w : ℕ} {x y : Item} {obj : Obj} {tag : Option Loc} → Counted x obj
-      → ((x′ : Item) (obj′ : Obj) → ObjectiveItem x′ obj′ → PairItem (array w (x′ ∷ y ∷ [])) (obj′, tag)) → Paired (array w (x ∷ y ∷ [])) (obj, tag)
+data Paired : Item → Pair Value → Type 0 where
+  of : {w : ℕ} {x y : Item} {obj : Obj Value} {tag : Option Loc} → Counted x obj
+      → ((x′ : Item) (obj′ : Obj Value) → ObjectiveItem x′ obj′ → PairItem (array w (x′ ∷ y ∷ [])) (obj′, tag)) → Paired (array w (x ∷ y ∷ [])) (obj, tag)
 
 -- and every pair's of this one
-paired-is : {x : Item} {p : Obj × Option Loc} → PairItem x p → Paired x p
+paired-is : {x : Item} {p : Pair Value} → PairItem x p → Paired x p
 paired-is (PairItem.untagged i) = Paired.of (counted-is i) (λ x obj j. PairItem.untagged j)
 paired-is (PairItem.tagged i l) = Paired.of (counted-is i) (λ x obj j. PairItem.tagged j l)
 
@@ -78,7 +79,7 @@ module _ (a : ℕ) (name flags : Item) (vs : Items) where
   length-front = simp length-append (omega arith)
 
 -- the count stands where the answer says
-count-place : {s : List ℕ} {p e e′ a w : ℕ} {name flags : Item} {vs : Items} {o : Objective} {obj : Obj} → Stands s p e (counted a name flags vs w (obj .count)) → ObjectiveIs s p e′ o obj
+count-place : {s : List ℕ} {p e e′ a w : ℕ} {name flags : Item} {vs : Items} {o : Objective} {obj : Obj Value} → Stands s p e (counted a name flags vs w (obj .count)) → ObjectiveIs s p e′ o obj
     → (o .«count_at» ≡ p + length (front a name flags vs)) × (o .value .at ≡ o .«count_at» + length (headBytes 0 w (obj .count)))
 unfolding encode count
 count-place {a = a} {name = name} {flags} {vs} x o =
@@ -94,7 +95,7 @@ one-less : {n : ℕ} → n ≤ 255 → n - 1 ≤ 255
 one-less h = omega arith
 
 -- a Discovery's count
-discovery-hole : {s : List ℕ} {w k p q r session : ℕ} {i : Span} {from : List ℕ} {y z x : Item} {o : Objective} {obj : Obj}
+discovery-hole : {s : List ℕ} {w k p q r session : ℕ} {i : Span} {from : List ℕ} {y z x : Item} {o : Objective} {obj : Obj Value}
     → KindIs s 1 p → NumberIs s p q session → InitiatorIs s q r i from → ObjectiveIs s r (length s) o obj
     → Number y session → Initiator z from → Counted x obj → Stands s 0 (length s) (array w (uint k 1 ∷ y ∷ z ∷ x ∷ []))
     → depth (array w (uint k 1 ∷ y ∷ z ∷ x ∷ [])) ≤ mostLevels → encode (array w (uint k 1 ∷ y ∷ z ∷ x ∷ [])) ≡ s
@@ -125,7 +126,7 @@ discovery-hole {w = w} {k} {y = y} {z} {o = o} kind number initiator objective s
     }
 
 -- a Flood's first count
-flood-hole : {s : List ℕ} {w k p q r session ttl t a e : ℕ} {i : Span} {from : List ℕ} {y z v x : Item} {xs : Items} {o : Objective} {obj : Obj} {loc : Option Loc} {ps : List (Obj × Option Loc)}
+flood-hole : {s : List ℕ} {w k p q r session ttl t a e : ℕ} {i : Span} {from : List ℕ} {y z v x : Item} {xs : Items} {o : Objective} {obj : Obj Value} {loc : Option Loc} {ps : List (Pair Value)}
     → KindIs s 9 p → NumberIs s p q session → InitiatorIs s q r i from → NumberIs s r t ttl → ArrayHead s t a 2 → ObjectiveIs s a e o obj
     → Number y session → Initiator z from → Number v ttl → Paired x (obj, loc) → PairItems xs ps
     → Stands s 0 (length s) (Item.array w (Items.more (uint k 9) (Items.more y (Items.more z (Items.more v (Items.more x xs))))))
@@ -164,7 +165,7 @@ flood-hole {s} {w} {k} {y = y} {z} {v} {xs = xs} {o} kind number initiator live 
     }
 
 -- a message that was read, and the objective whose count a relay lowers
-pub hole : {s : List ℕ} {m : Message} {msg : Msg} {x : Item} {o : Objective} → Lowers m o → Describes s m msg → MessageItem x msg → Good x → depth x ≤ mostLevels → encode x ≡ s
+pub hole : {s : List ℕ} {m : Message} {msg : Msg Value} {x : Item} {o : Objective} → Lowers m o → Describes s m msg → MessageItem x msg → Good x → depth x ≤ mostLevels → encode x ≡ s
     → Hole s (o .«count_at») (o .value .at) (o .count) msg
 hole Lowers.discovery (Describes.discovery kind number initiator objective) (MessageItem.discovery sy sz i) g deep e =
     discovery-hole kind number initiator objective sy sz (counted-is i) (stands-whole g e) deep e

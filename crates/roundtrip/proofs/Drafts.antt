@@ -1,7 +1,8 @@
--- What is written for a description of a source of bytes is made of bytes, and is of a known kind.
+-- What is written for a description of a source of bytes is made of bytes.
 -- Assumes nothing.
 use mathlib.Core.Bool.{true, false}
-use mathlib.Core.List.{List, [], _∷_, _++_}
+use mathlib.Core.List.{List, [], _∷_, _++_, flatMap}
+use mathlib.Core.Option.{Option, none, some}
 use Prim.Native.Nat.{ℕ, _+_, _*_, _/_, _<_}
 use native.Mathlib.Omega.{arith}
 use lib.Dec.{eqb, lit<}
@@ -13,6 +14,7 @@ use Rattle.base.proofs.Picks.{both}
 use Rattle.cbor.specs.Put.{head}
 use Rattle.cbor.specs.Tree.{infoOf, shortest, headBytes}
 use Rattle.options.specs.declared.Span.{Span}
+use Rattle.syntax.specs.Message.{orNull}
 use Rattle.description.specs.declared.rows.Entry.{Entry}
 use Rattle.description.specs.declared.rows.Place.{Place}
 use Rattle.description.specs.declared.Extra.{Extra}
@@ -21,37 +23,12 @@ use Rattle.description.specs.declared.Ending.{Ending}
 use Rattle.description.specs.declared.Ending.the-variants as E
 use Rattle.description.specs.declared.Description.{Description}
 use Rattle.description.specs.declared.Description.the-variants as D
-use Rattle.description.specs.Grasp.{Maybe, Loc, Pair, string, numberOrNull, reached, fixed, encodeLoc, encodeLocs, encodeObj, maybeObj, locOrEmpty, encodePair, encodePairs, encodeTargets, reason, opening, encodeMsg}
-use Rattle.description.specs.Describe.{placeRow, pairRow, entryRow, entryOf, objOf, orNull, locOf, placeAt, entryAt, rowLoc, locsOf, targetsOf, extraOf, locOrNone, rowPair, pairsOf, endOf, msgOf}
+use Rattle.description.specs.Encoding.{string, numberOrNull, reached, fixed, encodeLoc, encodeObj, maybeObj, locOrEmpty, encodePair, encodeTargets, encodeEnding, opening, exchange, encodeMsg}
+use Rattle.description.specs.Describe.{placeRow, pairRow, entryRow, entryOf, objOf, locOf, placeAt, entryAt, rowLoc, locsOf, targetsOf, extraOf, locOrNone, rowPair, pairsOf, endOf, msgOf}
 use Rattle.roundtrip.proofs.Bytes.{bytes-append, bytes-more, bytes-none, bytes-of}
 use Rattle.roundtrip.proofs.Script.{info-least}
-use Rattle.roundtrip.proofs.Once.{Told}
 use Rattle.roundtrip.proofs.Judged.{bytes-held, up-to-exactly}
 
--- ---- the kind
--- an End's
-end-told : (source : List ℕ) (s : ℕ) (e : Ending) → Told 6 (endOf source s e)
-unfolding endOf
-end-told source s E.Accept = Told.accept
-end-told source s E.Decline = Told.decline
-end-told source s (E.Reason t) = Told.decline
-
--- Every description speaks of a known kind.
-pub described-told : (source list : List ℕ) (d : Description) → (k : ℕ) × Told k (msgOf source list d)
-unfolding msgOf
-described-told source list D.Noop = (0, Told.noop)
-described-told source list (D.Discovery s i o) = (1, Told.discovery)
-described-told source list (D.Response s i t d o) = (2, Told.response)
-described-told source list (D.RequestNegotiation s o) = (3, Told.request-negotiation)
-described-told source list (D.RequestSynchronization s o) = (4, Told.request-synchronization)
-described-told source list (D.Negotiate s o) = (5, Told.negotiate)
-described-told source list (D.End s e) = (6, end-told source s e)
-described-told source list (D.Wait s t) = (7, Told.wait)
-described-told source list (D.Synch s o) = (8, Told.synch)
-described-told source list (D.Flood s i t) = (9, Told.flood)
-described-told source list (D.Invalid s v) = (99, Told.invalid)
-
--- ---- the bytes
 record AllBytes (s : List ℕ) : Type 0 where
   are : Bytes s
 
@@ -78,22 +55,16 @@ number-bytes : (n : ℕ) → AllBytes (head 0 n)
 number-bytes n = head-bytes 0 n (lit< tt)
 
 -- a number or null
-or-null-bytes : (n : Maybe ℕ) → AllBytes (numberOrNull n)
+or-null-bytes : (n : Option ℕ) → AllBytes (numberOrNull n)
 unfolding numberOrNull
-or-null-bytes Maybe.none = record { are = bytes-more 0xf6 [] (lit< tt) bytes-none }
-or-null-bytes (Maybe.some n) = number-bytes n
+or-null-bytes none = record { are = bytes-more 0xf6 [] (lit< tt) bytes-none }
+or-null-bytes (some n) = number-bytes n
 
--- locators
-locators-bytes : (ls : List Loc) → Every (λ l. AllBytes (encodeLoc l)) ls → AllBytes (encodeLocs ls)
-unfolding encodeLocs
-locators-bytes [] h = no-bytes
-locators-bytes (l ∷ ls) h = then (h .0) (locators-bytes ls (h .1))
-
--- pairs
-pairs-bytes : (ps : List Pair) → Every (λ p. AllBytes (encodePair p)) ps → AllBytes (encodePairs ps)
-unfolding encodePairs
-pairs-bytes [] h = no-bytes
-pairs-bytes (p ∷ ps) h = then (h .0) (pairs-bytes ps (h .1))
+-- each of a list
+all-bytes : {A : Type 0} (encode : A → List ℕ) (xs : List A) → Every (λ x. AllBytes (encode x)) xs → AllBytes (flatMap encode xs)
+unfolding flatMap
+all-bytes encode [] h = no-bytes
+all-bytes encode (x ∷ xs) h = then (h .0) (all-bytes encode xs (h .1))
 
 -- a message's first items
 opening-bytes : (n kind session : ℕ) → AllBytes (opening n kind session)
@@ -135,10 +106,10 @@ module _ (source : List ℕ) (b : Bytes source) where
       then (then (then (then (array-bytes _) (text-bytes (o .name))) (number-bytes (o .flags))) (number-bytes (o .count))) (record { are = bytes-held source (o .value) b })
 
   -- the locators of a list
-  rows-bytes : (list : List ℕ) → AllBytes (encodeLocs (locsOf source list))
+  rows-bytes : (list : List ℕ) → AllBytes (flatMap encodeLoc (locsOf source list))
   unfolding locsOf rowLoc
   rows-bytes list =
-      locators-bytes (locsOf source list)
+      all-bytes encodeLoc (locsOf source list)
       (up-to-exactly (λ l. AllBytes (encodeLoc l)) (rowLoc source list) (length list / placeRow) .1 (λ i l. locator-bytes (placeAt list (placeRow * i))))
 
   -- a pair's locator or none
@@ -157,26 +128,36 @@ module _ (source : List ℕ) (b : Bytes source) where
   extra-bytes X.Without = no-bytes
   extra-bytes (X.With o) = objective-bytes (entryOf o)
 
+  -- kinds 3, 4, 5 and 8
+  exchange-bytes : (kind session : ℕ) (o : Entry) → AllBytes (exchange kind session (objOf source o))
+  unfolding exchange
+  exchange-bytes kind session o = then (opening-bytes 3 kind session) (objective-bytes o)
+
+  -- how a negotiation ends
+  ending-bytes : (e : Ending) → AllBytes (encodeEnding (endOf source e))
+  unfolding endOf encodeEnding
+  ending-bytes E.Accept = then (array-bytes 1) (number-bytes 101)
+  ending-bytes E.Decline = then (array-bytes 1) (number-bytes 102)
+  ending-bytes (E.Reason t) = then (then (array-bytes 2) (number-bytes 102)) (text-bytes t)
+
   -- a described message
   message-bytes : (list : List ℕ) (d : Description) → AllBytes (encodeMsg (msgOf source list d))
-  unfolding msgOf encodeMsg pairsOf targetsOf encodeTargets endOf reason
+  unfolding msgOf encodeMsg pairsOf targetsOf encodeTargets
   message-bytes list D.Noop = then (array-bytes 1) (number-bytes 0)
   message-bytes list (D.Discovery s i o) = then (then (opening-bytes 4 1 s) (address-bytes i)) (objective-bytes (entryOf o))
   message-bytes list (D.Response s i t false o) =
       then (then (then (then (opening-bytes _ 2 s) (address-bytes i)) (number-bytes t)) (rows-bytes list)) (extra-bytes o)
   message-bytes list (D.Response s i t true o) =
       then (then (then (then (opening-bytes _ 2 s) (address-bytes i)) (number-bytes t)) (then (then (array-bytes _) (number-bytes 100)) (rows-bytes list))) (extra-bytes o)
-  message-bytes list (D.RequestNegotiation s o) = then (opening-bytes 3 3 s) (objective-bytes (entryOf o))
-  message-bytes list (D.RequestSynchronization s o) = then (opening-bytes 3 4 s) (objective-bytes (entryOf o))
-  message-bytes list (D.Negotiate s o) = then (opening-bytes 3 5 s) (objective-bytes (entryOf o))
-  message-bytes list (D.End s E.Accept) = then (then (opening-bytes 3 6 s) (array-bytes 1)) (number-bytes 101)
-  message-bytes list (D.End s E.Decline) = then (then (then (opening-bytes 3 6 s) (array-bytes _)) (number-bytes 102)) no-bytes
-  message-bytes list (D.End s (E.Reason t)) = then (then (then (opening-bytes 3 6 s) (array-bytes _)) (number-bytes 102)) (text-bytes t)
+  message-bytes list (D.RequestNegotiation s o) = exchange-bytes 3 s (entryOf o)
+  message-bytes list (D.RequestSynchronization s o) = exchange-bytes 4 s (entryOf o)
+  message-bytes list (D.Negotiate s o) = exchange-bytes 5 s (entryOf o)
+  message-bytes list (D.End s e) = then (opening-bytes 3 6 s) (ending-bytes e)
   message-bytes list (D.Wait s t) = then (opening-bytes 3 7 s) (number-bytes t)
-  message-bytes list (D.Synch s o) = then (opening-bytes 3 8 s) (objective-bytes (entryOf o))
+  message-bytes list (D.Synch s o) = exchange-bytes 8 s (entryOf o)
   message-bytes list (D.Flood s i t) =
       then (then (then (opening-bytes _ 9 s) (address-bytes i)) (number-bytes t))
-      (pairs-bytes (pairsOf source list)
+      (all-bytes encodePair (pairsOf source list)
       (up-to-exactly (λ p. AllBytes (encodePair p)) (rowPair source list) (length list / pairRow) .1 (λ i l. pair-bytes list i)))
   message-bytes list (D.Invalid s v) = then (opening-bytes _ 99 s) (record { are = bytes-held source v b })
 

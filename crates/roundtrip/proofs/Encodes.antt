@@ -1,8 +1,8 @@
 -- An item without fault that is a message is encoded as the writer encodes that message: every head is the shortest one.
 -- Assumes nothing.
 use mathlib.Core.Path.{_≡_, refl, ap, _∙_}
-use mathlib.Core.List.{List, [], _∷_, _++_, append-assoc, append-nil}
-use mathlib.Core.Option.{Option}
+use mathlib.Core.List.{List, [], _∷_, _++_, map, flatMap, append-assoc, append-nil}
+use mathlib.Core.Option.{Option, Option·map}
 use Prim.Native.Nat.{ℕ, suc, _+_, _≤_, _<_}
 use native.Mathlib.Numerals.{one-add}
 use native.Mathlib.Omega.{arith}
@@ -14,9 +14,11 @@ use Rattle.cbor.specs.Put.{head}
 use Rattle.cbor.specs.Tree.{Item, Items, Right, Sized, shortest, infoOf, headBytes, count, encode, encodes, Good, Goods}
 use Rattle.cbor.proofs.HeadExact.{shortest-case}
 use Rattle.base.specs.BigEndian.{bytesOf}
-use Rattle.grammar.specs.Cddl as G
-use Rattle.description.specs.Grasp as W
-use Rattle.roundtrip.specs.Plain.{plainMaybe, plainAll, plainItem, plainObj, plainNumber, plainLoc, plainPair, plainAim, plainEnd, plain}
+use Rattle.syntax.specs.Message.{Loc, Obj, Pair, Aim, Ending, Msg, valuedObj, valuedPair, valued}
+use Rattle.grammar.specs.Cddl.{uint, list, array, Protocol, Port, OrNull, LocatorItem, LocatorItems, Value, ObjectiveItem, PairItem, PairItems, Number, Initiator, OptionalItems, joined, AimItems, EndingItem, MessageItem}
+use Rattle.description.specs.Encoding.{string, numberOrNull, reached, fixed, encodeLoc, oneMore, encodeObj, maybeObj, howMany, locOrEmpty, encodePair, targetItems, encodeTargets, encodeEnding, opening, exchange, encodeMsg}
+use Rattle.exact.proofs.Described.{locators-count, pairs-count}
+use Rattle.roundtrip.specs.Plain.{valueBytes, plain}
 
 -- ---- heads
 -- no other width than the shortest is without fault
@@ -50,8 +52,8 @@ array-head : {w n : ℕ} → Right 4 w n → headBytes 4 w n ≡ head 4 n
 array-head = short-head (lit< tt)
 
 -- an item has bytes
-pub has-bytes : (x : Item) → W.oneMore (encode x) ≡ 1
-unfolding W.oneMore encode headBytes
+pub has-bytes : (x : Item) → oneMore (encode x) ≡ 1
+unfolding oneMore encode headBytes
 has-bytes (Item.number a b c) = refl
 has-bytes (Item.string a b c) = refl
 has-bytes (Item.array a b) = refl
@@ -61,141 +63,134 @@ has-bytes (Item.simple a b) = refl
 
 -- ---- the parts
 -- a session, a TTL or a waiting time
-number-encodes : {x : Item} {n : ℕ} → Good x → G.Number x n → encode x ≡ head 0 n
+number-encodes : {x : Item} {n : ℕ} → Good x → Number x n → encode x ≡ head 0 n
 unfolding encode
-number-encodes g (G.Number.number _) = number-head g
+number-encodes g (Number.number _) = number-head g
 
 -- an initiator
-initiator-encodes : {x : Item} {bs : List ℕ} → Good x → G.Initiator x bs → encode x ≡ W.string 2 bs
-unfolding encode W.string
-initiator-encodes g (G.Initiator.initiator _) = rw (bytes-head (g .0))
+initiator-encodes : {x : Item} {bs : List ℕ} → Good x → Initiator x bs → encode x ≡ string 2 bs
+unfolding encode string
+initiator-encodes g (Initiator.initiator _) = rw (bytes-head (g .0))
 
 -- an objective, with or without a value
-objective-encodes : {x : Item} {o : G.Obj} → Good x → G.ObjectiveItem x o → encode x ≡ W.encodeObj (plainObj o)
-unfolding encode count W.encodeObj W.string plainObj plainItem W.oneMore
-objective-encodes g (G.ObjectiveItem.bare _ _) =
+objective-encodes : {x : Item} {o : Obj Value} → Good x → ObjectiveItem x o → encode x ≡ encodeObj (valuedObj valueBytes o)
+unfolding encode count encodeObj string valuedObj valueBytes oneMore
+objective-encodes g (ObjectiveItem.bare _ _) =
     rw (array-head (g .0), text-head (g .1 .0 .0), number-head (g .1 .1 .0), number-head (g .1 .1 .1 .0)) (simp (append-assoc, append-nil))
-objective-encodes g (G.ObjectiveItem.valued {x = x} _ _) =
+objective-encodes g (ObjectiveItem.valued {x = x} _ _) =
     rw (array-head (g .0), text-head (g .1 .0 .0), number-head (g .1 .1 .0), number-head (g .1 .1 .1 .0), has-bytes x) (simp (append-assoc, append-nil))
 
 -- a locator's protocol
-protocol-encodes : {x : Item} {n : ℕ} → Good x → G.Protocol x n → encode x ≡ head 0 n
+protocol-encodes : {x : Item} {n : ℕ} → Good x → Protocol x n → encode x ≡ head 0 n
 unfolding encode
-protocol-encodes g G.Protocol.tcp = number-head g
-protocol-encodes g G.Protocol.udp = number-head g
+protocol-encodes g Protocol.tcp = number-head g
+protocol-encodes g Protocol.udp = number-head g
 
 -- and its port
-port-encodes : {x : Item} {n : ℕ} → Good x → G.Port x n → encode x ≡ head 0 n
+port-encodes : {x : Item} {n : ℕ} → Good x → Port x n → encode x ≡ head 0 n
 unfolding encode
-port-encodes g (G.Port.port _) = number-head g
+port-encodes g (Port.port _) = number-head g
 
 -- or null, in one byte
-or-null-encodes : {P : Item → ℕ → Type 0} {x : Item} {n : Option ℕ} → ((m : ℕ) → P x m → encode x ≡ head 0 m) → G.OrNull P x n → encode x ≡ W.numberOrNull (plainNumber n)
-unfolding encode headBytes infoOf bytesOf pick W.numberOrNull plainNumber plainMaybe
-or-null-encodes f G.OrNull.is-null = refl
-or-null-encodes f (G.OrNull.is {n = n} i) = f n i
+or-null-encodes : {P : Item → ℕ → Type 0} {x : Item} {n : Option ℕ} → ((m : ℕ) → P x m → encode x ≡ head 0 m) → OrNull P x n → encode x ≡ numberOrNull n
+unfolding encode headBytes infoOf bytesOf pick numberOrNull
+or-null-encodes f OrNull.is-null = refl
+or-null-encodes f (OrNull.is {n = n} i) = f n i
 
 -- each of the four locators
-locator-encodes : {x : Item} {l : G.Loc} → Good x → G.LocatorItem x l → encode x ≡ W.encodeLoc (plainLoc l)
-unfolding encode count W.encodeLoc W.fixed W.reached W.string plainLoc
-locator-encodes g (G.LocatorItem.v6 _ i j) =
+locator-encodes : {x : Item} {l : Loc} → Good x → LocatorItem x l → encode x ≡ encodeLoc l
+unfolding encode count encodeLoc fixed reached string
+locator-encodes g (LocatorItem.v6 _ i j) =
     rw (array-head (g .0), number-head (g .1 .0), bytes-head (g .1 .1 .0 .0), protocol-encodes (g .1 .1 .1 .0) i, port-encodes (g .1 .1 .1 .1 .0) j) (simp (append-assoc, append-nil))
-locator-encodes g (G.LocatorItem.v4 _ i j) =
+locator-encodes g (LocatorItem.v4 _ i j) =
     rw (array-head (g .0), number-head (g .1 .0), bytes-head (g .1 .1 .0 .0), protocol-encodes (g .1 .1 .1 .0) i, port-encodes (g .1 .1 .1 .1 .0) j) (simp (append-assoc, append-nil))
-locator-encodes g (G.LocatorItem.domain i j) =
+locator-encodes g (LocatorItem.domain i j) =
     rw (array-head (g .0), number-head (g .1 .0), text-head (g .1 .1 .0 .0), protocol-encodes (g .1 .1 .1 .0) i, port-encodes (g .1 .1 .1 .1 .0) j) (simp (append-assoc, append-nil))
-locator-encodes g (G.LocatorItem.uri i j) =
+locator-encodes g (LocatorItem.uri i j) =
     rw (array-head (g .0), number-head (g .1 .0), text-head (g .1 .1 .0 .0), or-null-encodes (λ n. protocol-encodes (g .1 .1 .1 .0)) i, or-null-encodes (λ n. port-encodes (g .1 .1 .1 .1 .0)) j)
     (simp (append-assoc, append-nil))
 
--- ---- lists: their bytes, and how many they are
+-- ---- lists
 -- locators
-locators-encode : {xs : Items} {ls : List G.Loc} → Goods xs → G.LocatorItems xs ls → encodes xs ≡ W.encodeLocs (plainAll plainLoc ls)
-unfolding encode W.encodeLocs plainAll
-locators-encode g G.LocatorItems.empty = refl
-locators-encode g (G.LocatorItems.more i is) = rw (locator-encodes (g .0) i, locators-encode (g .1) is)
-
--- so many as there are
-locators-count : {xs : Items} {ls : List G.Loc} → G.LocatorItems xs ls → count xs ≡ length (plainAll plainLoc ls)
-unfolding count plainAll
-locators-count G.LocatorItems.empty = refl
-locators-count (G.LocatorItems.more i is) = ap suc (locators-count is)
+locators-encode : {xs : Items} {ls : List Loc} → Goods xs → LocatorItems xs ls → encodes xs ≡ flatMap encodeLoc ls
+unfolding encode flatMap
+locators-encode g LocatorItems.empty = refl
+locators-encode g (LocatorItems.more i is) = rw (locator-encodes (g .0) i, locators-encode (g .1) is)
 
 -- a pair, with a locator or an empty array
-pair-encodes : {x : Item} {p : G.Obj × Option G.Loc} → Good x → G.PairItem x p → encode x ≡ W.encodePair (plainPair p)
-unfolding encode count W.encodePair W.locOrEmpty plainPair plainMaybe
-pair-encodes g (G.PairItem.untagged o) = rw (array-head (g .0), objective-encodes (g .1 .0) o, array-head (g .1 .1 .0 .0)) (simp (append-assoc, append-nil))
-pair-encodes g (G.PairItem.tagged o l) = rw (array-head (g .0), objective-encodes (g .1 .0) o, locator-encodes (g .1 .1 .0) l) (simp (append-assoc, append-nil))
+pair-encodes : {x : Item} {p : Pair Value} → Good x → PairItem x p → encode x ≡ encodePair (valuedPair valueBytes p)
+unfolding encode count encodePair locOrEmpty valuedPair
+pair-encodes g (PairItem.untagged o) = rw (array-head (g .0), objective-encodes (g .1 .0) o, array-head (g .1 .1 .0 .0)) (simp (append-assoc, append-nil))
+pair-encodes g (PairItem.tagged o l) = rw (array-head (g .0), objective-encodes (g .1 .0) o, locator-encodes (g .1 .1 .0) l) (simp (append-assoc, append-nil))
 
 -- pairs
-pairs-encode : {xs : Items} {ps : List (G.Obj × Option G.Loc)} → Goods xs → G.PairItems xs ps → encodes xs ≡ W.encodePairs (plainAll plainPair ps)
-unfolding encode W.encodePairs plainAll
-pairs-encode g G.PairItems.empty = refl
-pairs-encode g (G.PairItems.more i is) = rw (pair-encodes (g .0) i, pairs-encode (g .1) is)
+pairs-encode : {xs : Items} {ps : List (Pair Value)} → Goods xs → PairItems xs ps → encodes xs ≡ flatMap encodePair (map (valuedPair valueBytes) ps)
+unfolding encode flatMap
+pairs-encode g PairItems.empty = refl
+pairs-encode g (PairItems.more i is) = rw (pair-encodes (g .0) i, pairs-encode (g .1) is)
 
 -- so many as there are
-pairs-count : {xs : Items} {ps : List (G.Obj × Option G.Loc)} → G.PairItems xs ps → count xs ≡ length (plainAll plainPair ps)
-unfolding count plainAll
-pairs-count G.PairItems.empty = refl
-pairs-count (G.PairItems.more i is) = ap suc (pairs-count is)
+pub pairs-many : (ps : List (Pair Value)) → length ps ≡ length (map (valuedPair valueBytes) ps)
+pairs-many [] = refl
+pairs-many (p ∷ ps) = ap suc (pairs-many ps)
 
 -- ---- one list after the other
 -- their bytes
-joined-encodes : (xs ys : Items) → encodes (G.joined xs ys) ≡ encodes xs ++ encodes ys
+joined-encodes : (xs ys : Items) → encodes (joined xs ys) ≡ encodes xs ++ encodes ys
 unfolding encode
 joined-encodes Items.done ys = refl
 joined-encodes (Items.more x xs) ys = rw (joined-encodes xs ys, append-assoc)
 
 -- their number
-joined-count : (xs ys : Items) → count (G.joined xs ys) ≡ count xs + count ys
+joined-count : (xs ys : Items) → count (joined xs ys) ≡ count xs + count ys
 unfolding count
 joined-count Items.done ys = omega arith
 joined-count (Items.more x xs) ys = omega (arith, joined-count xs ys)
 
 -- and both are without fault
-pub joined-goods : (xs ys : Items) → Goods (G.joined xs ys) → Goods xs × Goods ys
+pub joined-goods : (xs ys : Items) → Goods (joined xs ys) → Goods xs × Goods ys
 joined-goods Items.done ys g = (tt, g)
 joined-goods (Items.more x xs) ys g = let (a, b) = joined-goods xs ys (g .1) in ((g .0, a), b)
 
 -- an objective that may be left out
-optional-encodes : {ys : Items} {o : Option G.Obj} → Goods ys → G.OptionalItems ys o
-    → (encodes ys ≡ W.maybeObj (plainMaybe plainObj o)) × (count ys ≡ W.howMany (plainMaybe plainObj o))
-unfolding encode count W.maybeObj W.howMany plainMaybe
-optional-encodes g G.OptionalItems.without = (refl, refl)
-optional-encodes g (G.OptionalItems.with-one i) = (append-nil _ ∙ objective-encodes (g .0) i, refl)
+optional-encodes : {ys : Items} {o : Option (Obj Value)} → Goods ys → OptionalItems ys o
+    → (encodes ys ≡ maybeObj (Option·map (valuedObj valueBytes) o)) × (count ys ≡ howMany (Option·map (valuedObj valueBytes) o))
+unfolding encode count maybeObj howMany
+optional-encodes g OptionalItems.without = (refl, refl)
+optional-encodes g (OptionalItems.with-one i) = (append-nil _ ∙ objective-encodes (g .0) i, refl)
 
 -- a Response's locators or divert, and its objective
-aim-encodes : {xs : Items} {aim : G.Aim} {o : Option G.Obj} → Goods xs → G.AimItems xs aim o
-    → (encodes xs ≡ W.encodeTargets (plainAim aim) ++ W.maybeObj (plainMaybe plainObj o)) × (count xs ≡ W.targetItems (plainAim aim) + W.howMany (plainMaybe plainObj o))
-unfolding encode count W.encodeTargets W.targetItems plainAim
-aim-encodes g (G.AimItems.locators {xs = xs} {ys = ys} is i) =
+aim-encodes : {xs : Items} {aim : Aim} {o : Option (Obj Value)} → Goods xs → AimItems xs aim o
+    → (encodes xs ≡ encodeTargets aim ++ maybeObj (Option·map (valuedObj valueBytes) o)) × (count xs ≡ targetItems aim + howMany (Option·map (valuedObj valueBytes) o))
+unfolding encode count encodeTargets targetItems
+aim-encodes g (AimItems.locators {xs = xs} {ys = ys} is i) =
     let (gs, gy) = joined-goods xs ys g in
     let (bytes, many) = optional-encodes gy i in
     (rw (joined-encodes xs ys, locators-encode gs is, bytes), rw (joined-count xs ys, locators-count is, many))
-aim-encodes g (G.AimItems.divert is i) =
+aim-encodes g (AimItems.divert is i) =
     let (bytes, many) = optional-encodes (g .1) i in (
       rw (array-head (g .0 .0), number-head (g .0 .1 .0), locators-encode (g .0 .1 .1) is, bytes, locators-count is, one-add) (simp append-assoc),
       ap suc many ∙ omega arith,
     )
 
 -- how a negotiation ends
-end-encodes : {x : Item} {e : G.Ending} (session : ℕ) → Good x → G.EndingItem x e → W.opening 3 6 session ++ encode x ≡ W.encodeMsg (plainEnd session e)
-unfolding encode count W.encodeMsg W.howMany W.reason W.string plainEnd
-end-encodes session g G.EndingItem.accept = rw (array-head (g .0), number-head (g .1 .0)) (simp (append-assoc, append-nil))
-end-encodes session g G.EndingItem.decline = rw (array-head (g .0), number-head (g .1 .0)) (simp (append-assoc, append-nil))
-end-encodes session g G.EndingItem.reason = rw (array-head (g .0), number-head (g .1 .0), text-head (g .1 .1 .0 .0)) (simp (append-assoc, append-nil))
+ending-encodes : {x : Item} {e : Ending} → Good x → EndingItem x e → encode x ≡ encodeEnding e
+unfolding encode count encodeEnding string
+ending-encodes g EndingItem.accept = rw (array-head (g .0), number-head (g .1 .0)) (simp append-nil)
+ending-encodes g EndingItem.decline = rw (array-head (g .0), number-head (g .1 .0)) (simp append-nil)
+ending-encodes g EndingItem.reason = rw (array-head (g .0), number-head (g .1 .0), text-head (g .1 .1 .0 .0)) (simp (append-assoc, append-nil))
 
 -- an array whose first items are a kind and a session
-opening-encodes : {w k kind session : ℕ} {s : Item} (xs : Items) → Good (Item.array w (Items.more (G.uint k kind) (Items.more s xs))) → G.Number s session
-    → encode (Item.array w (Items.more (G.uint k kind) (Items.more s xs))) ≡ W.opening (suc (suc (count xs))) kind session ++ encodes xs
-unfolding encode count W.opening
+opening-encodes : {w k kind session : ℕ} {s : Item} (xs : Items) → Good (Item.array w (Items.more (uint k kind) (Items.more s xs))) → Number s session
+    → encode (Item.array w (Items.more (uint k kind) (Items.more s xs))) ≡ opening (suc (suc (count xs))) kind session ++ encodes xs
+unfolding encode count opening
 opening-encodes xs g i = rw (array-head (g .0), number-head (g .1 .0), number-encodes (g .1 .1 .0) i) (simp append-assoc)
 
 -- a kind, a session and an objective
-exchange-encodes : {w k kind session : ℕ} {s x : Item} {o : G.Obj} → Good (G.array w (G.uint k kind ∷ s ∷ x ∷ [])) → G.Number s session → G.ObjectiveItem x o
-    → encode (G.array w (G.uint k kind ∷ s ∷ x ∷ [])) ≡ W.encodeMsg (W.Msg.exchange kind session (plainObj o))
-unfolding encode count W.encodeMsg
-exchange-encodes {x = x} g i o = opening-encodes (G.list (x ∷ [])) g i ∙ rw (objective-encodes (g .1 .1 .1 .0) o) (simp append-nil)
+exchange-encodes : {w k kind session : ℕ} {s x : Item} {o : Obj Value} → Good (array w (uint k kind ∷ s ∷ x ∷ [])) → Number s session → ObjectiveItem x o
+    → encode (array w (uint k kind ∷ s ∷ x ∷ [])) ≡ exchange kind session (valuedObj valueBytes o)
+unfolding encode count exchange
+exchange-encodes {x = x} g i o = opening-encodes (list (x ∷ [])) g i ∙ rw (objective-encodes (g .1 .1 .1 .0) o) (simp append-nil)
 
 -- four items, and n more
 four-more : (n : ℕ) → 4 + n ≡ suc (suc (suc (suc n)))
@@ -204,23 +199,23 @@ four-more n = omega arith
 -- for readers
 
 -- A message's item without fault has the bytes that the writer gives the message.
-pub plain-encodes : {x : Item} {msg : G.Msg} → Good x → G.MessageItem x msg → encode x ≡ W.encodeMsg (plain msg)
-unfolding encode count W.encodeMsg W.oneMore plain plainItem
-plain-encodes g G.MessageItem.noop = rw (array-head (g .0), number-head (g .1 .0)) (simp append-nil)
-plain-encodes g (G.MessageItem.discovery {i = y} {x = x} i j o) =
-    opening-encodes (G.list (y ∷ x ∷ [])) g i ∙ rw (initiator-encodes (g .1 .1 .1 .0) j, objective-encodes (g .1 .1 .1 .1 .0) o) (simp (append-assoc, append-nil))
-plain-encodes g (G.MessageItem.response {i = y} {t = z} {xs = xs} i j t is) =
+pub plain-encodes : {x : Item} {msg : Msg Value} → Good x → MessageItem x msg → encode x ≡ encodeMsg (plain msg)
+unfolding encode count encodeMsg oneMore plain valued valueBytes
+plain-encodes g MessageItem.noop = rw (array-head (g .0), number-head (g .1 .0)) (simp append-nil)
+plain-encodes g (MessageItem.discovery {i = y} {x = x} i j o) =
+    opening-encodes (list (y ∷ x ∷ [])) g i ∙ rw (initiator-encodes (g .1 .1 .1 .0) j, objective-encodes (g .1 .1 .1 .1 .0) o) (simp (append-assoc, append-nil))
+plain-encodes g (MessageItem.response {i = y} {t = z} {xs = xs} i j t is) =
     let (bytes, many) = aim-encodes (g .1 .1 .1 .1 .1) is in
     opening-encodes (Items.more y (Items.more z xs)) g i
     ∙ rw (initiator-encodes (g .1 .1 .1 .0) j, number-encodes (g .1 .1 .1 .1 .0) t, bytes, many) (simp (append-assoc, four-more))
-plain-encodes g (G.MessageItem.request-negotiation i o) = exchange-encodes g i o
-plain-encodes g (G.MessageItem.request-synchronization i o) = exchange-encodes g i o
-plain-encodes g (G.MessageItem.negotiate i o) = exchange-encodes g i o
-plain-encodes g (G.MessageItem.end {session = session} {x = x} i e) = opening-encodes (G.list (x ∷ [])) g i ∙ simp append-nil (end-encodes session (g .1 .1 .1 .0) e)
-plain-encodes g (G.MessageItem.wait {t = x} i t) = opening-encodes (G.list (x ∷ [])) g i ∙ rw (number-encodes (g .1 .1 .1 .0) t) (simp append-nil)
-plain-encodes g (G.MessageItem.synch i o) = exchange-encodes g i o
-plain-encodes g (G.MessageItem.flood {i = y} {t = z} {xs = xs} i j t is) =
+plain-encodes g (MessageItem.request-negotiation i o) = exchange-encodes g i o
+plain-encodes g (MessageItem.request-synchronization i o) = exchange-encodes g i o
+plain-encodes g (MessageItem.negotiate i o) = exchange-encodes g i o
+plain-encodes g (MessageItem.end {x = x} i e) = opening-encodes (list (x ∷ [])) g i ∙ rw (ending-encodes (g .1 .1 .1 .0) e) (simp append-nil)
+plain-encodes g (MessageItem.wait {t = x} i t) = opening-encodes (list (x ∷ [])) g i ∙ rw (number-encodes (g .1 .1 .1 .0) t) (simp append-nil)
+plain-encodes g (MessageItem.synch i o) = exchange-encodes g i o
+plain-encodes g (MessageItem.flood {i = y} {t = z} {xs = xs} i j t is) =
     opening-encodes (Items.more y (Items.more z xs)) g i
-    ∙ rw (initiator-encodes (g .1 .1 .1 .0) j, number-encodes (g .1 .1 .1 .1 .0) t, pairs-encode (g .1 .1 .1 .1 .1) is, pairs-count is) (simp (append-assoc, four-more))
-plain-encodes g (G.MessageItem.invalid i) = opening-encodes Items.done g i ∙ simp append-nil
-plain-encodes g (G.MessageItem.invalid-with {x = x} i) = opening-encodes (G.list (x ∷ [])) g i ∙ rw (has-bytes x) (simp append-nil)
+    ∙ rw (initiator-encodes (g .1 .1 .1 .0) j, number-encodes (g .1 .1 .1 .1 .0) t, pairs-encode (g .1 .1 .1 .1 .1) is, pairs-count is, pairs-many) (simp (append-assoc, four-more))
+plain-encodes g (MessageItem.invalid i) = opening-encodes Items.done g i ∙ simp append-nil
+plain-encodes g (MessageItem.invalid-with {x = x} i) = opening-encodes (list (x ∷ [])) g i ∙ rw (has-bytes x) (simp append-nil)

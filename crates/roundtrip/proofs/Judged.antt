@@ -33,11 +33,11 @@ use Rattle.description.specs.declared.Ending.{Ending}
 use Rattle.description.specs.declared.Ending.the-variants as E
 use Rattle.description.specs.declared.Description.{Description}
 use Rattle.description.specs.declared.Description.the-variants as D
-use Rattle.description.specs.Describe.{placeRow, pairRow, entryRow, upTo, entryOf, objOf, placeAt, entryAt, rowPair, pairsOf, extraOf, endOf, msgOf}
+use Rattle.description.specs.Describe.{placeRow, pairRow, entryRow, upTo, entryOf, objOf, placeAt, entryAt, rowPair, pairsOf, extraOf, msgOf}
 use Rattle.description.specs.Judge.{okDiscovery, okResponse, okFlood, okParts, hasList, okList, okDescribed, alone, whole, inside, okValue, okItem, okEntry, okPlace, blank, okNoneOr, allFrom, okRow, okRows, okPair, okPairs, okExtra, okEnding}
 use Rattle.roundtrip.specs.Says.{Inside, EntrySays, PlaceSays, Blank, PairSays, Rows, ExtraSays, EndingSays, PartsSay}
-use Rattle.roundtrip.proofs.Script.{Valued}
-use Rattle.roundtrip.proofs.Once.{Each, ValuedObj, ValuedPair, ValuedMsg}
+use Rattle.roundtrip.proofs.Script.{Each, Valued}
+use Rattle.roundtrip.proofs.Once.{ValuedObj, ValuedPair, ValuedMsg}
 
 -- ---- tests
 -- no test is both
@@ -261,13 +261,6 @@ module _ (source : List ℕ) (b : Bytes source) where
   ending-exactly E.Decline = (λ h. tt, λ h. refl)
   ending-exactly (E.Reason t) = inside-exactly source t
 
-  -- which has no value
-  end-valued : (s : ℕ) (e : Ending) → ValuedMsg (endOf source s e)
-  unfolding endOf
-  end-valued s E.Accept = tt
-  end-valued s E.Decline = tt
-  end-valued s (E.Reason t) = tt
-
   -- ---- descriptions
   -- an objective, and no list
   exchange-exactly : (list : List ℕ) (o : Entry) → pick (eqb (length list) 0) (okEntry source o) false ≡ true ↔ (((list ≡ []) × EntrySays source o) × Valued (held source (o .value)))
@@ -290,7 +283,7 @@ module _ (source : List ℕ) (b : Bytes source) where
   described-exactly list (D.RequestSynchronization s o) = exchange-exactly list (entryOf o)
   described-exactly list (D.Negotiate s o) = exchange-exactly list (entryOf o)
   described-exactly list (D.End s e) =
-      retold (and-exactly (list-exactly list) (ending-exactly e)) (λ h. (h, end-valued s e)) (λ h. h .0)
+      retold (and-exactly (list-exactly list) (ending-exactly e)) (λ h. (h, tt)) (λ h. h .0)
   described-exactly list (D.Wait s t) = retold (and-exactly (list-exactly list) always) (λ h. (h .0, tt)) (λ h. (h .0, tt))
   described-exactly list (D.Synch s o) = exchange-exactly list (entryOf o)
   described-exactly list (D.Flood s i t) =

@@ -6,7 +6,7 @@ use Prim.Native.Nat.{ℕ}
 use Rattle.base.specs.BigEndian.{Bytes}
 use Rattle.exact.specs.Accepted.{Accepted}
 use Rattle.description.specs.declared.Description.{Description}
-use Rattle.description.specs.Grasp.{encodeMsg}
+use Rattle.description.specs.Encoding.{encodeMsg}
 use Rattle.description.specs.Describe.{msgOf}
 use Rattle.writer.specs.Write.{draftOf}
 use Rattle.roundtrip.specs.Plain.{plain}

@@ -19,7 +19,8 @@ use Rattle.cbor.proofs.HeadExact.{length-head, shortest-right}
 use Rattle.cbor.proofs.PutExact.{shortest-head}
 use Rattle.options.specs.declared.Span.{Span}
 use Rattle.options.specs.declared.objective.Objective.{Objective}
-use Rattle.grammar.specs.Cddl.{Msg}
+use Rattle.syntax.specs.Message.{Msg}
+use Rattle.grammar.specs.Cddl.{Value}
 use Rattle.grammar.specs.Limits.{TextsGood, NamesGood, textsOf, namesOf, pairsTexts, pairTexts, pairsNames}
 use Rattle.grammar.proofs.Bridge.{text-token}
 use Rattle.message.specs.declared.Extra.{Extra}
@@ -31,7 +32,7 @@ use Rattle.message.specs.Read.{mostBytes, readOf}
 use Rattle.exact.specs.Accepted.{Accepted}
 use Rattle.exact.specs.Describes.{InitiatorIs, Describes}
 use Rattle.exact.proofs.Exact.{accepted-exactly, accepted-described}
-use Rattle.description.specs.Grasp.{encodeMsg}
+use Rattle.description.specs.Encoding.{encodeMsg}
 use Rattle.writer.specs.declared.Written.{Written}
 use Rattle.writer.specs.Write.{lowered, passes, passAnswer, passOut, okLower, lowerAnswer, lowerOut}
 use Rattle.roundtrip.specs.Plain.{plain}
@@ -42,7 +43,7 @@ use Rattle.roundtrip.proofs.Counts.{Hole, hole}
 
 -- ---- texts and names
 -- a lowered message has the same texts
-texts-stay : (msg : Msg) → textsOf (lowerMsg msg) ≡ textsOf msg
+texts-stay : (msg : Msg Value) → textsOf (lowerMsg msg) ≡ textsOf msg
 unfolding textsOf lowerMsg lowerObj withCount pairsTexts pairTexts
 texts-stay Msg.noop = refl
 texts-stay (Msg.discovery s i o) = refl
@@ -58,7 +59,7 @@ texts-stay (Msg.flood s i t (p ∷ ps)) = refl
 texts-stay (Msg.invalid s item) = refl
 
 -- and the same names
-names-stay : (msg : Msg) → namesOf (lowerMsg msg) ≡ namesOf msg
+names-stay : (msg : Msg Value) → namesOf (lowerMsg msg) ≡ namesOf msg
 unfolding namesOf lowerMsg lowerObj withCount pairsNames
 names-stay Msg.noop = refl
 names-stay (Msg.discovery s i o) = refl
@@ -82,7 +83,7 @@ sized-less {n = n} (Sized.two h) = let l : n - 1 < 2 ^ 16 = omega arith in Sized
 sized-less {n = n} (Sized.four h) = let l : n - 1 < 2 ^ 32 = omega arith in Sized.four l
 sized-less {n = n} (Sized.eight h) = let l : n - 1 < 2 ^ 64 = omega arith in Sized.eight l
 
-module _ {s : List ℕ} {at end n : ℕ} {msg : Msg} (h : Hole s at end n msg) where
+module _ {s : List ℕ} {at end n : ℕ} {msg : Msg Value} (h : Hole s at end n msg) where
   -- the item with the count one lower
   less : Item
   less = h .item (shortest (n - 1)) (n - 1)
@@ -154,7 +155,7 @@ initiator-held {s} {e = e} {from = from} i =
     ap (held s) (i .held) ∙ ap (λ (k : ℕ). take (length from) (drop k s)) at ∙ c .content
 
 -- the two readings
-relays : {s l : List ℕ} {m m′ : Message} {o : Objective} {msg : Msg} → Lowers m o → Describes s m msg → Describes l m′ (lowerMsg msg) → Relays s m o l m′
+relays : {s l : List ℕ} {m m′ : Message} {o : Objective} {msg : Msg Value} → Lowers m o → Describes s m msg → Describes l m′ (lowerMsg msg) → Relays s m o l m′
 unfolding lowerMsg lowerObj withCount kindOf sessionOf initiatorOf
 relays Lowers.discovery (Describes.discovery k n i o) (Describes.discovery {o = o′} k′ n′ i′ j) =
     record {
@@ -227,7 +228,7 @@ pub lowered-written : (s : List ℕ) (m : Message) (o : Objective) → Bytes s �
     → loweredBy s o ≡ encodeMsg (plain (lowerMsg (a .message .msg)))
 lowered-written s m o b q low a =
     let (a′, same) = lowered-accepts s m o b q low a in
-    sym (read-encoded (loweredBy s o) a′) ∙ ap (λ (msg : Msg). encodeMsg (plain msg)) same
+    sym (read-encoded (loweredBy s o) a′) ∙ ap (λ (msg : Msg Value). encodeMsg (plain msg)) same
 
 -- So `lower` gives it, where the count is above 0 and the output has room for the message.
 pub lowered-given : (s : List ℕ) (m : Message) (o : Objective) (out : List ℕ) → Bytes s → readOf s ≡ Reading.Read m → Lowers m o → 1 ≤ o .count → length s ≤ length out

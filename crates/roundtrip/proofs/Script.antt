@@ -2,6 +2,7 @@
 -- Assumes nothing.
 use mathlib.Core.Path.{_≡_, refl, sym, ap, _∙_}
 use mathlib.Core.List.{List, [], _∷_, _++_, append-assoc}
+use mathlib.Core.Option.{Option}
 use Prim.Native.Nat.{ℕ, _+_, _*_, _^_, _≤_, _<_}
 use native.Mathlib.Decide.{decLt}
 use native.Mathlib.Omega.{arith}
@@ -19,7 +20,7 @@ use Rattle.cbor.proofs.HeadExact.{shortest-case}
 use Rattle.cbor.proofs.PutExact.{head-reads-back}
 use Rattle.cbor.proofs.Unique.{unique}
 use Rattle.message.specs.Read.{mostBytes}
-use Rattle.description.specs.Grasp as W
+use Rattle.description.specs.Encoding as W
 use Rattle.roundtrip.proofs.Encodes.{has-bytes}
 
 -- ---- heads
@@ -157,14 +158,14 @@ number-text {ts′ = ts′} l = text-number (turned l)
     turned l = record { same = sym (l .same); few = rw (sym (l .same)) (l .few) }
 
 -- a number or null
-abbrev pub perhaps : W.Maybe ℕ → Piece
-perhaps W.Maybe.none = Piece.null
-perhaps (W.Maybe.some n) = Piece.number n
+abbrev pub perhaps : Option ℕ → Piece
+perhaps Option.none = Piece.null
+perhaps (Option.some n) = Piece.number n
 
--- a small one
-abbrev pub SmallMaybe : W.Maybe ℕ → Type 0
-SmallMaybe W.Maybe.none = Unit {0}
-SmallMaybe (W.Maybe.some n) = Small n
+-- what holds of what is there
+abbrev pub Each : {A : Type 0} → (A → Type 0) → Option A → Type 0
+Each P Option.none = Unit {0}
+Each P (Option.some x) = P x
 
 -- no number begins as null does
 number-null : (n : ℕ) (r r′ : List ℕ) → head 0 n ++ r ≡ (0xf6 ∷ []) ++ r′ → ⊥
@@ -172,12 +173,12 @@ unfolding head headBytes
 number-null n r r′ e = omega (arith, ap (λ (l : List ℕ). getD l 0 0) e, info-least n)
 
 -- a number or null passed
-pub perhaps-next : {p p′ : W.Maybe ℕ} {ts ts′ : List Piece} → SmallMaybe p → Like (perhaps p ∷ ts) (perhaps p′ ∷ ts′) → (p ≡ p′) × Like ts ts′
+pub perhaps-next : {p p′ : Option ℕ} {ts ts′ : List Piece} → Each Small p → Like (perhaps p ∷ ts) (perhaps p′ ∷ ts′) → (p ≡ p′) × Like ts ts′
 unfolding spells spell
-perhaps-next {p = W.Maybe.none} {p′ = W.Maybe.none} {ts} {ts′} h l = (refl, rest-like l (cancel (0xf6 ∷ []) (spells ts) (spells ts′) (l .same)))
-perhaps-next {p = W.Maybe.none} {p′ = W.Maybe.some n} {ts} {ts′} h l = absurd (number-null n (spells ts′) (spells ts) (sym (l .same)))
-perhaps-next {p = W.Maybe.some n} {p′ = W.Maybe.none} {ts} {ts′} h l = absurd (number-null n (spells ts) (spells ts′) (l .same))
-perhaps-next {p = W.Maybe.some n} {p′ = W.Maybe.some n′} h l = let (e, r) = number-next h l in (ap W.Maybe.some e, r)
+perhaps-next {p = Option.none} {p′ = Option.none} {ts} {ts′} h l = (refl, rest-like l (cancel (0xf6 ∷ []) (spells ts) (spells ts′) (l .same)))
+perhaps-next {p = Option.none} {p′ = Option.some n} {ts} {ts′} h l = absurd (number-null n (spells ts′) (spells ts) (sym (l .same)))
+perhaps-next {p = Option.some n} {p′ = Option.none} {ts} {ts′} h l = absurd (number-null n (spells ts) (spells ts′) (l .same))
+perhaps-next {p = Option.some n} {p′ = Option.some n′} h l = let (e, r) = number-next h l in (ap Option.some e, r)
 
 -- a value, where both are or neither is
 pub value-next : {v v′ : List ℕ} {ts ts′ : List Piece} → Valued v → Valued v′ → W.oneMore v ≡ W.oneMore v′ → Like (Piece.value v ∷ ts) (Piece.value v′ ∷ ts′) → (v ≡ v′) × Like ts ts′

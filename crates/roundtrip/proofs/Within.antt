@@ -1,42 +1,18 @@
--- A message of the grammar, as the writer has it: of a known kind, with small numbers, and with items as values.
+-- A message of the grammar, as it is written: with small numbers, and with items as values.
 -- Assumes nothing.
-use mathlib.Core.List.{List}
-use mathlib.Core.Option.{Option, none}
+use mathlib.Core.List.{List, map}
+use mathlib.Core.Option.{Option, Option·map}
 use Prim.Native.Nat.{ℕ, _≤_}
 use native.Mathlib.Omega.{arith}
 use lib.Dec.{lit<}
 use Rattle.base.specs.Lists.{Every}
 use Rattle.cbor.specs.Item.{mostLevels}
 use Rattle.cbor.specs.Tree.{Item, Items, depth, depths, Good, Goods}
-use Rattle.grammar.specs.Cddl.{joined, Protocol, Port, OrNull, Loc, LocatorItem, Obj, ObjectiveItem, LocatorItems, PairItem, PairItems, Aim, Ending, Msg, Number, OptionalItems, AimItems, EndingItem, MessageItem}
-use Rattle.description.specs.Grasp as W
-use Rattle.roundtrip.specs.Plain.{plainMaybe, plainAll, plainItem, plainObj, plainNumber, plainLoc, plainPair, plainAim, plainEnd, plain}
-use Rattle.roundtrip.proofs.Script.{Small, SmallMaybe, Valued}
-use Rattle.roundtrip.proofs.Once.{Each, SmallObj, ValuedObj, SmallLoc, SmallPair, ValuedPair, SmallTargets, Told, SmallMsg, ValuedMsg}
-
--- ---- the kind
--- an End's
-end-told : {x : Item} {e : Ending} (s : ℕ) → EndingItem x e → Told 6 (plainEnd s e)
-unfolding plainEnd
-end-told s EndingItem.accept = Told.accept
-end-told s EndingItem.decline = Told.decline
-end-told s EndingItem.reason = Told.decline
-
--- Every message is of a known kind.
-pub plain-told : {x : Item} {msg : Msg} → MessageItem x msg → (k : ℕ) × Told k (plain msg)
-unfolding plain
-plain-told MessageItem.noop = (0, Told.noop)
-plain-told (MessageItem.discovery i j o) = (1, Told.discovery)
-plain-told (MessageItem.response i j t a) = (2, Told.response)
-plain-told (MessageItem.request-negotiation i o) = (3, Told.request-negotiation)
-plain-told (MessageItem.request-synchronization i o) = (4, Told.request-synchronization)
-plain-told (MessageItem.negotiate i o) = (5, Told.negotiate)
-plain-told (MessageItem.end {session = s} i e) = (6, end-told s e)
-plain-told (MessageItem.wait i t) = (7, Told.wait)
-plain-told (MessageItem.synch i o) = (8, Told.synch)
-plain-told (MessageItem.flood i j t p) = (9, Told.flood)
-plain-told (MessageItem.invalid i) = (99, Told.invalid)
-plain-told (MessageItem.invalid-with i) = (99, Told.invalid)
+use Rattle.syntax.specs.Message.{Loc, Obj, Pair, Aim, Msg, valuedObj, valuedPair, valued as revalued}
+use Rattle.grammar.specs.Cddl.{joined, Protocol, Port, OrNull, LocatorItem, ObjectiveItem, LocatorItems, Value, PairItem, PairItems, Number, OptionalItems, AimItems, MessageItem}
+use Rattle.roundtrip.specs.Plain.{valueBytes, plain}
+use Rattle.roundtrip.proofs.Script.{Small, Each, Valued}
+use Rattle.roundtrip.proofs.Once.{SmallObj, ValuedObj, SmallLoc, SmallPair, ValuedPair, SmallTargets, SmallMsg, ValuedMsg}
 
 -- ---- the numbers
 -- a session, a TTL or a waiting time
@@ -44,8 +20,8 @@ number-small : {x : Item} {n : ℕ} → Number x n → Small n
 number-small (Number.number h) = omega arith
 
 -- an objective's
-objective-small : {x : Item} {o : Obj} → ObjectiveItem x o → SmallObj (plainObj o)
-unfolding plainObj
+objective-small : {x : Item} {o : Obj Value} → ObjectiveItem x o → SmallObj (valuedObj valueBytes o)
+unfolding valuedObj
 objective-small (ObjectiveItem.bare f c) = (omega arith, omega arith)
 objective-small (ObjectiveItem.valued f c) = (omega arith, omega arith)
 
@@ -59,66 +35,53 @@ port-small : {x : Item} {n : ℕ} → Port x n → Small n
 port-small (Port.port h) = omega arith
 
 -- or null
-or-null-small : {P : Item → ℕ → Type 0} {x : Item} {n : Option ℕ} → ((m : ℕ) → P x m → Small m) → OrNull P x n → SmallMaybe (plainNumber n)
-unfolding plainNumber plainMaybe
+or-null-small : {P : Item → ℕ → Type 0} {x : Item} {n : Option ℕ} → ((m : ℕ) → P x m → Small m) → OrNull P x n → Each Small n
 or-null-small f OrNull.is-null = tt
 or-null-small f (OrNull.is {n = n} i) = f n i
 
 -- a locator's
-locator-small : {x : Item} {l : Loc} → LocatorItem x l → SmallLoc (plainLoc l)
-unfolding plainLoc
+locator-small : {x : Item} {l : Loc} → LocatorItem x l → SmallLoc l
 locator-small (LocatorItem.v6 _ i j) = (protocol-small i, port-small j)
 locator-small (LocatorItem.v4 _ i j) = (protocol-small i, port-small j)
 locator-small (LocatorItem.domain i j) = (protocol-small i, port-small j)
 locator-small (LocatorItem.uri i j) = (or-null-small (λ n. protocol-small) i, or-null-small (λ n. port-small) j)
 
 -- those of locators
-locators-small : {xs : Items} {ls : List Loc} → LocatorItems xs ls → Every SmallLoc (plainAll plainLoc ls)
-unfolding plainAll
+locators-small : {xs : Items} {ls : List Loc} → LocatorItems xs ls → Every SmallLoc ls
 locators-small LocatorItems.empty = tt
 locators-small (LocatorItems.more i is) = (locator-small i, locators-small is)
 
 -- a pair's
-pair-small : {x : Item} {p : Obj × Option Loc} → PairItem x p → SmallPair (plainPair p)
-unfolding plainPair plainMaybe
+pair-small : {x : Item} {p : Pair Value} → PairItem x p → SmallPair (valuedPair valueBytes p)
+unfolding valuedPair
 pair-small (PairItem.untagged o) = (objective-small o, tt)
 pair-small (PairItem.tagged o l) = (objective-small o, locator-small l)
 
 -- those of pairs
-pairs-small : {xs : Items} {ps : List (Obj × Option Loc)} → PairItems xs ps → Every SmallPair (plainAll plainPair ps)
-unfolding plainAll
+pairs-small : {xs : Items} {ps : List (Pair Value)} → PairItems xs ps → Every SmallPair (map (valuedPair valueBytes) ps)
 pairs-small PairItems.empty = tt
 pairs-small (PairItems.more i is) = (pair-small i, pairs-small is)
 
 -- those of an objective that may be left out
-optional-small : {xs : Items} {o : Option Obj} → OptionalItems xs o → Each SmallObj (plainMaybe plainObj o)
-unfolding plainMaybe
+optional-small : {xs : Items} {o : Option (Obj Value)} → OptionalItems xs o → Each SmallObj (Option·map (valuedObj valueBytes) o)
 optional-small OptionalItems.without = tt
 optional-small (OptionalItems.with-one o) = objective-small o
 
 -- those of a Response's locators or divert, and of its objective
-aim-small : {xs : Items} {aim : Aim} {o : Option Obj} → AimItems xs aim o → SmallTargets (plainAim aim) × Each SmallObj (plainMaybe plainObj o)
-unfolding plainAim
+aim-small : {xs : Items} {aim : Aim} {o : Option (Obj Value)} → AimItems xs aim o → SmallTargets aim × Each SmallObj (Option·map (valuedObj valueBytes) o)
 aim-small (AimItems.locators is o) = (locators-small is, optional-small o)
 aim-small (AimItems.divert is o) = (locators-small is, optional-small o)
 
--- an End's
-end-small : {x : Item} {e : Ending} (s : ℕ) → Small s → EndingItem x e → SmallMsg (plainEnd s e)
-unfolding plainEnd
-end-small s h EndingItem.accept = h
-end-small s h EndingItem.decline = h
-end-small s h EndingItem.reason = h
-
 -- Every message's numbers are small.
-pub plain-small : {x : Item} {msg : Msg} → MessageItem x msg → SmallMsg (plain msg)
-unfolding plain
+pub plain-small : {x : Item} {msg : Msg Value} → MessageItem x msg → SmallMsg (plain msg)
+unfolding plain revalued
 plain-small MessageItem.noop = tt
 plain-small (MessageItem.discovery i j o) = (number-small i, objective-small o)
 plain-small (MessageItem.response i j t a) = let (x, o) = aim-small a in (number-small i, number-small t, x, o)
 plain-small (MessageItem.request-negotiation i o) = (number-small i, objective-small o)
 plain-small (MessageItem.request-synchronization i o) = (number-small i, objective-small o)
 plain-small (MessageItem.negotiate i o) = (number-small i, objective-small o)
-plain-small (MessageItem.end {session = s} i e) = end-small s (number-small i) e
+plain-small (MessageItem.end i e) = number-small i
 plain-small (MessageItem.wait i t) = (number-small i, number-small t)
 plain-small (MessageItem.synch i o) = (number-small i, objective-small o)
 plain-small (MessageItem.flood i j t p) = (number-small i, number-small t, pairs-small p)
@@ -159,26 +122,24 @@ fine-after : {w : ℕ} {a b c : Item} {xs : Items} → Fine (Item.array w (Items
 fine-after f = fine-rest (fine-rest (fine-rest (fine-items f)))
 
 -- an objective's
-objective-valued : {x : Item} {o : Obj} → Fine x → ObjectiveItem x o → ValuedObj (plainObj o)
-unfolding plainObj plainItem
+objective-valued : {x : Item} {o : Obj Value} → Fine x → ObjectiveItem x o → ValuedObj (valuedObj valueBytes o)
+unfolding valuedObj valueBytes
 objective-valued f (ObjectiveItem.bare _ _) = Valued.none
 objective-valued f (ObjectiveItem.valued {x = x} _ _) = let v = fine-first (fine-after f) in Valued.one x (v .good) (v .shallow)
 
 -- a pair's
-pair-valued : {x : Item} {p : Obj × Option Loc} → Fine x → PairItem x p → ValuedPair (plainPair p)
-unfolding plainPair
+pair-valued : {x : Item} {p : Pair Value} → Fine x → PairItem x p → ValuedPair (valuedPair valueBytes p)
+unfolding valuedPair
 pair-valued f (PairItem.untagged o) = objective-valued (fine-first (fine-items f)) o
 pair-valued f (PairItem.tagged o l) = objective-valued (fine-first (fine-items f)) o
 
 -- those of pairs
-pairs-valued : {xs : Items} {ps : List (Obj × Option Loc)} → Fines xs → PairItems xs ps → Every ValuedPair (plainAll plainPair ps)
-unfolding plainAll
+pairs-valued : {xs : Items} {ps : List (Pair Value)} → Fines xs → PairItems xs ps → Every ValuedPair (map (valuedPair valueBytes) ps)
 pairs-valued f PairItems.empty = tt
 pairs-valued f (PairItems.more i is) = (pair-valued (fine-first f) i, pairs-valued (fine-rest f) is)
 
 -- that of an objective that may be left out
-optional-valued : {xs : Items} {o : Option Obj} → Fines xs → OptionalItems xs o → Each ValuedObj (plainMaybe plainObj o)
-unfolding plainMaybe
+optional-valued : {xs : Items} {o : Option (Obj Value)} → Fines xs → OptionalItems xs o → Each ValuedObj (Option·map (valuedObj valueBytes) o)
 optional-valued f OptionalItems.without = tt
 optional-valued f (OptionalItems.with-one o) = objective-valued (fine-first f) o
 
@@ -188,27 +149,20 @@ joined-fines Items.done ys f = f
 joined-fines (Items.more x xs) ys f = joined-fines xs ys (fine-rest f)
 
 -- that of a Response's objective
-aim-valued : {xs : Items} {aim : Aim} {o : Option Obj} → Fines xs → AimItems xs aim o → Each ValuedObj (plainMaybe plainObj o)
+aim-valued : {xs : Items} {aim : Aim} {o : Option (Obj Value)} → Fines xs → AimItems xs aim o → Each ValuedObj (Option·map (valuedObj valueBytes) o)
 aim-valued f (AimItems.locators {xs = xs} {ys = ys} is o) = optional-valued (joined-fines xs ys f) o
 aim-valued f (AimItems.divert is o) = optional-valued (fine-rest f) o
 
--- an End has none
-end-valued : {x : Item} {e : Ending} (s : ℕ) → EndingItem x e → ValuedMsg (plainEnd s e)
-unfolding plainEnd
-end-valued s EndingItem.accept = tt
-end-valued s EndingItem.decline = tt
-end-valued s EndingItem.reason = tt
-
 -- a message's
-valued : {x : Item} {msg : Msg} → Fine x → MessageItem x msg → ValuedMsg (plain msg)
-unfolding plain plainItem
+valued : {x : Item} {msg : Msg Value} → Fine x → MessageItem x msg → ValuedMsg (plain msg)
+unfolding plain revalued valueBytes
 valued f MessageItem.noop = tt
 valued f (MessageItem.discovery i j o) = objective-valued (fine-first (fine-after f)) o
 valued f (MessageItem.response i j t a) = aim-valued (fine-rest (fine-after f)) a
 valued f (MessageItem.request-negotiation i o) = objective-valued (fine-third f) o
 valued f (MessageItem.request-synchronization i o) = objective-valued (fine-third f) o
 valued f (MessageItem.negotiate i o) = objective-valued (fine-third f) o
-valued f (MessageItem.end {session = s} i e) = end-valued s e
+valued f (MessageItem.end i e) = tt
 valued f (MessageItem.wait i t) = tt
 valued f (MessageItem.synch i o) = objective-valued (fine-third f) o
 valued f (MessageItem.flood i j t p) = pairs-valued (fine-rest (fine-after f)) p
@@ -216,5 +170,5 @@ valued f (MessageItem.invalid i) = Valued.none
 valued f (MessageItem.invalid-with {x = x} i) = let v = fine-third f in Valued.one x (v .good) (v .shallow)
 
 -- Every message's values are items.
-pub plain-valued : {x : Item} {msg : Msg} → Good x → depth x ≤ mostLevels → MessageItem x msg → ValuedMsg (plain msg)
+pub plain-valued : {x : Item} {msg : Msg Value} → Good x → depth x ≤ mostLevels → MessageItem x msg → ValuedMsg (plain msg)
 plain-valued g d i = valued (record { good = g; shallow = d }) i

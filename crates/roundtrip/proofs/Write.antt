@@ -28,9 +28,9 @@ use Rattle.roundtrip.specs.Says.{Says, ReadsBack}
 use Rattle.roundtrip.proofs.Hand.{hand-not-18, handed, hand-length, hand-19}
 use Rattle.roundtrip.proofs.Read.{accepted-bytes, read-encoded, read-drafted}
 use Rattle.roundtrip.proofs.Once.{ValuedMsg, message-once}
-use Rattle.roundtrip.proofs.Within.{plain-told, plain-small, plain-valued}
+use Rattle.roundtrip.proofs.Within.{plain-small, plain-valued}
 use Rattle.roundtrip.proofs.Judged.{never, described-exactly}
-use Rattle.roundtrip.proofs.Drafts.{described-told, draft-bytes}
+use Rattle.roundtrip.proofs.Drafts.{draft-bytes}
 
 -- an answer that is a message
 accepted-is : (r : Reading) → accepted r ≡ true → (m : Message) × (r ≡ Reading.Read m)
@@ -66,7 +66,7 @@ module _ (source list : List ℕ) (d : Description) (b : Bytes source) where
   drafted : okDescribed source list d ≡ true → (a : Accepted (draftOf source list d)) → plain (a .message .msg) ≡ msgOf source list d
   unfolding draftOf
   drafted ok a =
-      message-once (plain-told (a .message .is) .1) (described-told source list d .1) (plain-small (a .message .is))
+      message-once (plain-small (a .message .is))
       (plain-valued (a .message .good) (a .message .shallow) (a .message .is)) (described-exactly source b list d .0 ok .1)
       (rw (read-encoded _ a) (a .message .most)) (read-encoded _ a)
 

@@ -1,4 +1,4 @@
--- `Plain`: a message of the grammar as the writer has it. `Lower`: a message with its count one lower, and what a relayed message keeps.
+-- `Plain`: a message of the grammar as it is written. `Lower`: a message with its count one lower, and what a relayed message keeps.
 -- `Says`: which message a description says, and what it is to be read back.
 pub mod Plain
 pub mod Lower

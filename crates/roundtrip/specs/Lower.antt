@@ -5,7 +5,7 @@ use mathlib.Core.Path.{_≡_}
 use Rattle.options.specs.Text.{held}
 use Rattle.options.specs.declared.Span.{Span}
 use Rattle.options.specs.declared.objective.Objective.{Objective}
-use Rattle.grammar.specs.Cddl.{Obj, Msg}
+use Rattle.syntax.specs.Message.{Obj, Msg}
 use Rattle.message.specs.declared.Series.{Series}
 use Rattle.message.specs.declared.Message.{Message}
 use Rattle.message.specs.declared.Message.the-variants as M
@@ -13,15 +13,15 @@ use Rattle.contents.specs.Fields.{kindOf, sessionOf, initiatorOf}
 use Rattle.writer.specs.Write.{lowered}
 
 -- an objective with another count
-unfoldable pub withCount : ℕ → Obj → Obj
+unfoldable pub withCount : {A : Type 0} → ℕ → Obj A → Obj A
 withCount n o = record { name = o .name; flags = o .flags; count = n; value = o .value }
 
 -- one lower
-unfoldable pub lowerObj : Obj → Obj
+unfoldable pub lowerObj : {A : Type 0} → Obj A → Obj A
 lowerObj o = withCount (o .count - 1) o
 
 -- nothing else changes, and no other kind
-unfoldable pub lowerMsg : Msg → Msg
+unfoldable pub lowerMsg : {A : Type 0} → Msg A → Msg A
 lowerMsg Msg.noop = Msg.noop
 lowerMsg (Msg.discovery s i o) = Msg.discovery s i (lowerObj o)
 lowerMsg (Msg.response s i t aim o) = Msg.response s i t aim o

@@ -6,6 +6,7 @@ use mathlib.Core.Logic.{_⊎_}
 use mathlib.Core.Path.{_≡_}
 use lib.ListN.{length, getD}
 use Rattle.options.specs.declared.Span.{Span}
+use Rattle.syntax.specs.Message.{Msg}
 use Rattle.message.specs.declared.Message.{Message}
 use Rattle.message.specs.declared.Reading.{Reading}
 use Rattle.message.specs.Read.{readOf}
@@ -18,7 +19,6 @@ use Rattle.description.specs.declared.Ending.{Ending}
 use Rattle.description.specs.declared.Ending.the-variants as E
 use Rattle.description.specs.declared.Description.{Description}
 use Rattle.description.specs.declared.Description.the-variants as D
-use Rattle.description.specs.Grasp.{Msg}
 use Rattle.description.specs.Describe.{placeRow, pairRow, entryRow, entryOf, placeAt, entryAt, msgOf}
 use Rattle.writer.specs.Write.{draftOf}
 use Rattle.roundtrip.specs.Plain.{plain}
@@ -83,7 +83,7 @@ PartsSay source list (D.Flood s i t) = Inside source i × Rows list pairRow (Pai
 PartsSay source list (D.Invalid s v) = (list ≡ []) × Inside source v
 
 -- the description says the message
-pub record Says (source list : List ℕ) (d : Description) (msg : Msg) : Type 0 where
+pub record Says (source list : List ℕ) (d : Description) (msg : Msg (List ℕ)) : Type 0 where
   pub parts : PartsSay source list d
   pub is : msgOf source list d ≡ msg
 

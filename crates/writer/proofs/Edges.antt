@@ -3,7 +3,7 @@
 -- Assumes nothing.
 use mathlib.Core.Path.{_≡_, refl}
 use mathlib.Core.Bool.{true, false}
-use mathlib.Core.List.{List, [], _∷_, _++_}
+use mathlib.Core.List.{List, [], _∷_, _++_, flatMap}
 use Prim.Native.Nat.{ℕ}
 use lib.ListN.{replicate}
 use Rattle.base.specs.Pick.{pick}
@@ -24,8 +24,9 @@ use Rattle.message.specs.Shape.{noopAt, discovered, discoveryAt, exchangeOf, ex
 use Rattle.message.specs.Response.{responseBy, responseAt, targetsAt, locatedAt, locatedOf, restAt}
 use Rattle.message.specs.Flood.{floodedBy, floodedOf, floodedAt, floodBy, floodAt}
 use Rattle.message.specs.Read.{byKind, judged, shaped, framed, examined, placeless, readOf}
-use Rattle.description.specs.Grasp.{string, numberOrNull, reached, fixed, encodeLoc, encodeLocs, oneMore, encodeObj, maybeObj, howMany, locOrEmpty, encodePair, encodePairs, targetItems, encodeTargets, reason, opening, encodeMsg}
-use Rattle.description.specs.Describe.{upTo, entryOf, objOf, orNull, locOf, placeAt, rowLoc, locsOf, targetsOf, extraOf, entryAt, locOrNone, rowPair, pairsOf, endOf, msgOf}
+use Rattle.syntax.specs.Message.{orNull}
+use Rattle.description.specs.Encoding.{string, numberOrNull, reached, fixed, encodeLoc, oneMore, encodeObj, maybeObj, howMany, locOrEmpty, encodePair, targetItems, encodeTargets, encodeEnding, opening, exchange, encodeMsg}
+use Rattle.description.specs.Describe.{upTo, entryOf, objOf, locOf, placeAt, rowLoc, locsOf, targetsOf, extraOf, entryAt, locOrNone, rowPair, pairsOf, endOf, msgOf}
 use Rattle.description.specs.Judge.{alone, whole, inside, okValue, okItem, okEntry, okPlace, blank, okNoneOr, allFrom, okRow, okRows, okPair, okPairs, okExtra, okEnding, okDiscovery, okResponse, okFlood, okParts, hasList, okList, okDescribed}
 use Rattle.writer.specs.Write.{accepts, handAnswer, handOut, passes, passAnswer, passOut, draftOf, writeAnswer, writeOut, lowered, okLower, lowerAnswer, lowerOut, answerOf}
 use Rattle.description.specs.declared.Description.{Description}
@@ -82,7 +83,7 @@ pub written :
     × (writeOut source floodRow floodTold (replicate 20 0) ≡ floodBytes 2)
     × (writeAnswer [] [] endTold (replicate 6 0) ≡ Written.Length 6)
     × (writeOut [] [] endTold (replicate 6 0) ≡ endBytes)
-unfolding pick bigEndian bytesOf widthOf leastOf initialOf argOf headJudged headFrom headBy headOf headAt opens stepOf stepFrom stepAt itemsOf next run enough firstItem nothingAt tokenOf tokenFrom tokenAt sizeFrom sizeAt itemsIn tokenUpTo tailsOf leastTail greatestTail goesOn isUtf8 infoOf headBytes shortest head badText firstOf isNull addressFits protocolOf portOf locatorOf textOf locatorIn longName objectiveIn isEmpty pairTagged pairTail pairLed pairIn isInitiator openingAt textLed locatorNext locatorsFrom pairNext pairsFrom noopAt discovered discoveryAt exchangeOf exchanged exchangeAt waitAt invalidAt optionAt endAt responseBy responseAt floodedBy floodedOf floodedAt floodBy floodAt byKind judged shaped framed examined placeless readOf string numberOrNull reached fixed encodeLoc encodeLocs oneMore encodeObj maybeObj howMany locOrEmpty encodePair encodePairs targetItems encodeTargets reason opening encodeMsg upTo entryOf objOf orNull locOf placeAt rowLoc locsOf targetsOf extraOf entryAt locOrNone rowPair pairsOf endOf msgOf alone whole accepts inside okValue okItem okEntry okPlace blank okNoneOr allFrom okRow okRows okPair okPairs okExtra okEnding okDiscovery okResponse okFlood okParts hasList okList okDescribed handAnswer handOut passes passAnswer passOut draftOf writeAnswer writeOut lowered okLower lowerAnswer lowerOut answerOf targetsAt locatedAt locatedOf restAt
+unfolding pick bigEndian bytesOf widthOf leastOf initialOf argOf headJudged headFrom headBy headOf headAt opens stepOf stepFrom stepAt itemsOf next run enough firstItem nothingAt tokenOf tokenFrom tokenAt sizeFrom sizeAt itemsIn tokenUpTo tailsOf leastTail greatestTail goesOn isUtf8 infoOf headBytes shortest head badText firstOf isNull addressFits protocolOf portOf locatorOf textOf locatorIn longName objectiveIn isEmpty pairTagged pairTail pairLed pairIn isInitiator openingAt textLed locatorNext locatorsFrom pairNext pairsFrom noopAt discovered discoveryAt exchangeOf exchanged exchangeAt waitAt invalidAt optionAt endAt responseBy responseAt floodedBy floodedOf floodedAt floodBy floodAt byKind judged shaped framed examined placeless readOf string numberOrNull reached fixed encodeLoc oneMore encodeObj maybeObj howMany locOrEmpty encodePair flatMap targetItems encodeTargets encodeEnding opening exchange encodeMsg upTo entryOf objOf orNull locOf placeAt rowLoc locsOf targetsOf extraOf entryAt locOrNone rowPair pairsOf endOf msgOf alone whole accepts inside okValue okItem okEntry okPlace blank okNoneOr allFrom okRow okRows okPair okPairs okExtra okEnding okDiscovery okResponse okFlood okParts hasList okList okDescribed handAnswer handOut passes passAnswer passOut draftOf writeAnswer writeOut lowered okLower lowerAnswer lowerOut answerOf targetsAt locatedAt locatedOf restAt
 written = (refl, refl, refl, refl, refl, refl, refl)
 
 -- for readers
@@ -96,5 +97,5 @@ pub sent :
     × (lowerOut (discoveryBytes (0x18 ∷ 0x18 ∷ [])) 14 16 24 (replicate 15 0) ≡ discoveryBytes (0x17 ∷ []))
     × (lowerAnswer (floodBytes 2) 18 19 2 (replicate 20 0) ≡ Written.Length 20)
     × (lowerOut (floodBytes 2) 18 19 2 (replicate 20 0) ≡ floodBytes 1)
-unfolding answerOf encodeMsg opening string head headBytes shortest infoOf bytesOf encodeTargets targetItems howMany maybeObj encodeLocs encodeLoc fixed reached lowered okLower lowerAnswer lowerOut passes passAnswer passOut handAnswer handOut pick
+unfolding answerOf encodeMsg opening string head headBytes shortest infoOf bytesOf encodeTargets targetItems howMany maybeObj flatMap encodeLoc fixed reached lowered okLower lowerAnswer lowerOut passes passAnswer passOut handAnswer handOut pick
 sent = (refl, refl, refl, refl, refl, refl, refl, refl)

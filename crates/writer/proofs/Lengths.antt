@@ -10,7 +10,7 @@ use Rattle.base.specs.Pick.{pick}
 use Rattle.cbor.specs.Tree.{shortest}
 use Rattle.cbor.specs.Put.{head}
 use Rattle.cbor.proofs.HeadExact.{length-head, shortest-case}
-use Rattle.description.specs.Grasp.{string, reached, fixed, opening}
+use Rattle.description.specs.Encoding.{string, reached, fixed, opening}
 use Rattle.writer.specs.Write.{lowered, answerOf}
 use Rattle.writer.proofs.Home.{answer-is}
 

@@ -3,6 +3,7 @@
 use Prim.Native.Nat.{ℕ, _-_}
 use mathlib.Core.Bool.{Bool, true, false}
 use mathlib.Core.List.{List, [], _∷_, _++_}
+use mathlib.Core.Option.{none}
 use lib.ListN.{length, take, drop}
 use lib.Dec.{ltb, eqb}
 use Rattle.base.specs.Pick.{pick}
@@ -11,7 +12,8 @@ use Rattle.message.specs.declared.Reading.{Reading}
 use Rattle.message.specs.Read.{mostBytes, readOf}
 use Rattle.description.specs.declared.Description.{Description}
 use Rattle.writer.specs.declared.Written.{Written}
-use Rattle.description.specs.Grasp.{Maybe, Loc, Targets, Msg, encodeMsg}
+use Rattle.syntax.specs.Message.{Loc, Aim, Msg}
+use Rattle.description.specs.Encoding.{encodeMsg}
 use Rattle.description.specs.Describe.{msgOf}
 use Rattle.description.specs.Judge.{okDescribed}
 
@@ -70,4 +72,4 @@ lowerOut message at end count out = pick (okLower message at end count) (passOut
 -- ---- `answer`: a Response with one locator of kind 103, protocol 6
 unfoldable pub answerOf : ℕ → List ℕ → ℕ → List ℕ → ℕ → List ℕ
 answerOf session initiator ttl address port =
-    encodeMsg (Msg.response session initiator ttl (Targets.locators (Loc.v6 address 6 port ∷ [])) Maybe.none)
+    encodeMsg (Msg.response session initiator ttl (Aim.locators (Loc.v6 address 6 port ∷ [])) none)

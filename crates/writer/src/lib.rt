@@ -2,7 +2,7 @@
 // What is written goes to the front of the output and the bytes after it stay; on a refusal all of the output stays.
 ghost use mathlib.Core.Path.{_≡_};
 ghost use Rattle.encode.specs.Put.{Wrote};
-ghost use Rattle.description.specs.Grasp.{string, fixed};
+ghost use Rattle.description.specs.Encoding.{string, fixed};
 ghost use mathlib.Core.Bool.{true};
 ghost use Prim.Native.Nat.{_<_, _≤_};
 ghost use lib.ListN.{length};

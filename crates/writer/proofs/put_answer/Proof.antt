@@ -1,7 +1,7 @@
 -- `writer::put_answer` meets its contract.
 -- Assumes nothing.
 use lib.Dec.{lit<}
-use Rattle.description.specs.Grasp.{opening}
+use Rattle.description.specs.Encoding.{opening}
 use Rattle.encode.proofs.Puts.{then, head-in}
 use borrow.Author.Needs.{needs}
 use Rattle.writer.proofs.Home.{answer-is}

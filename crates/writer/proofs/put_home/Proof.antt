@@ -1,7 +1,7 @@
 -- `writer::put_home` meets its contract.
 -- Assumes nothing.
 use lib.Dec.{lit<}
-use Rattle.description.specs.Grasp.{fixed, reached}
+use Rattle.description.specs.Encoding.{fixed, reached}
 use Rattle.encode.proofs.Puts.{then, head-in}
 use borrow.Author.Needs.{needs}
 use Rattle.writer.proofs.put_home.Statement.{statement}

@@ -1,7 +1,7 @@
 -- `writer::put_string` meets its contract.
 -- Assumes nothing.
 use lib.Dec.{lit<}
-use Rattle.description.specs.Grasp.{string}
+use Rattle.description.specs.Encoding.{string}
 use Rattle.encode.proofs.Puts.{then, head-in, all-in}
 use borrow.Author.Needs.{needs}
 use Rattle.writer.proofs.put_string.Statement.{statement}

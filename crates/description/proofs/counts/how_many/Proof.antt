@@ -1,6 +1,6 @@
 -- `description::counts::how_many` meets its contract.
 -- Assumes nothing.
-use Rattle.description.specs.Grasp.{howMany}
+use Rattle.description.specs.Encoding.{howMany}
 use Rattle.description.specs.Describe.{extraOf}
 use borrow.Author.Needs.{needs}
 use Rattle.description.proofs.counts.how_many.Statement.{statement}

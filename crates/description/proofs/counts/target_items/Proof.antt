@@ -1,6 +1,6 @@
 -- `description::counts::target_items` meets its contract.
 -- Assumes nothing.
-use Rattle.description.specs.Grasp.{targetItems}
+use Rattle.description.specs.Encoding.{targetItems}
 use Rattle.description.specs.Describe.{targetsOf}
 use Rattle.description.proofs.Items.{rows-many}
 use mathlib.Core.Path.{refl}

@@ -1,6 +1,6 @@
 -- `encode::kinds::put_accept` meets its contract.
 -- Assumes nothing.
-use Rattle.description.specs.Grasp.{encodeMsg}
+use Rattle.description.specs.Encoding.{encodeEnding, encodeMsg}
 use Rattle.encode.proofs.Puts.{then}
 use borrow.Author.Needs.{needs}
 use Rattle.encode.proofs.kinds.put_accept.Statement.{statement}
@@ -19,8 +19,8 @@ same-length : tie.Need-same-length
 same-length c = search needs
 
 returns : tie.Need-returns
-unfolding encodeMsg
-returns c = then (then (c .before .before .before .before .before .before .before .before .before .before .put-opening .ensures) (c .before .before .before .before .before .before .head .ensures)) (c .before .before .head2 .ensures)
+unfolding encodeMsg encodeEnding
+returns c = then (c .before .before .before .before .before .before .before .before .before .before .put-opening .ensures) (then (c .before .before .before .before .before .before .head .ensures) (c .before .before .head2 .ensures))
 
 pub put-accept-spec : {M : Type 1} → statement M
 put-accept-spec =

@@ -1,8 +1,7 @@
 -- `encode::kinds::put_decline` meets its contract.
 -- Assumes nothing.
-use Rattle.description.specs.Grasp.{encodeMsg, howMany, reason}
+use Rattle.description.specs.Encoding.{encodeEnding, encodeMsg}
 use Rattle.encode.proofs.Puts.{then}
-use mathlib.Core.List.{append-nil}
 use borrow.Author.Needs.{needs}
 use Rattle.encode.proofs.kinds.put_decline.Statement.{statement}
 use Rattle.encode.proofs.kinds.put_decline.Tie as tie
@@ -20,8 +19,8 @@ same-length : tie.Need-same-length
 same-length c = search needs
 
 returns : tie.Need-returns
-unfolding encodeMsg howMany reason
-returns c = rw (append-nil) (then (then (c .before .before .before .before .before .before .before .before .before .before .put-opening .ensures) (c .before .before .before .before .before .before .head .ensures)) (c .before .before .head2 .ensures))
+unfolding encodeMsg encodeEnding
+returns c = then (c .before .before .before .before .before .before .before .before .before .before .put-opening .ensures) (then (c .before .before .before .before .before .before .head .ensures) (c .before .before .head2 .ensures))
 
 pub put-decline-spec : {M : Type 1} → statement M
 put-decline-spec =

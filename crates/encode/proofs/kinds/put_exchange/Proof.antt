@@ -1,6 +1,6 @@
 -- `encode::kinds::put_exchange` meets its contract.
 -- Assumes nothing.
-use Rattle.description.specs.Grasp.{encodeMsg}
+use Rattle.description.specs.Encoding.{exchange}
 use Rattle.encode.proofs.Puts.{then}
 use borrow.Author.Needs.{needs}
 use Rattle.encode.proofs.kinds.put_exchange.Statement.{statement}
@@ -16,7 +16,7 @@ same-length : tie.Need-same-length
 same-length c = search needs
 
 returns : tie.Need-returns
-unfolding encodeMsg
+unfolding exchange
 returns c = then (c .before .before .before .before .before .before .put-opening .ensures) (c .before .before .put-goal .ensures)
 
 pub put-exchange-spec : {M : Type 1} → statement M

@@ -1,6 +1,6 @@
 -- `encode::kinds::put_extra` meets its contract.
 -- Assumes nothing.
-use Rattle.description.specs.Grasp.{maybeObj}
+use Rattle.description.specs.Encoding.{maybeObj}
 use Rattle.description.specs.Describe.{extraOf}
 use Rattle.encode.proofs.Puts.{still}
 use borrow.Author.Needs.{needs}

@@ -1,5 +1,6 @@
 -- `encode::kinds::put_message` meets its contract.
 -- Assumes nothing.
+use Rattle.description.specs.Encoding.{encodeMsg}
 use Rattle.description.specs.Describe.{msgOf}
 use borrow.Author.Needs.{needs}
 use Rattle.encode.proofs.kinds.put_message.Statement.{statement}
@@ -96,21 +97,21 @@ same-length-4 : tie.Need-same-length-4
 same-length-4 c = search needs
 
 returns-4 : tie.Need-returns-4
-unfolding msgOf
+unfolding msgOf encodeMsg
 returns-4 c = rw (c .before .before .before .before .before .m3 .given .1) (c .before .before .put-exchange .ensures)
 
 same-length-5 : tie.Need-same-length-5
 same-length-5 c = search needs
 
 returns-5 : tie.Need-returns-5
-unfolding msgOf
+unfolding msgOf encodeMsg
 returns-5 c = rw (c .before .before .before .before .before .m4 .given .1) (c .before .before .put-exchange2 .ensures)
 
 same-length-6 : tie.Need-same-length-6
 same-length-6 c = search needs
 
 returns-6 : tie.Need-returns-6
-unfolding msgOf
+unfolding msgOf encodeMsg
 returns-6 c = rw (c .before .before .before .before .before .m5 .given .1) (c .before .before .put-exchange3 .ensures)
 
 same-length-7 : tie.Need-same-length-7
@@ -131,7 +132,7 @@ same-length-9 : tie.Need-same-length-9
 same-length-9 c = search needs
 
 returns-9 : tie.Need-returns-9
-unfolding msgOf
+unfolding msgOf encodeMsg
 returns-9 c = rw (c .before .before .before .before .before .m8 .given .1) (c .before .before .put-exchange4 .ensures)
 
 same-length-10 : tie.Need-same-length-10

@@ -1,6 +1,6 @@
 -- `encode::kinds::put_opening` meets its contract.
 -- Assumes nothing.
-use Rattle.description.specs.Grasp.{opening}
+use Rattle.description.specs.Encoding.{opening}
 use Rattle.encode.proofs.Puts.{then}
 use borrow.Author.Needs.{needs}
 use Rattle.encode.proofs.kinds.put_opening.Statement.{statement}

@@ -1,6 +1,6 @@
 -- `encode::kinds::put_reason` meets its contract.
 -- Assumes nothing.
-use Rattle.description.specs.Grasp.{encodeMsg, howMany, reason}
+use Rattle.description.specs.Encoding.{encodeEnding, encodeMsg}
 use Rattle.encode.proofs.Puts.{then}
 use borrow.Author.Needs.{needs}
 use Rattle.encode.proofs.kinds.put_reason.Statement.{statement}
@@ -22,8 +22,8 @@ same-length : tie.Need-same-length
 same-length c = search needs
 
 returns : tie.Need-returns
-unfolding encodeMsg howMany reason
-returns c = then (then (then (c .before .before .before .before .before .before .before .before .before .before .before .before .before .before .put-opening .ensures) (c .before .before .before .before .before .before .before .before .before .before .head .ensures)) (c .before .before .before .before .before .before .head2 .ensures)) (c .before .before .part-string .ensures)
+unfolding encodeMsg encodeEnding
+returns c = then (c .before .before .before .before .before .before .before .before .before .before .before .before .before .before .put-opening .ensures) (then (then (c .before .before .before .before .before .before .before .before .before .before .head .ensures) (c .before .before .before .before .before .before .head2 .ensures)) (c .before .before .part-string .ensures))
 
 pub put-reason-spec : {M : Type 1} → statement M
 put-reason-spec =

@@ -1,6 +1,6 @@
 -- `encode::kinds::put_response` meets its contract.
 -- Assumes nothing.
-use Rattle.description.specs.Grasp.{encodeMsg}
+use Rattle.description.specs.Encoding.{encodeMsg}
 use Rattle.encode.proofs.Puts.{then}
 use Rattle.encode.proofs.Rows.{targets-few, extra-few, targets-many, extra-many}
 use native.Mathlib.Omega.{arith}

@@ -1,6 +1,6 @@
 -- `encode::kinds::put_targets` meets its contract.
 -- Assumes nothing.
-use Rattle.description.specs.Grasp.{encodeTargets}
+use Rattle.description.specs.Encoding.{encodeTargets}
 use Rattle.description.specs.Describe.{targetsOf}
 use Rattle.encode.proofs.Puts.{then}
 use Rattle.encode.proofs.Rows.{length-locs}

@@ -1,6 +1,6 @@
 -- `encode::locator::put_place` meets its contract.
 -- Assumes nothing.
-use Rattle.description.specs.Grasp.{encodeLoc}
+use Rattle.description.specs.Encoding.{encodeLoc}
 use Rattle.description.specs.Describe.{locOf}
 use Rattle.base.specs.Pick.{pick}
 use borrow.Author.Tests.{eq-eqb, ne-eqb}

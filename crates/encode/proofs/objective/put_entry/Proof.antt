@@ -1,7 +1,7 @@
 -- `encode::objective::put_entry` meets its contract.
 -- Assumes nothing.
 use Rattle.options.specs.Text.{held}
-use Rattle.description.specs.Grasp.{encodeObj}
+use Rattle.description.specs.Encoding.{encodeObj}
 use Rattle.description.specs.Describe.{objOf}
 use Rattle.encode.proofs.Puts.{then}
 use native.Mathlib.Omega.{arith}

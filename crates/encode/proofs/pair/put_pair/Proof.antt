@@ -1,6 +1,6 @@
 -- `encode::pair::put_pair` meets its contract.
 -- Assumes nothing.
-use Rattle.description.specs.Grasp.{encodePair}
+use Rattle.description.specs.Encoding.{encodePair}
 use Rattle.description.specs.Describe.{rowPair}
 use Rattle.encode.proofs.Puts.{then}
 use borrow.Author.Needs.{needs}

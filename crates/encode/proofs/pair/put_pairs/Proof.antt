@@ -5,20 +5,21 @@ use Prim.Native.Nat.{_≤_, _-_, _/_}
 use mathlib.Core.Path.{_≡_, refl}
 use lib.ListN.{length}
 use Rattle.encode.specs.Put.{Wrote}
-use Rattle.description.specs.Describe.{pairRow}
-use Rattle.encode.proofs.Rows.{firstPairs, pairs-none, pairs-turn, pairs-done}
+use Rattle.description.specs.Encoding.{encodePair}
+use Rattle.description.specs.Describe.{pairRow, rowPair, pairsOf}
+use Rattle.encode.proofs.Rows.{firstRows, rows-none, rows-turn, rows-done}
 use borrow.Author.Needs.{needs}
 use Rattle.encode.proofs.pair.put_pairs.Statement.{statement}
 use Rattle.encode.proofs.pair.put_pairs.Tie as tie
 
 abbrev Inv-loop : tie.InvT-loop
-Inv-loop out₀ at source list rows end₀ i₀ out end i = (i ≤ length list / pairRow) × (length out ≡ length out₀) × Wrote out₀ out at (firstPairs source list i) end
+Inv-loop out₀ at source list rows end₀ i₀ out end i = (i ≤ length list / pairRow) × (length out ≡ length out₀) × Wrote out₀ out at (firstRows encodePair (rowPair source list) i) end
 
 abbrev μ-loop : tie.MeasureT-loop
 μ-loop out₀ at source list rows end₀ i₀ out end i = length list / pairRow - i
 
 loop-holds : tie.Need-loop-holds Inv-loop μ-loop
-loop-holds c = (omega arith, refl, pairs-none _ _ _ _)
+loop-holds c = (omega arith, refl, rows-none _ _ _ _)
 
 put-pair-requires : tie.Need-put-pair-requires Inv-loop μ-loop
 put-pair-requires c κs = omega arith
@@ -30,13 +31,14 @@ loop-less : tie.Need-loop-less Inv-loop μ-loop
 loop-less c = omega arith
 
 loop-again : tie.Need-loop-again Inv-loop μ-loop
-loop-again c = (omega arith, search needs, pairs-turn _ _ _ (c .before .before .before .before .before .loop .inv .2) (c .before .before .put-pair .ensures))
+loop-again c = (omega arith, search needs, rows-turn _ _ _ (c .before .before .before .before .before .loop .inv .2) (c .before .before .put-pair .ensures))
 
 same-length : tie.Need-same-length Inv-loop μ-loop
 same-length c = (c .before .loop .inv .1)
 
 returns : tie.Need-returns Inv-loop μ-loop
-returns c = pairs-done _ _ _ (c .before .loop .inv .0) (c .loop-test .left) (c .before .loop .inv .2)
+unfolding pairsOf
+returns c = rows-done _ _ _ _ (c .before .loop .inv .0) (c .loop-test .left) (c .before .loop .inv .2)
 
 pub put-pairs-spec : {M : Type 1} → statement M
 put-pairs-spec =

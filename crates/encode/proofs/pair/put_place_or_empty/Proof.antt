@@ -1,6 +1,6 @@
 -- `encode::pair::put_place_or_empty` meets its contract.
 -- Assumes nothing.
-use Rattle.description.specs.Grasp.{locOrEmpty}
+use Rattle.description.specs.Encoding.{locOrEmpty}
 use Rattle.description.specs.Describe.{locOrNone}
 use Rattle.base.specs.Pick.{pick}
 use borrow.Author.Tests.{eq-eqb, ne-eqb}

@@ -1,0 +1,1 @@
+// GRASP messages as data; it has no code of its own.
