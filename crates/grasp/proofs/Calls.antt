@@ -3,8 +3,8 @@
 use Prim.Native.Nat.{ℕ}
 use mathlib.Core.Path.{_≡_, refl}
 use mathlib.Core.List.{List}
-use Rattle.node.specs.declared.Record.{Record}
-use Rattle.node.specs.declared.Kept.{Kept}
+use Rattle.node_state.specs.declared.Record.{Record}
+use Rattle.node_state.specs.declared.Kept.{Kept}
 use Rattle.node.specs.Call.{Call}
 use Rattle.host.specs.Records.{nodeOf, numbersAfter}
 use Rattle.host.specs.Call.{leftOf, callLeft}

@@ -34,12 +34,12 @@ use denote.Triple.Spec.{Meets}
 use denote.Triple.Statement.{Contract, Triple}
 use denote.Triple.Walked.{says, Stay, Stays, fitsOf, AllGo, Ending, walkOf, ends-at, walk-meets}
 use denote.Exit.{Kept as Keeps, left}
-use Rattle.node.specs.declared.Record.{Record}
-use Rattle.node.specs.declared.Kept.{Kept}
-use Rattle.node.proofs.Record as T
-use Rattle.node.proofs.Record.Laws as T′
-use Rattle.node.proofs.Kept as S
-use Rattle.node.proofs.Kept.Laws as S′
+use Rattle.node_state.specs.declared.Record.{Record}
+use Rattle.node_state.specs.declared.Kept.{Kept}
+use Rattle.node_state.proofs.Record as T
+use Rattle.node_state.proofs.Record.Laws as T′
+use Rattle.node_state.proofs.Kept as S
+use Rattle.node_state.proofs.Kept.Laws as S′
 
 -- the parameters after the record
 abbrev pub others : {n : ℕ} → List (Slot n) → List (Slot n)

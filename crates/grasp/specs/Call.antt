@@ -1,7 +1,7 @@
 -- What `grasp_node_call` answers and leaves, where the host keeps the record as its address and six numbers.
 use Prim.Native.Nat.{ℕ}
 use mathlib.Core.List.{List}
-use Rattle.node.specs.Record.{keeps}
+use Rattle.node_state.specs.Record.{keeps}
 use Rattle.node.specs.Call.{Call}
 use Rattle.host.specs.Records.{nodeOf, numbersAfter}
 use Rattle.host.specs.Call.{callLeft}

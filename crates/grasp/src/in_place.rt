@@ -1,13 +1,13 @@
 // A node's record that the host keeps as a struct, changed in place: each function hands the record to a step by value and stores the one that comes back.
 // A refusal leaves the record, and all else, as it was.
 ghost use mathlib.Core.Path.{_≡_};
-ghost use Rattle.node.specs.Record.{keeps, setLinks};
+ghost use Rattle.node_state.specs.Record.{keeps, setLinks};
 ghost use Rattle.node.specs.Call.{callOf};
 ghost use Rattle.host.specs.Call.{leftOf, callLeft};
 ghost use Rattle.host.specs.Records.{freshOver};
 use host::call;
 use host::records;
-use node::Record;
+use node_state::Record;
 
 // 0 and a fresh record, or 12.
 #[no_mangle]

@@ -1,9 +1,9 @@
 // A node's record, for C: its address, 16 bytes that the host keeps, and six numbers, its port, ttl, interfaces, links, clock and tally.
 ghost use mathlib.Core.Path.{_≡_};
-ghost use Rattle.node.specs.Record.{fresh, setLinks};
+ghost use Rattle.node_state.specs.Record.{fresh, setLinks};
 ghost use Rattle.host.specs.Records.{nodeOf, numbersAfter};
 use host::records;
-use node::Record;
+use node_state::Record;
 
 // 0 and the numbers of a fresh record, or 12 and the numbers as they were.
 #[no_mangle]

@@ -15,19 +15,19 @@ use Rattle.base.proofs.Picks.{pick-case}
 use Rattle.message.specs.declared.Message.{Message}
 use Rattle.message.specs.declared.Reading.{Reading}
 use Rattle.message.specs.Read.{readOf}
-use Rattle.node.specs.declared.Record.{Record}
-use Rattle.node.specs.declared.Kept.{Kept}
+use Rattle.node_state.specs.declared.Record.{Record}
+use Rattle.node_state.specs.declared.Kept.{Kept}
 use Rattle.node.specs.declared.Verdict.{Verdict}
 use Rattle.node.specs.declared.Verdict.the-variants.{Own, Duplicate, Last, Nowhere, NoRow, Noop, Hand}
 use Rattle.node.specs.declared.role.Spread.{Spread}
 use Rattle.node.specs.declared.role.Role.{Role}
-use Rattle.node.specs.declared.table.Key.{Key}
-use Rattle.node.specs.Record.{setLinks, linked, clocked}
-use Rattle.node.specs.Table.{cell, rowLife, freed, putRow, lowestFree, isKnown}
+use Rattle.node_state.specs.declared.table.Key.{Key}
+use Rattle.node_state.specs.Record.{setLinks, linked, clocked}
+use Rattle.node_state.specs.Table.{cell, rowLife, freed, putRow, lowestFree, isKnown}
 use Rattle.node.specs.Role.{roleOf, RoleIn, keyIn}
 use Rattle.node.specs.Call.{Call, After, barred, refuse, quiet, laterVerdict, verdictOn, answered, relayed, carriedOut, taken, judged, nodeCall, Passed}
 use Rattle.node.specs.History.{isRelay, saysRelay}
-use Rattle.node.proofs.Rows.{Holds, put-other, same-holds, free-keeps, lowest-zero, unknown, row-admitted}
+use Rattle.node_state.proofs.Rows.{Holds, put-other, same-holds, free-keeps, lowest-zero, unknown, row-admitted}
 use Rattle.node.proofs.Outcomes.{passed}
 
 -- ---- the ways a node call can go

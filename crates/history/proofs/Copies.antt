@@ -16,7 +16,7 @@ use Rattle.base.specs.Pick.{pick}
 use Rattle.base.specs.Lists.{Every, Distinct}
 use Rattle.base.proofs.Picks.{pick-case}
 use Rattle.base.proofs.Lists.{every-imp}
-use Rattle.node.specs.Record.{isUp}
+use Rattle.node_state.specs.Record.{isUp}
 use Rattle.node.specs.History.{interfacesIn}
 
 -- each is below n and up

@@ -19,18 +19,18 @@ use Rattle.base.proofs.Bools.{not-both}
 use Rattle.base.proofs.Lists.{every-imp, every-chosen, pairs-chosen}
 use Rattle.base.proofs.Pigeonhole.{pigeonhole}
 use Rattle.negotiation.proofs.Turns.{negotiation-bounded}
-use Rattle.node.specs.declared.Record.{Record}
-use Rattle.node.specs.declared.Kept.{Kept}
+use Rattle.node_state.specs.declared.Record.{Record}
+use Rattle.node_state.specs.declared.Kept.{Kept}
 use Rattle.node.specs.declared.role.Spread.{Spread}
-use Rattle.node.specs.Record.{fresh, isUp, others, clocked, tallied, setLinks}
-use Rattle.node.specs.Table.{freshTable, rowLife, freed, lowestFree, isKnown}
+use Rattle.node_state.specs.Record.{fresh, isUp, others, clocked, tallied, setLinks}
+use Rattle.node_state.specs.Table.{freshTable, rowLife, freed, lowestFree, isKnown}
 use Rattle.node.specs.Role.{keyIn}
 use Rattle.node.specs.Call.{Call, After, written, onward, relayed, nodeCall}
 use Rattle.node.specs.History.{Event, call, links, Step, steps, finally, Fits, isRelay, saysRelay, maskOf, lengthOf, Told, told, relaysOf, given, sent, clockOf, arrivedOn, interfacesIn, copies, copiesOf, SameKey, apartBy, Apart, GoesOut, Near, Few, WholeList}
 use Rattle.node.specs.Demand.{Demand3}
-use Rattle.node.proofs.Masks.{record-links, up-below, taken-down}
-use Rattle.node.proofs.Rows.{put-holds, length-free, table-sized}
-use Rattle.node.proofs.Keys.{key-life, key-used}
+use Rattle.node_state.proofs.Masks.{record-links, up-below, taken-down}
+use Rattle.node_state.proofs.Rows.{put-holds, length-free, table-sized}
+use Rattle.node_state.proofs.Keys.{key-life, key-used}
 use Rattle.node.proofs.Outcomes.{arrives}
 use Rattle.node.proofs.Spreads.{role-spreading}
 use Rattle.history.proofs.Told.{spread-told, told-spread, onward-count}

@@ -9,14 +9,14 @@ use Rattle.base.specs.Pick.{pick}
 use Rattle.base.proofs.Picks.{pick-case, both}
 use Rattle.message.specs.declared.Reading.{Reading}
 use Rattle.message.specs.Read.{readOf}
-use Rattle.node.specs.declared.Record.{Record}
+use Rattle.node_state.specs.declared.Record.{Record}
 use Rattle.node.specs.declared.Called.{Called}
 use Rattle.node.specs.declared.Verdict.{Verdict}
 use Rattle.node.specs.declared.Verdict.the-variants.{Own, Answer, Duplicate, Last, Nowhere, NoRow, Relay, Noop, Hand}
 use Rattle.node.specs.declared.role.Spread.{Spread}
 use Rattle.node.specs.declared.role.Role.{Role}
-use Rattle.node.specs.Record.{clocked}
-use Rattle.node.specs.Table.{freed}
+use Rattle.node_state.specs.Record.{clocked}
+use Rattle.node_state.specs.Table.{freed}
 use Rattle.node.specs.Role.{roleOf}
 use Rattle.node.specs.Call.{Call, After, afterOf, refuse, quiet, verdictOn, answered, relayed, carriedOut, taken, judged, nodeCall}
 use Rattle.host.specs.declared.call.Answer as A

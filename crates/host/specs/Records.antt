@@ -4,9 +4,9 @@ use mathlib.Core.List.{List, [], _∷_}
 use lib.ListN.{getD, replicate}
 use lib.Dec.{ltb, eqb}
 use Rattle.base.specs.Pick.{pick}
-use Rattle.node.specs.declared.Record.{Record}
-use Rattle.node.specs.declared.Kept.{Kept}
-use Rattle.node.specs.Record.{keeps, begun, fresh}
+use Rattle.node_state.specs.declared.Record.{Record}
+use Rattle.node_state.specs.declared.Kept.{Kept}
+use Rattle.node_state.specs.Record.{keeps, begun, fresh}
 
 unfoldable pub blank : Record
 blank = begun (replicate 16 0) 0 0 0 0

@@ -4,11 +4,11 @@ ghost use Rattle.node.specs.Call.{callOf};
 ghost use Rattle.host.specs.Call.{verdictNumber, upNumber, answerFrom, callAnswer, callTable, callOutput, leftOf, callLeft};
 use crate::table;
 use node::Called;
-use node::Kept;
-use node::Record;
 use node::Reply;
 use node::Verdict;
 use node::call;
+use node_state::Kept;
+use node_state::Record;
 
 // A node call's answer: the number of the refusal, 0 for none; the verdict's number (the header names them), whether the message is handed up, the mask
 // of the interfaces to send on, how many bytes to send, all 0 for a refusal; and the record.

@@ -1,8 +1,8 @@
 // A node's record as a host keeps it: its address, 16 bytes, and six numbers, its port, ttl, interfaces, links, clock and tally.
 ghost use mathlib.Core.Path.{_≡_};
 ghost use Rattle.host.specs.Records.{blank, nodeOf, nodeNumbers, numbersAfter, freshOver};
-use node::Kept;
-use node::Record;
+use node_state::Kept;
+use node_state::Record;
 
 // The number of the refusal; the numbers of the record that is kept, or as they were.
 pub fn put(kept: Kept, numbers: &mut [u64; 6]) -> u8

@@ -1,7 +1,4 @@
--- `Rows`: the rows of the relay table. `Masks`: masks of links. `Spreads`: a Discovery or a Flood that was read. `Sends`: what a node sends.
-pub mod Rows
-pub mod Masks
+-- `Spreads`: a Discovery or a Flood that was read. `Sends`: what a node sends.
 pub mod Spreads
 pub mod Sends
-pub mod Keys
 pub mod Outcomes

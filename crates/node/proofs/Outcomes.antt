@@ -8,7 +8,7 @@ use native.Mathlib.Omega.{arith}
 use lib.Count.{ones}
 use lib.Dec.{leb}
 use lib.ListN.{length}
-use borrow.Author.Tests.{eq-eqb, ne-eqb, le-leb, lt-leb, ltb-false, leb-false, not-false}
+use borrow.Author.Tests.{eq-eqb, ne-eqb, lt-ltb, le-ltb, le-leb, lt-leb, ltb-false, leb-false, not-false}
 use Rattle.options.specs.Text.{held}
 use Rattle.base.specs.Pick.{pick}
 use Rattle.base.proofs.Picks.{pick-case}
@@ -18,18 +18,19 @@ use Rattle.message.specs.declared.Reading.{Reading}
 use Rattle.message.specs.Read.{mostBytes, readOf}
 use Rattle.names.specs.Names.{sameBytes, isOwn}
 use Rattle.writer.specs.declared.Written.{Written}
-use Rattle.node.specs.declared.Record.{Record}
+use Rattle.node_state.specs.declared.Record.{Record}
 use Rattle.node.specs.declared.Called.{Called}
 use Rattle.node.specs.declared.Reply.the-variants.{Refused, Given}
 use Rattle.node.specs.declared.Verdict.{Verdict}
 use Rattle.node.specs.declared.Verdict.the-variants.{Own, Answer, Duplicate, Last, Nowhere, NoRow, Relay, Noop, Hand}
 use Rattle.node.specs.declared.role.Spread.{Spread}
-use Rattle.node.specs.Record.{recordBad, arrivalBad, isUp, others, clocked, tallied}
-use Rattle.node.specs.Table.{freed, putRow, lowestFree, isKnown}
+use Rattle.node_state.specs.declared.table.Key.{Key}
+use Rattle.node_state.specs.Record.{recordBad, arrivalBad, isUp, others, clocked, tallied}
+use Rattle.node_state.specs.Table.{whereSized, freed, lowestFree, filled, isKnown}
 use Rattle.node.specs.Role.{roleOf, keyIn}
 use Rattle.node.specs.Call.{Call, callOf, After, afterOf, barred, replies, refuse, quiet, written, onward, response, laterVerdict, verdictOn, answered, relayed, carriedOut, taken, judged, nodeCall, Passed, Ready}
-use Rattle.node.proofs.Masks.{record-links, record-tally}
-use Rattle.node.proofs.Rows.{length-free, table-sized}
+use Rattle.node_state.proofs.Masks.{record-links, record-tally}
+use Rattle.node_state.proofs.Rows.{of-sized, length-free, table-sized}
 
 -- ---- what was written
 
@@ -95,19 +96,27 @@ module _ (r : Record) (t : List ℕ) (c : Call) (s : Spread) where
     nowhere-outcome b e none = rw (lt-leb (s .objective .count) 1 counts, eq-eqb (others r (c .interface)) 0 none, e) refl
 
     module _ (some : others r (c .interface) ≡ 0 → ⊥) where
-      pub norow-outcome : (b : Called) → b ≡ replies (Given NoRow (s .flood) 0 0) r → 64 ≤ lowestFree t
-          → afterOf b t (c .output) ≡ carriedOut r t c s (laterVerdict r t c s)
-      unfolding laterVerdict carriedOut quiet pick
-      norow-outcome b e full =
-          rw (lt-leb (s .objective .count) 1 counts, ne-eqb (others r (c .interface)) 0 some, le-leb 64 (lowestFree t) full, e) refl
+      module _ (sized : length t ≡ 256) (k : Key) (keyed : k ≡ keyIn (c .message) s) (row : ℕ) (t′ : List ℕ)
+          (found : (row ≡ whereSized t (lowestFree t) 64) × (t′ ≡ whereSized t (filled t k (r .clock)) t)) where
+        lowest : row ≡ lowestFree t
+        lowest = found .0 ∙ of-sized t (lowestFree t) 64 sized
 
-      pub relay-outcome : (b : Called) (t′ out : List ℕ)
-          → b ≡ replies (Given Relay (s .flood) (others r (c .interface)) (length (onward (c .message) (s .objective)))) (tallied r (ones (others r (c .interface))))
-          → t′ ≡ putRow t (lowestFree t) (keyIn (c .message) s) (r .clock) → out ≡ written (onward (c .message) (s .objective)) (c .output)
-          → lowestFree t < 64 → afterOf b t′ out ≡ carriedOut r t c s (laterVerdict r t c s)
-      unfolding laterVerdict carriedOut relayed pick
-      relay-outcome b t′ out e f g room =
-          rw (lt-leb (s .objective .count) 1 counts, ne-eqb (others r (c .interface)) 0 some, lt-leb 64 (lowestFree t) room, e, f, g) refl
+        left : t′ ≡ filled t k (r .clock)
+        left = found .1 ∙ of-sized t (filled t k (r .clock)) t sized
+
+        pub norow-outcome : (b : Called) → b ≡ replies (Given NoRow (s .flood) 0 0) r → 64 ≤ row → afterOf b t′ (c .output) ≡ carriedOut r t c s (laterVerdict r t c s)
+        unfolding laterVerdict carriedOut quiet filled pick
+        norow-outcome b e full =
+            let none : 64 ≤ lowestFree t = rw lowest at full in
+            rw (lt-leb (s .objective .count) 1 counts, ne-eqb (others r (c .interface)) 0 some, left, le-leb 64 (lowestFree t) none, le-ltb (lowestFree t) 64 none, e) refl
+
+        pub relay-outcome : (b : Called) (out : List ℕ)
+            → b ≡ replies (Given Relay (s .flood) (others r (c .interface)) (length (onward (c .message) (s .objective)))) (tallied r (ones (others r (c .interface))))
+            → out ≡ written (onward (c .message) (s .objective)) (c .output) → row < 64 → afterOf b t′ out ≡ carriedOut r t c s (laterVerdict r t c s)
+        unfolding laterVerdict carriedOut relayed filled pick
+        relay-outcome b out e g room =
+            let free : lowestFree t < 64 = rw lowest at room in
+            rw (lt-leb (s .objective .count) 1 counts, ne-eqb (others r (c .interface)) 0 some, left, keyed, lt-leb 64 (lowestFree t) free, lt-ltb (lowestFree t) 64 free, e, g) refl
 
 -- ---- the whole call
 
@@ -157,6 +166,10 @@ readied r t clock i room p =
       tally = record-tally r (p .good);
       fits = p .fits;
     }
+
+-- and the table is freed
+pub passed-freed : {r : Record} {t t′ : List ℕ} {clock i room : ℕ} → Passed r t clock i room → t′ ≡ whereSized t (freed clock t) t → t′ ≡ freed clock t
+passed-freed {t = t} {clock = clock} p e = e ∙ of-sized t (freed clock t) t (table-sized clock t (p .table))
 
 module _ (r : Record) (t : List ℕ) (c : Call) where
   pub barred-outcome : (n : ℕ) (b : Called) → n ≡ barred r t (c .clock) (c .interface) (c .names) (length (c .output)) → (n ≡ 0 → ⊥) → b ≡ replies (Refused n) r

@@ -1,6 +1,6 @@
 -- What a node sends: the message with its count one lower, and the Response of an answer; both fit an output of 2,048 bytes.
 -- Assumes nothing.
-use mathlib.Core.Path.{_≡_, refl, ap}
+use mathlib.Core.Path.{_≡_, refl, ap, _∙_}
 use mathlib.Core.Bool.{true}
 use mathlib.Core.Logic.{_⊎_, inl, inr}
 use mathlib.Core.List.{List, flatMap}
@@ -22,10 +22,13 @@ use Rattle.description.specs.Encoding.{string, reached, fixed, encodeLoc, targe
 use Rattle.writer.specs.declared.Written.{Written}
 use Rattle.writer.specs.Write.{handAnswer, handOut, passes, passAnswer, passOut, lowerAnswer, lowerOut, answerOf}
 use Rattle.roundtrip.proofs.Relay.{lowered-given}
-use Rattle.node.specs.declared.Record.{Record}
+use Rattle.node_state.specs.declared.Record.{Record}
 use Rattle.node.specs.declared.role.Spread.{Spread}
 use Rattle.node.specs.declared.role.Role.{Role}
-use Rattle.node.specs.Role.{RoleIn, Within}
+use Rattle.node_state.specs.declared.table.Key.{Key}
+use Rattle.node_state.specs.Key.{keyFor}
+use Rattle.node_state.proofs.Keys.{key-sized}
+use Rattle.node.specs.Role.{RoleIn, Within, keyIn}
 use Rattle.node.specs.Call.{onward, response, written}
 use Rattle.node.proofs.Spreads.{role-spreading, read-most}
 
@@ -79,3 +82,17 @@ response-given r message out s sixteen w room =
 -- `&message[at..at + len]`
 pub part-held : (s : List ℕ) (i : Span) → take (i .at + i .len - i .at) (drop (i .at) s) ≡ held s i
 part-held s i = let e : i .at + i .len - i .at ≡ i .len = omega arith in ap (λ (n : ℕ). take n (drop (i .at) s)) e
+
+-- so the key of that part is the key of s
+pub key-held : {message : List ℕ} {s : Spread} (k : Key) → Within message s
+    → k ≡ keyFor (s .flood) (s .session) (take (s .initiator .at + s .initiator .len - s .initiator .at) (drop (s .initiator .at) message)) → k ≡ keyIn message s
+unfolding keyIn
+key-held {message = message} {s = s} k w e =
+    e ∙ ap (keyFor (s .flood) (s .session)) (part-held message (s .initiator)) ∙ key-sized (s .flood) (s .session) (held message (s .initiator)) (sized (w .bytes))
+  where
+    long : length (held message (s .initiator)) ≡ s .initiator .len
+    long = held-length message (s .initiator) (w .initiator)
+
+    sized : (s .initiator .len ≡ 4) ⊎ (s .initiator .len ≡ 16) → (length (held message (s .initiator)) ≡ 4) ⊎ (length (held message (s .initiator)) ≡ 16)
+    sized (inl q) = inl (long ∙ q)
+    sized (inr q) = inr (long ∙ q)

@@ -14,7 +14,7 @@ use Rattle.message.specs.declared.Reading.{Reading}
 use Rattle.message.specs.Read.{mostBytes, readOf}
 use Rattle.writer.specs.Write.{lowered, answerOf}
 use Rattle.names.specs.Names.{namesBad, sameBytes, isOwn}
-use Rattle.node.specs.declared.Record.{Record}
+use Rattle.node_state.specs.declared.Record.{Record}
 use Rattle.node.specs.declared.Verdict.{Verdict}
 use Rattle.node.specs.declared.Verdict.the-variants.{Own, Answer, Duplicate, Last, Nowhere, NoRow, Relay, Noop, Hand}
 use Rattle.node.specs.declared.Reply.{Reply}
@@ -22,8 +22,8 @@ use Rattle.node.specs.declared.Reply.the-variants.{Refused, Given}
 use Rattle.node.specs.declared.Called.{Called}
 use Rattle.node.specs.declared.role.Spread.{Spread}
 use Rattle.node.specs.declared.role.Role.{Role}
-use Rattle.node.specs.Record.{recordBad, arrivalBad, others, clocked, tallied, isUp}
-use Rattle.node.specs.Table.{mostRows, tableBad, freed, putRow, lowestFree, isKnown}
+use Rattle.node_state.specs.Record.{recordBad, arrivalBad, others, clocked, tallied, isUp}
+use Rattle.node_state.specs.Table.{mostRows, tableBad, freed, putRow, lowestFree, isKnown}
 use Rattle.node.specs.Role.{roleOf, keyIn}
 
 -- what a node call is given beside the record and the table

@@ -3,8 +3,8 @@ use Prim.Native.Nat.{ℕ}
 use mathlib.Core.List.{List}
 use Rattle.base.specs.Lists.{Every}
 use Rattle.negotiation.specs.Turns.{Sent, Bounded}
-use Rattle.node.specs.Record.{fresh}
-use Rattle.node.specs.Table.{freshTable}
+use Rattle.node_state.specs.Record.{fresh}
+use Rattle.node_state.specs.Table.{freshTable}
 use Rattle.node.specs.History.{Event, Fits, WholeList}
 
 pub record Demand3 : Type 0 where

@@ -1,7 +1,5 @@
--- `Record`: the record and the masks of links. `Table`: the relay table. `Role`: what a node looks at in a message, and its key. `Call`: the node call.
+-- `Role`: what a node looks at in a message, and its key. `Call`: the node call.
 -- `History`: a list of calls and link settings. `Demand`: demand 3 as one statement.
-pub mod Record
-pub mod Table
 pub mod Role
 pub mod Call
 pub mod History

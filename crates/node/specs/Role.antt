@@ -1,14 +1,11 @@
--- What a node looks at in a message (the rules, "Verdicts"), and the key of its row (the rules, "Record and relay table").
-use Prim.Native.Nat.{ℕ, _+_, _*_, _^_, _≤_}
+-- What a node looks at in a message (the rules, "Verdicts"), and the key of its row.
+use Prim.Native.Nat.{ℕ, _+_, _≤_}
 use mathlib.Core.Bool.{Bool, true, false}
 use mathlib.Core.List.{List}
 use mathlib.Core.Logic.{_⊎_}
 use mathlib.Core.Path.{_≡_}
-use lib.ListN.{length, drop}
-use lib.Dec.{eqb}
+use lib.ListN.{length}
 use Rattle.options.specs.Text.{held}
-use Rattle.base.specs.Pick.{pick}
-use Rattle.base.specs.BigEndian.{bigEndian}
 use Rattle.options.specs.declared.Span.{Span}
 use Rattle.options.specs.declared.objective.Objective.{Objective}
 use Rattle.message.specs.declared.Message.{Message}
@@ -17,7 +14,8 @@ use Rattle.message.specs.declared.Reading.{Reading}
 use Rattle.message.specs.Read.{readOf}
 use Rattle.node.specs.declared.role.Spread.{Spread}
 use Rattle.node.specs.declared.role.Role.{Role}
-use Rattle.node.specs.declared.table.Key.{Key}
+use Rattle.node_state.specs.declared.table.Key.{Key}
+use Rattle.node_state.specs.Key.{keyOf}
 
 abbrev pub spreadOf : Bool → ℕ → Span → Objective → Spread
 spreadOf flood session initiator objective = record { flood = flood; session = session; initiator = initiator; objective = objective }
@@ -47,17 +45,6 @@ pub record Within (message : List ℕ) (s : Spread) : Type 0 where
   pub initiator : s .initiator .at + s .initiator .len ≤ length message
   pub bytes : (s .initiator .len ≡ 4) ⊎ (s .initiator .len ≡ 16)
   pub name : s .objective .name .at + s .objective .name .len ≤ length message
-
--- 1 and 2 for a Discovery whose initiator has 4 and 16 bytes, 3 and 4 for a Flood
-unfoldable pub tagOf : Bool → ℕ → ℕ
-tagOf flood len = pick flood (pick (eqb len 4) 3 4) (pick (eqb len 4) 1 2)
-
--- a row's first three numbers: session + 2^32 times the tag; the initiator, where it has 4 bytes in the second alone
-unfoldable pub keyOf : Bool → ℕ → List ℕ → Key
-keyOf flood session initiator =
-    let first = session + 2 ^ 32 * tagOf flood (length initiator) in
-    pick (eqb (length initiator) 4) (record { first = first; second = bigEndian initiator 4; third = 0 })
-    (record { first = first; second = bigEndian initiator 8; third = bigEndian (drop 8 initiator) 8 })
 
 -- the key of s, which was read of the message
 unfoldable pub keyIn : List ℕ → Spread → Key

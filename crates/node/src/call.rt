@@ -4,21 +4,21 @@ ghost use Prim.Native.Nat.{_<_};
 ghost use lib.ListN.{length};
 ghost use mathlib.Core.Bool.{true, false};
 ghost use Rattle.node.specs.Call.{callOf, afterOf, replies, barred, nodeCall, taken, Passed};
-ghost use Rattle.node.specs.Record.{recordBad, arrivalBad, clocked};
+ghost use Rattle.node_state.specs.Record.{recordBad, arrivalBad, clocked};
 ghost use Rattle.node.specs.declared.Reply.the-variants.{Given};
-ghost use Rattle.node.specs.Table.{freed};
+ghost use Rattle.node_state.specs.Table.{freed};
 ghost use Rattle.node.specs.Role.{RoleIn};
 use crate::Called;
-use crate::Record;
 use crate::Reply;
 use crate::Verdict;
 use crate::links;
 use crate::role;
 use crate::role::Role;
 use crate::spread;
-use crate::table;
 use message::MOST_BYTES;
 use message::Reading;
+use node_state::Record;
+use node_state::table;
 
 // What a node does with a message that arrives on an interface: 12 to 17 in their order, then the message's own refusal, then the first verdict that
 // applies. A refusal leaves record, table and output as they were.

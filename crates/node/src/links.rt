@@ -2,20 +2,7 @@
 ghost use mathlib.Core.Path.{_≡_};
 ghost use mathlib.Core.Bool.{true};
 ghost use Prim.Native.Nat.{_-_, _^_, _<_};
-ghost use Rattle.node.specs.Record.{linksBad, isUp};
-
-// The interfaces aren't 1 to 8, or a bit is set at or above their number.
-pub(crate) fn are_bad(interfaces: u64, mask: u64) -> bool
-    ensures { λ r. ⌜ r ≡ linksBad interfaces mask ⌝ }
-{
-    if interfaces == 0 {
-        return true;
-    }
-    if 8 < interfaces {
-        return true;
-    }
-    (1 << interfaces) <= mask
-}
+ghost use Rattle.node_state.specs.Record.{isUp};
 
 // The link of interface i is up.
 pub(crate) fn is_up(mask: u8, i: u8) -> bool

@@ -12,19 +12,19 @@ ghost use Rattle.names.specs.Names.{sameBytes, isOwn};
 ghost use Rattle.node.specs.declared.Reply.the-variants.{Given};
 ghost use Rattle.node.specs.declared.Verdict.the-variants.{Answer, Relay};
 ghost use Rattle.node.specs.declared.role.Role.the-variants.{Spreads};
-ghost use Rattle.node.specs.Record.{tallied};
+ghost use Rattle.node_state.specs.Record.{tallied};
 ghost use Rattle.node.specs.Role.{RoleIn, Within, keyIn};
 ghost use Rattle.node.specs.Call.{callOf, afterOf, replies, laterVerdict, verdictOn, carriedOut, onward, response, written, Ready};
 use crate::Called;
-use crate::Record;
 use crate::Reply;
 use crate::Verdict;
 use crate::call;
-use crate::key;
 use crate::links;
 use crate::role::Spread;
-use crate::table;
-use crate::table::Key;
+use node_state::Record;
+use node_state::key;
+use node_state::table;
+use node_state::table::Key;
 use writer::Written;
 
 // OWN, ANSWER, DUPLICATE, then the others.
@@ -47,7 +47,7 @@ pub(crate) fn judge(
     if is_ours(names, message, s) {
         return answer(node, interface, message, s, out);
     }
-    let key = key::key_of(message, s);
+    let key = key_in(message, s);
     if table::knows(table, key) {
         return call::quiet(node, Verdict::Duplicate, false);
     }
@@ -122,6 +122,16 @@ fn put_response(node: Record, message: &[u8], s: Spread, out: &mut [u8]) -> usiz
     }
 }
 
+// The key of the row of s.
+fn key_in(message: &[u8], s: Spread) -> Key
+    requires { ⌜ Within (now message) s ⌝ }
+    ensures { λ r. ⌜ r ≡ keyIn (now (message .entry)) s ⌝ }
+{
+    let at = s.initiator.at;
+    let to = at + s.initiator.len;
+    key::key_of(s.flood, s.session, &message[at..to])
+}
+
 // LAST, NOWHERE, NOROW, RELAY.
 fn relay_or_end(
     node: Record,
@@ -144,11 +154,10 @@ fn relay_or_end(
     if mask == 0 {
         return call::quiet(node, Verdict::Nowhere, s.flood);
     }
-    let row = table::lowest_free(table);
+    let row = table::fill_lowest(table, key, node.clock);
     if Record::ROWS <= row {
         return call::quiet(node, Verdict::NoRow, s.flood);
     }
-    table::put_row(table, row, key, node.clock);
     let length = put_onward(message, s, out);
     relayed(node, s.flood, mask, length)
 }

@@ -1,5 +1,5 @@
 // One number for a whole record and table: each part is added to a factor times what stood before, modulo a prime.
-use node::Record;
+use node_state::Record;
 
 // The greatest prime below 2^32.
 const PRIME: u64 = 4_294_967_291;

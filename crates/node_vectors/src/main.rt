@@ -5,7 +5,7 @@ mod digest;
 mod input;
 mod line;
 
-use node::Record;
+use node_state::Record;
 
 // The most numbers of a table that is lent: 80 rows.
 const MOST_NUMBERS: usize = 320;

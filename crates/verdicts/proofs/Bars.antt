@@ -16,11 +16,11 @@ use Rattle.base.specs.Pick.{pick}
 use Rattle.base.proofs.Picks.{pick-case}
 use Rattle.base.proofs.Bools.{true-or-false, or-true, not-both}
 use Rattle.names.specs.Names.{namesBad}
-use Rattle.node.specs.declared.Record.{Record}
-use Rattle.node.specs.Record.{linksBad, recordBad, arrivalBad, isUp}
-use Rattle.node.specs.Table.{tableBad}
+use Rattle.node_state.specs.declared.Record.{Record}
+use Rattle.node_state.specs.Record.{linksBad, recordBad, arrivalBad, isUp}
+use Rattle.node_state.specs.Table.{tableBad}
 use Rattle.node.specs.Call.{Call, barred}
-use Rattle.node.proofs.Masks.{up-le}
+use Rattle.node_state.proofs.Masks.{up-le}
 use Rattle.verdicts.specs.Bars.{BadRecord, no-interface, many-interfaces, high-link, high-tally, BadArrival, Earlier, GoodTable, BadNames, ShortOutput, Barred, bad-record, bad-arrival, bad-clock, bad-table, bad-names, short-output, nothing}
 use Rattle.verdicts.specs.Due.{bar}
 use Rattle.verdicts.proofs.Links.{top-off}

@@ -28,12 +28,13 @@ use Rattle.message.specs.Flood.{floodedBy, floodedOf, floodedAt, floodBy, flood
 use Rattle.message.specs.Read.{byKind, judged, shaped, framed, examined, placeless, readOf}
 use Rattle.writer.specs.Write.{lowered}
 use Rattle.names.specs.Names.{goodName, goodNames, arrayBad, framedBad, namesBad, sameBytes, ownFrom, isOwn}
-use Rattle.node.specs.declared.Record.{Record}
+use Rattle.node_state.specs.declared.Record.{Record}
 use Rattle.node.specs.declared.Verdict.the-variants.{Duplicate, Relay}
 use Rattle.node.specs.declared.Reply.the-variants.{Given}
-use Rattle.node.specs.Record.{linksBad, recordBad, fresh, isUp, arrivalBad, others, clocked, tallied}
-use Rattle.node.specs.Table.{freshTable, cell, putRow, rowFree, tagIn, initiatorFits, rowKeyed, rowUsed, rowBad, firstFrom, someRow, tableBad, rowLife, rowDead, freeRows, freed, lowestFree, rowMatches, isKnown}
-use Rattle.node.specs.Role.{roleOf, tagOf, keyOf, keyIn}
+use Rattle.node_state.specs.Record.{linksBad, recordBad, fresh, isUp, arrivalBad, others, clocked, tallied}
+use Rattle.node_state.specs.Table.{freshTable, cell, putRow, rowFree, tagIn, initiatorFits, rowKeyed, rowUsed, rowBad, firstFrom, someRow, tableBad, rowLife, rowDead, freeRows, freed, lowestFree, rowMatches, isKnown}
+use Rattle.node_state.specs.Key.{tagOf, keyOf}
+use Rattle.node.specs.Role.{roleOf, keyIn}
 use Rattle.node.specs.History.{Event, call, steps}
 use Rattle.node.specs.Call.{callOf, After, afterOf, barred, replies, refuse, quiet, written, onward, laterVerdict, verdictOn, relayed, carriedOut, taken, judged as callJudged, nodeCall}
 

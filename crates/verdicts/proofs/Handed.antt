@@ -14,7 +14,7 @@ use Rattle.message.specs.declared.Message.the-variants as M
 use Rattle.message.specs.declared.Reading.{Reading}
 use Rattle.contents.specs.Fields.{kindOf}
 use Rattle.message.specs.Read.{readOf}
-use Rattle.node.specs.declared.Record.{Record}
+use Rattle.node_state.specs.declared.Record.{Record}
 use Rattle.node.specs.declared.Verdict.{Verdict}
 use Rattle.node.specs.declared.Verdict.the-variants.{Own, Answer, Duplicate, Last, Nowhere, NoRow, Relay, Noop, Hand}
 use Rattle.node.specs.declared.Reply.the-variants.{Given}

@@ -11,8 +11,8 @@ use lib.Dec.{eqb}
 use lib.Pow.{pow-lt, pow-add, pow-pos, shr-lt, split, high, shr-shr, field}
 use borrow.Author.Tests.{eqb-true, eqb-false}
 use Rattle.base.proofs.Bools.{true-or-false, not-both}
-use Rattle.node.specs.Record.{isUp}
-use Rattle.node.proofs.Masks.{up-below, up-le, taken-down}
+use Rattle.node_state.specs.Record.{isUp}
+use Rattle.node_state.proofs.Masks.{up-below, up-le, taken-down}
 
 -- bit j is one of the last j + 1
 low-bits : (x y j : ℕ) → x % 2 ^ (1 + j) ≡ y % 2 ^ (1 + j) → isUp x j ≡ isUp y j

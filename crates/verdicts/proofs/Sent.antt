@@ -13,15 +13,15 @@ use Rattle.message.specs.declared.Message.{Message}
 use Rattle.message.specs.declared.Message.the-variants as M
 use Rattle.message.specs.declared.Reading.{Reading}
 use Rattle.message.specs.Read.{readOf}
-use Rattle.node.specs.declared.Record.{Record}
+use Rattle.node_state.specs.declared.Record.{Record}
 use Rattle.node.specs.declared.Verdict.{Verdict}
 use Rattle.node.specs.declared.Verdict.the-variants.{Answer, Relay}
 use Rattle.node.specs.declared.Reply.{Reply}
 use Rattle.node.specs.declared.Reply.the-variants.{Given}
 use Rattle.node.specs.declared.role.Spread.{Spread}
 use Rattle.node.specs.declared.role.Role.{Role}
-use Rattle.node.specs.Record.{others, clocked}
-use Rattle.node.specs.Table.{freed, lowestFree}
+use Rattle.node_state.specs.Record.{others, clocked}
+use Rattle.node_state.specs.Table.{freed, lowestFree}
 use Rattle.node.specs.Role.{RoleIn, keyIn}
 use Rattle.node.specs.Call.{Call, After, afterOf, replies, refuse, quiet, onward, response, answered, relayed, nodeCall}
 use Rattle.node.specs.History.{isRelay, saysRelay}

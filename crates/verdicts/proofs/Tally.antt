@@ -14,11 +14,11 @@ use Rattle.base.specs.Lists.{Every}
 use Rattle.base.proofs.Bools.{not-both}
 use Rattle.base.proofs.Lists.{every-imp}
 use Rattle.base.proofs.Pigeonhole.{pigeonhole}
-use Rattle.node.specs.declared.Record.{Record}
-use Rattle.node.specs.Record.{recordBad, arrivalBad, isUp, others, clocked, tallied, setLinks}
+use Rattle.node_state.specs.declared.Record.{Record}
+use Rattle.node_state.specs.Record.{recordBad, arrivalBad, isUp, others, clocked, tallied, setLinks}
 use Rattle.node.specs.Call.{Call, After, relayed, nodeCall}
 use Rattle.node.specs.History.{Event, call, links, finally, interfacesIn}
-use Rattle.node.proofs.Masks.{record-links, record-tally, up-below, taken-down}
+use Rattle.node_state.proofs.Masks.{record-links, record-tally, up-below, taken-down}
 use Rattle.node.proofs.Outcomes.{arrives}
 use Rattle.history.proofs.Copies.{interfaces-up, interfaces-distinct, length-interfaces}
 use Rattle.history.proofs.Calls.{View, stayed, ended, went, view, links-keep}

@@ -9,7 +9,7 @@ use Rattle.message.specs.declared.Message.{Message}
 use Rattle.message.specs.declared.Message.the-variants as M
 use Rattle.message.specs.declared.Reading.{Reading}
 use Rattle.message.specs.Read.{readOf}
-use Rattle.node.specs.declared.Record.{Record}
+use Rattle.node_state.specs.declared.Record.{Record}
 use Rattle.node.specs.declared.Verdict.{Verdict}
 use Rattle.node.specs.declared.Reply.{Reply}
 use Rattle.node.specs.declared.Reply.the-variants.{Refused, Given}

@@ -23,18 +23,19 @@ use Rattle.message.specs.declared.Reading.{Reading}
 use Rattle.message.specs.Read.{readOf}
 use Rattle.cbor.specs.Token.{tokenAt}
 use Rattle.names.specs.Names.{mostNames, sameBytes, ownFrom, isOwn}
-use Rattle.node.specs.declared.Record.{Record}
+use Rattle.node_state.specs.declared.Record.{Record}
 use Rattle.node.specs.declared.Verdict.{Verdict}
 use Rattle.node.specs.declared.Verdict.the-variants.{Own, Answer, Duplicate, Last, Nowhere, NoRow, Relay, Noop, Hand}
 use Rattle.node.specs.declared.Reply.{Reply}
 use Rattle.node.specs.declared.Reply.the-variants.{Refused, Given}
-use Rattle.node.specs.Record.{others, clocked}
-use Rattle.node.specs.Table.{freed, lowestFree, isKnown}
-use Rattle.node.specs.Role.{spreadOf, roleOf, keyOf, keyIn}
+use Rattle.node_state.specs.Record.{others, clocked}
+use Rattle.node_state.specs.Table.{freed, lowestFree, isKnown}
+use Rattle.node_state.specs.Key.{keyOf}
+use Rattle.node.specs.Role.{spreadOf, roleOf, keyIn}
 use Rattle.node.specs.Call.{Call, After, refuse, quiet, answered, relayed, laterVerdict, verdictOn, carriedOut, taken, judged, nodeCall, Passed}
 use Rattle.node.specs.History.{isRelay}
-use Rattle.node.proofs.Masks.{record-links}
-use Rattle.node.proofs.Keys.{key-used}
+use Rattle.node_state.proofs.Masks.{record-links}
+use Rattle.node_state.proofs.Keys.{key-used}
 use Rattle.node.proofs.Outcomes.{passed, arrives}
 use Rattle.verdicts.specs.Due.{namesFrom, namesIn, Ours, Known, Alone, Full, Rules, when, otherwise, First, discoveryRules, floodRules, rulesOn, Due, Does, sends-nothing, answers, relays-discovery, relays-flood, bar, Comes, barred-by, unread, given}
 use Rattle.verdicts.proofs.Rows.{known-live, full-exactly, lowest-most}

@@ -6,8 +6,8 @@ use mathlib.Core.Logic.{_⊎_}
 use mathlib.Core.Path.{_≡_}
 use lib.ListN.{length}
 use Rattle.names.specs.Names.{namesBad}
-use Rattle.node.specs.declared.Record.{Record}
-use Rattle.node.specs.Record.{isUp}
+use Rattle.node_state.specs.declared.Record.{Record}
+use Rattle.node_state.specs.Record.{isUp}
 use Rattle.node.specs.Call.{Call}
 use Rattle.verdicts.specs.Rows.{Free, Used}
 

@@ -17,13 +17,14 @@ use Rattle.message.specs.declared.Series.{Series}
 use Rattle.message.specs.declared.Reading.{Reading}
 use Rattle.message.specs.Read.{readOf}
 use Rattle.names.specs.Names.{mostNames}
-use Rattle.node.specs.declared.Record.{Record}
+use Rattle.node_state.specs.declared.Record.{Record}
 use Rattle.node.specs.declared.Verdict.{Verdict}
 use Rattle.node.specs.declared.Verdict.the-variants.{Own, Answer, Duplicate, Last, Nowhere, NoRow, Relay, Noop, Hand}
-use Rattle.node.specs.declared.table.Key.{Key}
-use Rattle.node.specs.Record.{isUp, clocked}
-use Rattle.node.specs.Table.{freed}
-use Rattle.node.specs.Role.{spreadOf, keyOf}
+use Rattle.node_state.specs.declared.table.Key.{Key}
+use Rattle.node_state.specs.Record.{isUp, clocked}
+use Rattle.node_state.specs.Table.{freed}
+use Rattle.node_state.specs.Key.{keyOf}
+use Rattle.node.specs.Role.{spreadOf}
 use Rattle.node.specs.Call.{Call, After, barred, refuse, quiet, answered, relayed}
 use Rattle.verdicts.specs.Rows.{Live, HasKey}
 

@@ -2,8 +2,8 @@
 use Prim.Native.Nat.{ℕ, _+_, _-_, _*_, _^_, _≤_, _<_}
 use mathlib.Core.List.{List}
 use mathlib.Core.Path.{_≡_}
-use Rattle.node.specs.declared.table.Key.{Key}
-use Rattle.node.specs.Table.{cell}
+use Rattle.node_state.specs.declared.table.Key.{Key}
+use Rattle.node_state.specs.Table.{cell}
 
 -- a free row is four zeros
 pub record Free (t : List ℕ) (i : ℕ) : Type 0 where

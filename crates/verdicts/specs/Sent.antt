@@ -8,12 +8,12 @@ use lib.Count.{ones}
 use lib.ListN.{length}
 use Rattle.options.specs.declared.Span.{Span}
 use Rattle.options.specs.declared.objective.Objective.{Objective}
-use Rattle.node.specs.declared.Record.{Record}
+use Rattle.node_state.specs.declared.Record.{Record}
 use Rattle.node.specs.declared.Verdict.the-variants.{Answer}
 use Rattle.node.specs.declared.Reply.the-variants.{Given}
 use Rattle.node.specs.declared.role.Spread.{Spread}
-use Rattle.node.specs.Record.{isUp, clocked, tallied}
-use Rattle.node.specs.Table.{cell, freed}
+use Rattle.node_state.specs.Record.{isUp, clocked, tallied}
+use Rattle.node_state.specs.Table.{cell, freed}
 use Rattle.node.specs.Role.{spreadOf, keyIn}
 use Rattle.node.specs.Call.{Call, After, afterOf, replies, written, onward, response}
 use Rattle.verdicts.specs.Rows.{Free, HasKey, SameRow}

@@ -38,12 +38,12 @@ use denote.Triple.Entry.{Args, Vals, alive, onEntry}
 use denote.Triple.Spec.{tripleOf}
 use denote.Triple.Table.{entered, cited}
 use denote.Triple.Walked.{walked}
-use Rattle.node.specs.declared.Record.{Record}
-use Rattle.node.specs.declared.Kept.{Kept}
-use Rattle.node.proofs.Record as T
-use Rattle.node.proofs.Record.Laws as T′
-use Rattle.node.proofs.Kept as S
-use Rattle.node.proofs.Kept.Laws as S′
+use Rattle.node_state.specs.declared.Record.{Record}
+use Rattle.node_state.specs.declared.Kept.{Kept}
+use Rattle.node_state.proofs.Record as T
+use Rattle.node_state.proofs.Record.Laws as T′
+use Rattle.node_state.proofs.Kept as S
+use Rattle.node_state.proofs.Kept.Laws as S′
 use Rattle.node.specs.Call.{callOf}
 use Rattle.host.specs.Call.{leftOf, callLeft}
 use Rattle.grasp.proofs.InPlace.{others, stayed, vals, kept, small, opened, closed, answered, to-step, to-exit, Ends, ends, meets}

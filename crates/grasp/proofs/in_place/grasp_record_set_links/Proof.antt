@@ -35,18 +35,18 @@ use denote.Triple.Entry.{Args, Vals, alive, onEntry}
 use denote.Triple.Spec.{tripleOf}
 use denote.Triple.Table.{entered, cited}
 use denote.Triple.Walked.{walked}
-use Rattle.node.specs.declared.Record.{Record}
-use Rattle.node.specs.declared.Kept.{Kept}
-use Rattle.node.proofs.Record as T
-use Rattle.node.proofs.Record.Laws as T′
-use Rattle.node.proofs.Kept as S
-use Rattle.node.proofs.Kept.Laws as S′
-use Rattle.node.specs.Record.{setLinks}
+use Rattle.node_state.specs.declared.Record.{Record}
+use Rattle.node_state.specs.declared.Kept.{Kept}
+use Rattle.node_state.proofs.Record as T
+use Rattle.node_state.proofs.Record.Laws as T′
+use Rattle.node_state.proofs.Kept as S
+use Rattle.node_state.proofs.Kept.Laws as S′
+use Rattle.node_state.specs.Record.{setLinks}
 use Rattle.grasp.proofs.InPlace.{others, stayed, vals, kept, small, opened, closed, answered, to-step, to-exit, Ends, ends, meets}
-use Rattle.node.proofs.Record.set_links as step
-use Rattle.node.proofs.Record.set_links.Symbol as step-def
-use Rattle.node.proofs.Record.set_links.Symbol.{name as #step}
-use Rattle.node.proofs.Record.set_links.Met as step-thm
+use Rattle.node_state.proofs.Record.set_links as step
+use Rattle.node_state.proofs.Record.set_links.Symbol as step-def
+use Rattle.node_state.proofs.Record.set_links.Symbol.{name as #step}
+use Rattle.node_state.proofs.Record.set_links.Met as step-thm
 use Rattle.grasp.proofs.in_place.grasp_record_set_links.Key.{name as #f}
 use Rattle.grasp.proofs.in_place.grasp_record_set_links as f
 use Rattle.grasp.proofs.in_place.grasp_record_set_links.Statement as stated
@@ -134,4 +134,4 @@ grasp-record-set-links-spec 𝓤 H 𝓜 𝓖 𝓡 =
     (λ κs. (ptr-vals, (uint-vals w64, tt)))
     (λ κs. (mut-tells (named 0) (κs .0) T.the-row, (uint-tells w64, tt)))
     (λ κs qs bounds a _ are. via 𝓤 _ (fst∗ 𝓤 _ (emp 𝓤)) (walk 𝓤 H (𝓖 .A) W (𝓜 .mem) (𝓡 .run) κs qs a are (𝓣 .C) (𝓣 .Λ) (fmOf 𝓤 H (W .laws) 𝓣)
-    (cited 𝓤 H (Step 𝓤 H (𝓖 .A) (𝓜 .mem) (𝓡 .run)) 𝓜 𝓡 code.env #step step-def.routine code.calls-node·Record·set-links (step-thm.met 𝓤 H 𝓜 𝓖 𝓡))))))
+    (cited 𝓤 H (Step 𝓤 H (𝓖 .A) (𝓜 .mem) (𝓡 .run)) 𝓜 𝓡 code.env #step step-def.routine code.calls-node-state·Record·set-links (step-thm.met 𝓤 H 𝓜 𝓖 𝓡))))))

@@ -6,7 +6,7 @@ use Rattle.grasp.proofs.records.grasp_fresh.Tie as tie
 use Rattle.grasp.proofs.records.grasp_fresh.Reads as reads
 use Rattle.grasp.proofs.records.grasp_fresh.Lts as lts
 use Rattle.host.proofs.records.put.Reads as put-reads
-use Rattle.node.proofs.Record.fresh.Reads as fresh-reads
+use Rattle.node_state.proofs.Record.fresh.Reads as fresh-reads
 
 -- src/records.rt:21:9
 fresh-requires : tie.Need-fresh-requires

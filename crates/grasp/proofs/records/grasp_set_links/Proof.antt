@@ -7,7 +7,7 @@ use Rattle.grasp.proofs.records.grasp_set_links.Reads as reads
 use Rattle.grasp.proofs.records.grasp_set_links.Lts as lts
 use Rattle.host.proofs.records.node_of.Reads as node-of-reads
 use Rattle.host.proofs.records.put.Reads as put-reads
-use Rattle.node.proofs.Record.set_links.Reads as set-links-reads
+use Rattle.node_state.proofs.Record.set_links.Reads as set-links-reads
 
 -- src/records.rt:31:9
 node-of-requires : tie.Need-node-of-requires

@@ -9,7 +9,7 @@ use Rattle.host.proofs.records.fresh_over.Statement.{statement}
 use Rattle.host.proofs.records.fresh_over.Tie as tie
 use Rattle.host.proofs.records.fresh_over.Reads as reads
 use Rattle.host.proofs.records.fresh_over.Lts as lts
-use Rattle.node.proofs.Record.fresh.Reads as fresh-reads
+use Rattle.node_state.proofs.Record.fresh.Reads as fresh-reads
 
 -- src/records.rt:90:9
 fresh-requires : tie.Need-fresh-requires

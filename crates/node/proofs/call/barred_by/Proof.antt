@@ -10,9 +10,9 @@ use Rattle.node.proofs.call.barred_by.Tie as tie
 use Rattle.node.proofs.call.barred_by.Reads as reads
 use Rattle.node.proofs.call.barred_by.Lts as lts
 use Rattle.names.proofs.are_bad.Reads as are-bad-reads
-use Rattle.node.proofs.Record.is_bad.Reads as Record-is-bad-reads
+use Rattle.node_state.proofs.Record.is_bad.Reads as Record-is-bad-reads
 use Rattle.node.proofs.call.is_bad_arrival.Reads as is-bad-arrival-reads
-use Rattle.node.proofs.table.is_bad.Reads as table-is-bad-reads
+use Rattle.node_state.proofs.table.is_bad.Reads as table-is-bad-reads
 
 -- src/call.rt:74:8
 is-bad-requires : tie.Need-is-bad-requires

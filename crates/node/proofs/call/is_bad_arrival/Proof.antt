@@ -3,8 +3,8 @@
 use mathlib.Core.Path.{refl, sym}
 use native.Mathlib.Omega.{arith}
 use borrow.Author.Tests.{le-leb, lt-leb}
-use Rattle.node.specs.Record.{arrivalBad}
-use Rattle.node.proofs.Masks.{record-links}
+use Rattle.node_state.specs.Record.{arrivalBad}
+use Rattle.node_state.proofs.Masks.{record-links}
 use borrow.Author.Needs.{needs}
 use Rattle.node.proofs.call.is_bad_arrival.Statement.{statement}
 use Rattle.node.proofs.call.is_bad_arrival.Tie as tie

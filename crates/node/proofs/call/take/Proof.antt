@@ -6,9 +6,9 @@ use lib.ListN.{length}
 use Rattle.node.specs.Role.{RoleIn}
 use Rattle.node.specs.Call.{Ready}
 use mathlib.Core.Path.{refl, sym, subst}
-use Rattle.node.specs.Record.{clocked}
+use Rattle.node_state.specs.Record.{clocked}
 use Rattle.node.specs.Call.{quiet, taken}
-use Rattle.node.proofs.Outcomes.{readied}
+use Rattle.node.proofs.Outcomes.{readied, passed-freed}
 use borrow.Author.Needs.{needs}
 use Rattle.node.proofs.call.take.Statement.{statement}
 use Rattle.node.proofs.call.take.Tie as tie
@@ -16,7 +16,7 @@ use Rattle.node.proofs.call.take.Reads as reads
 use Rattle.node.proofs.call.take.Lts as lts
 use Rattle.node.proofs.call.quiet.Reads as quiet-reads
 use Rattle.node.proofs.spread.judge.Reads as judge-reads
-use Rattle.node.proofs.table.free_dead.Reads as free-dead-reads
+use Rattle.node_state.proofs.table.free_dead.Reads as free-dead-reads
 
 -- src/call.rt:121:5
 free-dead-requires : tie.Need-free-dead-requires
@@ -46,7 +46,7 @@ enum-known-role c = search needs
 judge-requires : tie.Need-judge-requires
 unfolding clocked
 judge-requires c κs = (
-  subst (λ (t : List ℕ). Ready (clocked (c .before .before .before .before .before .before .before .before .before .before .before .before .before .args .node) (c .before .before .before .before .before .before .before .before .before .before .before .before .before .args .clock)) t (c .before .before .before .before .before .before .before .before .before .before .before .before .before .args .interface) (length (c .before .before .before .before .before .before .before .before .before .before .before .before .before .args .out .now))) (sym (c .before .before .before .before .before .before .before .free-dead .ensures))
+  subst (λ (t : List ℕ). Ready (clocked (c .before .before .before .before .before .before .before .before .before .before .before .before .before .args .node) (c .before .before .before .before .before .before .before .before .before .before .before .before .before .args .clock)) t (c .before .before .before .before .before .before .before .before .before .before .before .before .before .args .interface) (length (c .before .before .before .before .before .before .before .before .before .before .before .before .before .args .out .now))) (sym (passed-freed (c .before .before .before .before .before .before .before .before .before .before .before .before .before .pre .0) (c .before .before .before .before .before .before .before .free-dead .ensures)))
       (readied (c .before .before .before .before .before .before .before .before .before .before .before .before .before .args .node) (c .before .before .before .before .before .before .before .before .before .before .before .before .before .args .table .now) (c .before .before .before .before .before .before .before .before .before .before .before .before .before .args .clock) (c .before .before .before .before .before .before .before .before .before .before .before .before .before .args .interface) (length (c .before .before .before .before .before .before .before .before .before .before .before .before .before .args .out .now)) (c .before .before .before .before .before .before .before .before .before .before .before .before .before .pre .0)),
   subst (RoleIn (c .before .before .before .before .before .before .before .before .before .before .before .before .before .args .message .now)) (c .before .before .before .role .given .1) (c .before .before .before .before .before .before .before .before .before .before .before .before .before .pre .1),
 )
@@ -58,7 +58,7 @@ same-length c = search needs
 -- src/call.rt:107:1
 returns : tie.Need-returns
 unfolding taken quiet clocked
-returns c = rw (c .before .enum-told .given .1, c .quiet .ensures, c .before .before .before .before .before .free-dead .ensures) refl
+returns c = rw (c .before .enum-told .given .1, c .quiet .ensures, passed-freed (c .before .before .before .before .before .before .before .before .before .before .before .pre .0) (c .before .before .before .before .before .free-dead .ensures)) refl
 
 -- src/call.rt:107:1
 same-length-2 : tie.Need-same-length-2
@@ -67,7 +67,7 @@ same-length-2 c = search needs
 -- src/call.rt:107:1
 returns-2 : tie.Need-returns-2
 unfolding taken quiet clocked
-returns-2 c = rw (c .before .enum-told2 .given .1, c .quiet2 .ensures, c .before .before .before .before .before .free-dead .ensures) refl
+returns-2 c = rw (c .before .enum-told2 .given .1, c .quiet2 .ensures, passed-freed (c .before .before .before .before .before .before .before .before .before .before .before .pre .0) (c .before .before .before .before .before .free-dead .ensures)) refl
 
 -- src/call.rt:107:1
 same-length-3 : tie.Need-same-length-3
@@ -80,7 +80,7 @@ same-length-4 c = search needs
 -- src/call.rt:107:1
 returns-3 : tie.Need-returns-3
 unfolding taken quiet clocked
-returns-3 c = rw (c .before .before .before .before .before .before .before .before .role .given .1, ← (c .before .before .before .before .before .before .before .before .before .before .before .before .free-dead .ensures)) (c .before .before .before .before .judge .ensures)
+returns-3 c = rw (c .before .before .before .before .before .before .before .before .role .given .1, ← (passed-freed (c .before .before .before .before .before .before .before .before .before .before .before .before .before .before .before .before .before .before .pre .0) (c .before .before .before .before .before .before .before .before .before .before .before .before .free-dead .ensures))) (c .before .before .before .before .judge .ensures)
 
 pub take-spec : {M : Type 1} → statement M
 take-spec =

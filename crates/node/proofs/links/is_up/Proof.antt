@@ -1,7 +1,7 @@
 -- `node::links::is_up` meets its contract.
 -- Assumes nothing.
 use mathlib.Core.Path.{refl}
-use Rattle.node.specs.Record.{isUp}
+use Rattle.node_state.specs.Record.{isUp}
 use borrow.Author.Needs.{needs}
 use Rattle.node.proofs.links.is_up.Statement.{statement}
 use Rattle.node.proofs.links.is_up.Tie as tie

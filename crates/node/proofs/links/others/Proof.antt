@@ -1,7 +1,7 @@
 -- `node::links::others` meets its contract.
 -- Assumes nothing.
 use mathlib.Core.Path.{refl}
-use Rattle.node.proofs.Masks.{one-bit, up-le}
+use Rattle.node_state.proofs.Masks.{one-bit, up-le}
 use borrow.Author.Needs.{needs}
 use Rattle.node.proofs.links.others.Statement.{statement}
 use Rattle.node.proofs.links.others.Tie as tie

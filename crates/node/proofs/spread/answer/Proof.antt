@@ -1,7 +1,7 @@
 -- `node::spread::answer` meets its contract.
 -- Assumes nothing.
 use mathlib.Core.Path.{refl}
-use Rattle.node.proofs.Masks.{one-bit}
+use Rattle.node_state.proofs.Masks.{one-bit}
 use borrow.Author.Needs.{needs}
 use Rattle.node.proofs.spread.answer.Statement.{statement}
 use Rattle.node.proofs.spread.answer.Tie as tie

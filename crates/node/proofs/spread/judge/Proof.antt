@@ -5,19 +5,20 @@ use mathlib.Core.List.{[]}
 use Rattle.node.specs.Call.{callOf, laterVerdict}
 use Rattle.node.proofs.Spreads.{role-spreading}
 use Rattle.node.proofs.Outcomes.{own-outcome, answer-outcome, duplicate-outcome, later-outcome, names-apart}
-use Rattle.node.specs.Table.{isKnown}
+use Rattle.node_state.specs.Table.{isKnown}
+use Rattle.node_state.proofs.Rows.{of-sized}
 use borrow.Author.Needs.{needs}
 use Rattle.node.proofs.spread.judge.Statement.{statement}
 use Rattle.node.proofs.spread.judge.Tie as tie
 use Rattle.node.proofs.spread.judge.Reads as reads
 use Rattle.node.proofs.spread.judge.Lts as lts
 use Rattle.node.proofs.call.quiet.Reads as quiet-reads
-use Rattle.node.proofs.key.key_of.Reads as key-of-reads
 use Rattle.node.proofs.spread.answer.Reads as answer-reads
 use Rattle.node.proofs.spread.is_ours.Reads as is-ours-reads
 use Rattle.node.proofs.spread.is_own.Reads as is-own-reads
+use Rattle.node.proofs.spread.key_in.Reads as key-in-reads
 use Rattle.node.proofs.spread.relay_or_end.Reads as relay-or-end-reads
-use Rattle.node.proofs.table.knows.Reads as knows-reads
+use Rattle.node_state.proofs.table.knows.Reads as knows-reads
 
 -- src/spread.rt:44:8
 is-own-requires : tie.Need-is-own-requires
@@ -48,8 +49,8 @@ returns-2 : tie.Need-returns-2
 returns-2 c = answer-outcome (c .before .before .before .before .before .before .before .before .before .before .before .before .args .node) (c .before .before .before .before .before .before .before .before .before .before .before .before .args .table .now) (callOf (c .before .before .before .before .before .before .before .before .before .before .before .before .args .node .clock) (c .before .before .before .before .before .before .before .before .before .before .before .before .args .interface) (c .before .before .before .before .before .before .before .before .before .before .before .before .args .names .now) (c .before .before .before .before .before .before .before .before .before .before .before .before .args .message .now) (c .before .before .before .before .before .before .before .before .before .before .before .before .args .out .now)) (c .before .before .before .before .before .before .before .before .before .before .before .before .args .s) (sym (c .before .before .before .before .before .before .before .is-own .ensures) ∙ c .before .before .before .before .before .before .if1 .left) _ _ (c .before .before .answer .ensures .0) (c .before .before .answer .ensures .1) (sym (c .before .before .before .before .before .is-ours .ensures) ∙ c .before .before .before .before .if2 .taken)
 
 -- src/spread.rt:50:9
-key-of-requires : tie.Need-key-of-requires
-key-of-requires c κs = role-spreading (c .before .before .before .before .before .before .before .before .args .message .now) (c .before .before .before .before .before .before .before .before .args .s) (λ i. c .before .before .before .before .before .shared-slice-known2 .given i .fits) (c .before .before .before .before .before .before .before .before .pre .1) .within
+key-in-requires : tie.Need-key-in-requires
+key-in-requires c κs = role-spreading (c .before .before .before .before .before .before .before .before .args .message .now) (c .before .before .before .before .before .before .before .before .args .s) (λ i. c .before .before .before .before .before .shared-slice-known2 .given i .fits) (c .before .before .before .before .before .before .before .before .pre .1) .within
 
 -- src/spread.rt:51:8
 knows-requires : tie.Need-knows-requires
@@ -65,7 +66,7 @@ same-length-2 c = search needs
 
 -- src/spread.rt:52:9
 returns-3 : tie.Need-returns-3
-returns-3 c = duplicate-outcome (c .before .before .before .before .before .before .before .before .before .before .before .before .before .args .node) (c .before .before .before .before .before .before .before .before .before .before .before .before .before .args .table .now) (callOf (c .before .before .before .before .before .before .before .before .before .before .before .before .before .args .node .clock) (c .before .before .before .before .before .before .before .before .before .before .before .before .before .args .interface) (c .before .before .before .before .before .before .before .before .before .before .before .before .before .args .names .now) (c .before .before .before .before .before .before .before .before .before .before .before .before .before .args .message .now) (c .before .before .before .before .before .before .before .before .before .before .before .before .before .args .out .now)) (c .before .before .before .before .before .before .before .before .before .before .before .before .before .args .s) (sym (c .before .before .before .before .before .before .before .before .is-own .ensures) ∙ c .before .before .before .before .before .before .before .if1 .left) (sym (c .before .before .before .before .before .before .is-ours .ensures) ∙ c .before .before .before .before .before .if2 .left) _ (c .quiet2 .ensures) (ap (λ k. isKnown k (c .before .before .before .before .before .before .before .before .before .before .before .before .before .args .table .now)) (sym (c .before .before .before .before .key-of .ensures)) ∙ sym (c .before .before .knows .ensures) ∙ c .before .if3 .taken)
+returns-3 c = duplicate-outcome (c .before .before .before .before .before .before .before .before .before .before .before .before .before .args .node) (c .before .before .before .before .before .before .before .before .before .before .before .before .before .args .table .now) (callOf (c .before .before .before .before .before .before .before .before .before .before .before .before .before .args .node .clock) (c .before .before .before .before .before .before .before .before .before .before .before .before .before .args .interface) (c .before .before .before .before .before .before .before .before .before .before .before .before .before .args .names .now) (c .before .before .before .before .before .before .before .before .before .before .before .before .before .args .message .now) (c .before .before .before .before .before .before .before .before .before .before .before .before .before .args .out .now)) (c .before .before .before .before .before .before .before .before .before .before .before .before .before .args .s) (sym (c .before .before .before .before .before .before .before .before .is-own .ensures) ∙ c .before .before .before .before .before .before .before .if1 .left) (sym (c .before .before .before .before .before .before .is-ours .ensures) ∙ c .before .before .before .before .before .if2 .left) _ (c .quiet2 .ensures) (ap (λ k. isKnown k (c .before .before .before .before .before .before .before .before .before .before .before .before .before .args .table .now)) (sym (c .before .before .before .before .key-in .ensures)) ∙ sym (of-sized _ _ _ (c .before .before .before .before .before .before .before .before .before .before .before .before .before .pre .0 .sized)) ∙ sym (c .before .before .knows .ensures) ∙ c .before .if3 .taken)
 
 -- src/spread.rt:54:5
 relay-or-end-requires : tie.Need-relay-or-end-requires
@@ -82,7 +83,7 @@ same-length-4 c = search needs
 -- src/spread.rt:31:1
 returns-4 : tie.Need-returns-4
 unfolding laterVerdict
-returns-4 c = later-outcome (c .before .before .before .before .before .before .before .before .before .before .before .before .before .before .before .before .before .before .before .args .node) (c .before .before .before .before .before .before .before .before .before .before .before .before .before .before .before .before .before .before .before .args .table .now) (callOf (c .before .before .before .before .before .before .before .before .before .before .before .before .before .before .before .before .before .before .before .args .node .clock) (c .before .before .before .before .before .before .before .before .before .before .before .before .before .before .before .before .before .before .before .args .interface) (c .before .before .before .before .before .before .before .before .before .before .before .before .before .before .before .before .before .before .before .args .names .now) (c .before .before .before .before .before .before .before .before .before .before .before .before .before .before .before .before .before .before .before .args .message .now) (c .before .before .before .before .before .before .before .before .before .before .before .before .before .before .before .before .before .before .before .args .out .now)) (c .before .before .before .before .before .before .before .before .before .before .before .before .before .before .before .before .before .before .before .args .s) (sym (c .before .before .before .before .before .before .before .before .before .before .before .before .before .before .is-own .ensures) ∙ c .before .before .before .before .before .before .before .before .before .before .before .before .before .if1 .left) (sym (c .before .before .before .before .before .before .before .before .before .before .before .before .is-ours .ensures) ∙ c .before .before .before .before .before .before .before .before .before .before .before .if2 .left) _ (ap (λ k. isKnown k (c .before .before .before .before .before .before .before .before .before .before .before .before .before .before .before .before .before .before .before .args .table .now)) (sym (c .before .before .before .before .before .before .before .before .before .before .key-of .ensures)) ∙ sym (c .before .before .before .before .before .before .before .before .knows .ensures) ∙ c .before .before .before .before .before .before .before .if3 .left) (c .before .before .before .before .relay-or-end .ensures ∙ names-apart (c .before .before .before .before .before .before .before .before .before .before .before .before .before .before .before .before .before .before .before .args .node) (c .before .before .before .before .before .before .before .before .before .before .before .before .before .before .before .before .before .before .before .args .table .now) (c .before .before .before .before .before .before .before .before .before .before .before .before .before .before .before .before .before .before .before .args .node .clock) (c .before .before .before .before .before .before .before .before .before .before .before .before .before .before .before .before .before .before .before .args .interface) [] (c .before .before .before .before .before .before .before .before .before .before .before .before .before .before .before .before .before .before .before .args .names .now) (c .before .before .before .before .before .before .before .before .before .before .before .before .before .before .before .before .before .before .before .args .message .now) (c .before .before .before .before .before .before .before .before .before .before .before .before .before .before .before .before .before .before .before .args .out .now) (c .before .before .before .before .before .before .before .before .before .before .before .before .before .before .before .before .before .before .before .args .s) (laterVerdict (c .before .before .before .before .before .before .before .before .before .before .before .before .before .before .before .before .before .before .before .args .node) (c .before .before .before .before .before .before .before .before .before .before .before .before .before .before .before .before .before .before .before .args .table .now) (callOf (c .before .before .before .before .before .before .before .before .before .before .before .before .before .before .before .before .before .before .before .args .node .clock) (c .before .before .before .before .before .before .before .before .before .before .before .before .before .before .before .before .before .before .before .args .interface) [] (c .before .before .before .before .before .before .before .before .before .before .before .before .before .before .before .before .before .before .before .args .message .now) (c .before .before .before .before .before .before .before .before .before .before .before .before .before .before .before .before .before .before .before .args .out .now)) (c .before .before .before .before .before .before .before .before .before .before .before .before .before .before .before .before .before .before .before .args .s)))
+returns-4 c = later-outcome (c .before .before .before .before .before .before .before .before .before .before .before .before .before .before .before .before .before .before .before .args .node) (c .before .before .before .before .before .before .before .before .before .before .before .before .before .before .before .before .before .before .before .args .table .now) (callOf (c .before .before .before .before .before .before .before .before .before .before .before .before .before .before .before .before .before .before .before .args .node .clock) (c .before .before .before .before .before .before .before .before .before .before .before .before .before .before .before .before .before .before .before .args .interface) (c .before .before .before .before .before .before .before .before .before .before .before .before .before .before .before .before .before .before .before .args .names .now) (c .before .before .before .before .before .before .before .before .before .before .before .before .before .before .before .before .before .before .before .args .message .now) (c .before .before .before .before .before .before .before .before .before .before .before .before .before .before .before .before .before .before .before .args .out .now)) (c .before .before .before .before .before .before .before .before .before .before .before .before .before .before .before .before .before .before .before .args .s) (sym (c .before .before .before .before .before .before .before .before .before .before .before .before .before .before .is-own .ensures) ∙ c .before .before .before .before .before .before .before .before .before .before .before .before .before .if1 .left) (sym (c .before .before .before .before .before .before .before .before .before .before .before .before .is-ours .ensures) ∙ c .before .before .before .before .before .before .before .before .before .before .before .if2 .left) _ (ap (λ k. isKnown k (c .before .before .before .before .before .before .before .before .before .before .before .before .before .before .before .before .before .before .before .args .table .now)) (sym (c .before .before .before .before .before .before .before .before .before .before .key-in .ensures)) ∙ sym (of-sized _ _ _ (c .before .before .before .before .before .before .before .before .before .before .before .before .before .before .before .before .before .before .before .pre .0 .sized)) ∙ sym (c .before .before .before .before .before .before .before .before .knows .ensures) ∙ c .before .before .before .before .before .before .before .if3 .left) (c .before .before .before .before .relay-or-end .ensures ∙ names-apart (c .before .before .before .before .before .before .before .before .before .before .before .before .before .before .before .before .before .before .before .args .node) (c .before .before .before .before .before .before .before .before .before .before .before .before .before .before .before .before .before .before .before .args .table .now) (c .before .before .before .before .before .before .before .before .before .before .before .before .before .before .before .before .before .before .before .args .node .clock) (c .before .before .before .before .before .before .before .before .before .before .before .before .before .before .before .before .before .before .before .args .interface) [] (c .before .before .before .before .before .before .before .before .before .before .before .before .before .before .before .before .before .before .before .args .names .now) (c .before .before .before .before .before .before .before .before .before .before .before .before .before .before .before .before .before .before .before .args .message .now) (c .before .before .before .before .before .before .before .before .before .before .before .before .before .before .before .before .before .before .before .args .out .now) (c .before .before .before .before .before .before .before .before .before .before .before .before .before .before .before .before .before .before .before .args .s) (laterVerdict (c .before .before .before .before .before .before .before .before .before .before .before .before .before .before .before .before .before .before .before .args .node) (c .before .before .before .before .before .before .before .before .before .before .before .before .before .before .before .before .before .before .before .args .table .now) (callOf (c .before .before .before .before .before .before .before .before .before .before .before .before .before .before .before .before .before .before .before .args .node .clock) (c .before .before .before .before .before .before .before .before .before .before .before .before .before .before .before .before .before .before .before .args .interface) [] (c .before .before .before .before .before .before .before .before .before .before .before .before .before .before .before .before .before .before .before .args .message .now) (c .before .before .before .before .before .before .before .before .before .before .before .before .before .before .before .before .before .before .before .args .out .now)) (c .before .before .before .before .before .before .before .before .before .before .before .before .before .before .before .before .before .before .before .args .s)))
 
 pub judge-spec : {M : Type 1} → statement M
 judge-spec =
@@ -95,7 +96,7 @@ judge-spec =
     answer-requires
     same-length
     returns-2
-    key-of-requires
+    key-in-requires
     knows-requires
     quiet-requires-2
     same-length-2

@@ -3,7 +3,7 @@
 use mathlib.Core.Path.{refl}
 use native.Mathlib.Omega.{arith}
 use lib.Count.{ones-le}
-use Rattle.node.specs.Record.{tallied}
+use Rattle.node_state.specs.Record.{tallied}
 use Rattle.node.proofs.spread.relayed.Statement.{statement}
 use Rattle.node.proofs.spread.relayed.Tie as tie
 use Rattle.node.proofs.spread.relayed.Reads as reads

@@ -1,0 +1,4 @@
+-- `Rows`: the rows of the relay table. `Keys`: the keys of rows. `Masks`: masks of links.
+pub mod Rows
+pub mod Keys
+pub mod Masks

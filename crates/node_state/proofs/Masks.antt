@@ -1,0 +1,96 @@
+-- The interfaces in a mask: what is up is below a bound and part of the mask, and the mask without the arriving link.
+-- Assumes nothing.
+use mathlib.Core.Path.{_≡_, refl, ap, _∙_}
+use mathlib.Core.Bool.{true, false, _||_}
+use Prim.Native.Nat.{ℕ, zero, suc, _+_, _-_, _*_, _/_, _%_, _^_, _≤_, _<_}
+use native.Mathlib.Nat.{le-trans, mod-lt, div-eq-of-lt, one-mul}
+use native.Mathlib.Decide.{decLt}
+use native.Mathlib.Omega.{arith}
+use lib.Dec.{ltb, leb, eqb, lit<}
+use lib.Pow.{shl-exact, pow-pos, pow-mono, split, high}
+use borrow.Author.Tests.{ltb-false, leb-false, eqb-true, eqb-false, ne-eqb, le-ltb}
+use Rattle.base.proofs.Bools.{or-left, or-right}
+use Rattle.node_state.specs.declared.Record.{Record}
+use Rattle.node_state.specs.Record.{linksBad, recordBad, isUp}
+
+-- the count and mask of links that aren't bad
+pub record Fit (interfaces mask : ℕ) : Type 0 where
+  pub some : 0 < interfaces
+  pub most : interfaces ≤ 8
+  pub small : mask < 2 ^ interfaces
+
+pub links-fit : (n mask : ℕ) → linksBad n mask ≡ false → Fit n mask
+unfolding linksBad
+links-fit n mask e =
+    let low = or-left (eqb n 0 || ltb 8 n) (leb (2 ^ n) mask) e in
+    let some : (n ≡ 0 → ⊥) = eqb-false n 0 (or-left (eqb n 0) (ltb 8 n) low) in
+    record {
+      some = omega arith;
+      most = ltb-false 8 n (or-right (eqb n 0) (ltb 8 n) low);
+      small = leb-false (2 ^ n) mask (or-right (eqb n 0 || ltb 8 n) (leb (2 ^ n) mask) e);
+    }
+
+-- a mask of eight bits at most
+pub fit-small : (n mask : ℕ) → Fit n mask → mask < 2 ^ 8
+fit-small n mask f = le-trans (f .small) (pow-mono (f .most))
+
+pub record-links : (r : Record) → recordBad r ≡ false → Fit (r .interfaces) (r .links)
+unfolding recordBad
+record-links r e = links-fit (r .interfaces) (r .links) (or-left (linksBad (r .interfaces) (r .links)) (ltb (2 ^ 63) (r .tally)) e)
+
+pub record-tally : (r : Record) → recordBad r ≡ false → r .tally ≤ 2 ^ 63
+unfolding recordBad
+record-tally r e = ltb-false (2 ^ 63) (r .tally) (or-right (linksBad (r .interfaces) (r .links)) (ltb (2 ^ 63) (r .tally)) e)
+
+-- under a good count, links are bad by their mask alone
+pub links-wide : (n mask new : ℕ) → Fit n mask → linksBad n new ≡ leb (2 ^ n) new
+unfolding linksBad
+links-wide n mask new f = let some : n ≡ 0 → ⊥ = λ e. let s = f .some in omega arith in rw (ne-eqb n 0 some, le-ltb 8 n (f .most)) refl
+
+-- one bit of a word
+pub one-bit : (w i : ℕ) → i < w → 1 * 2 ^ i % 2 ^ w ≡ 2 ^ i
+one-bit w i h = shl-exact {a = 1} 1 i w (lit< tt) (omega arith) ∙ one-mul (2 ^ i)
+
+-- what is up in a mask below 2^n is below n
+pub up-below : (n mask i : ℕ) → mask < 2 ^ n → isUp mask i ≡ true → i < n
+unfolding isUp
+up-below n mask i h e = go (decLt i n)
+  where
+    go : Dec (i < n) → i < n
+    go (yes p) = p
+    go (no p) =
+        let small : mask < 2 ^ i = le-trans h (pow-mono (omega arith)) in
+        let nil : mask / 2 ^ i ≡ 0 = div-eq-of-lt small in
+        let one : mask / 2 ^ i % 2 ≡ 1 = eqb-true (mask / 2 ^ i % 2) 1 e in
+        omega arith
+
+-- what is up in a mask is part of it
+pub up-le : (mask i : ℕ) → isUp mask i ≡ true → 2 ^ i ≤ mask
+unfolding isUp
+up-le mask i e = go (decLt mask (2 ^ i))
+  where
+    go : Dec (mask < 2 ^ i) → 2 ^ i ≤ mask
+    go (no p) = omega arith
+    go (yes p) =
+        let nil : mask / 2 ^ i ≡ 0 = div-eq-of-lt p in
+        let one : mask / 2 ^ i % 2 ≡ 1 = eqb-true (mask / 2 ^ i % 2) 1 e in
+        omega arith
+
+-- a link that is taken out is no longer up
+pub taken-down : (mask i : ℕ) → isUp mask i ≡ true → isUp (mask - 2 ^ i) i ≡ false
+unfolding isUp
+taken-down mask i e = go (mask / 2 ^ i) refl
+  where
+    odd : mask / 2 ^ i % 2 ≡ 1
+    odd = eqb-true (mask / 2 ^ i % 2) 1 e
+
+    go : (q : ℕ) → mask / 2 ^ i ≡ q → eqb ((mask - 2 ^ i) / 2 ^ i % 2) 1 ≡ false
+    go zero z = let k : mask / 2 ^ i % 2 ≡ 1 = odd in absurd (omega arith)
+    go (suc q) z =
+        let parts : mask / 2 ^ i * 2 ^ i + mask % 2 ^ i ≡ mask = split mask i in
+        let parts′ : suc q * 2 ^ i + mask % 2 ^ i ≡ mask = rw z at parts in
+        let less : mask - 2 ^ i ≡ q * 2 ^ i + mask % 2 ^ i = omega arith in
+        let quot : (mask - 2 ^ i) / 2 ^ i ≡ q = ap (λ x. x / 2 ^ i) less ∙ high q i (mod-lt mask (pow-pos i)) in
+        let odd′ : suc q % 2 ≡ 1 = rw z at odd in
+        let even : q % 2 ≡ 0 = omega arith in
+        rw (quot, even) refl

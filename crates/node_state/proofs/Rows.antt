@@ -1,0 +1,339 @@
+-- The relay table's rows: what a filled row holds, what freeing leaves, the lowest row that passes a test.
+-- Assumes nothing.
+use mathlib.Core.Path.{_≡_, refl, sym, ap, _∙_}
+use mathlib.Core.Logic.{_≢_, _⊎_, inl, inr}
+use mathlib.Core.Bool.{Bool, true, false, not, _&&_, _||_}
+use mathlib.Core.List.{List}
+use Prim.Native.Nat.{ℕ, zero, suc, _+_, _-_, _*_, _≤_, _<_, zero-le}
+use native.Mathlib.Nat.{le-refl, le-trans, add-zero}
+use native.Mathlib.Numerals.{add-one}
+use native.Mathlib.Decide.{ℕ-discrete, decLt}
+use native.Mathlib.Omega.{arith}
+use lib.Dec.{ltb, leb, eqb}
+use lib.ListN.{length, getD, set, length-set}
+use lib.Seq.{getD-set-same, getD-set-other}
+use borrow.Author.Tests.{ltb-true, ltb-false, leb-true, eqb-true, lt-ltb, le-ltb, le-leb, lt-leb, eq-eqb, ne-eqb, not-false}
+use Rattle.base.specs.Pick.{pick}
+use Rattle.base.proofs.Picks.{pick-case, both}
+use Rattle.base.proofs.Bools.{true-or-false, and-left, and-right, and-true, or-left, or-right, or-true, not-both}
+use Rattle.node_state.specs.declared.table.Key.{Key}
+use Rattle.node_state.specs.Table.{whereSized, cell, putRow, noKey, rowFree, rowKeyed, rowUsed, rowBad, firstFrom, someRow, tableBad, rowLife, rowDead, freeRows, freed, lowestFree, filled, rowMatches, isKnown}
+
+-- ---- the table's length
+
+module _ {A : Type 0} (t : List ℕ) (x y : A) where
+  pub of-sized : length t ≡ 256 → whereSized t x y ≡ x
+  unfolding whereSized pick
+  of-sized e = rw (eq-eqb (length t) 256 e) refl
+
+  pub of-other : (length t ≡ 256 → ⊥) → whereSized t x y ≡ y
+  unfolding whereSized pick
+  of-other ne = rw (ne-eqb (length t) 256 ne) refl
+
+-- ---- a filled row
+
+pub length-put : (t : List ℕ) (i : ℕ) (k : Key) (clock : ℕ) → length (putRow t i k clock) ≡ length t
+unfolding putRow
+length-put t i k clock = simp length-set
+
+pub put-other : (t : List ℕ) (i : ℕ) (k : Key) (clock n j : ℕ) → n ≢ i → j < 4 → cell (putRow t i k clock) n j ≡ cell t n j
+unfolding putRow cell
+put-other t i k clock n j ne h =
+    getD-set-other (set (set (set t (4 * i) (k .first)) (4 * i + 1) (k .second)) (4 * i + 2) (k .third)) (4 * i + 3) (4 * n + j) clock 0 (omega arith)
+    ∙ getD-set-other (set (set t (4 * i) (k .first)) (4 * i + 1) (k .second)) (4 * i + 2) (4 * n + j) (k .third) 0 (omega arith)
+    ∙ getD-set-other (set t (4 * i) (k .first)) (4 * i + 1) (4 * n + j) (k .second) 0 (omega arith)
+    ∙ getD-set-other t (4 * i) (4 * n + j) (k .first) 0 (omega arith)
+
+-- row i has the key k and was admitted at d
+pub record Holds (t : List ℕ) (i : ℕ) (k : Key) (d : ℕ) : Type 0 where
+  pub first : cell t i 0 ≡ k .first
+  pub second : cell t i 1 ≡ k .second
+  pub third : cell t i 2 ≡ k .third
+  pub clock : cell t i 3 ≡ d
+
+pub put-holds : (t : List ℕ) (i : ℕ) (k : Key) (d : ℕ) → length t ≡ 256 → i < 64 → Holds (putRow t i k d) i k d
+unfolding putRow cell
+put-holds t i k d len h =
+    let t₁ = set t (4 * i) (k .first) in
+    let t₂ = set t₁ (4 * i + 1) (k .second) in
+    let t₃ = set t₂ (4 * i + 2) (k .third) in
+    let l₁ : length t₁ ≡ 256 = length-set t (4 * i) (k .first) ∙ len in
+    let l₂ : length t₂ ≡ 256 = length-set t₁ (4 * i + 1) (k .second) ∙ l₁ in
+    let l₃ : length t₃ ≡ 256 = length-set t₂ (4 * i + 2) (k .third) ∙ l₂ in
+    record {
+      first =
+          getD-set-other t₃ (4 * i + 3) (4 * i + 0) d 0 (omega arith) ∙ getD-set-other t₂ (4 * i + 2) (4 * i + 0) (k .third) 0 (omega arith)
+          ∙ getD-set-other t₁ (4 * i + 1) (4 * i + 0) (k .second) 0 (omega arith) ∙ ap (λ n. getD t₁ n 0) (omega arith)
+          ∙ getD-set-same t (4 * i) (k .first) 0 (omega arith);
+      second =
+          getD-set-other t₃ (4 * i + 3) (4 * i + 1) d 0 (omega arith) ∙ getD-set-other t₂ (4 * i + 2) (4 * i + 1) (k .third) 0 (omega arith)
+          ∙ getD-set-same t₁ (4 * i + 1) (k .second) 0 (omega arith);
+      third = getD-set-other t₃ (4 * i + 3) (4 * i + 2) d 0 (omega arith) ∙ getD-set-same t₂ (4 * i + 2) (k .third) 0 (omega arith);
+      clock = getD-set-same t₃ (4 * i + 3) d 0 (omega arith);
+    }
+
+-- a row that is as another table has it
+pub same-holds : (t u : List ℕ) (i : ℕ) {k : Key} {d : ℕ} → ((j : ℕ) → j < 4 → cell u i j ≡ cell t i j) → Holds t i k d → Holds u i k d
+same-holds t u i same h =
+    record {
+      first = same 0 (omega arith) ∙ h .first;
+      second = same 1 (omega arith) ∙ h .second;
+      third = same 2 (omega arith) ∙ h .third;
+      clock = same 3 (omega arith) ∙ h .clock;
+    }
+
+-- ---- freeing dead rows
+
+pub length-free : (now : ℕ) (t : List ℕ) (n : ℕ) → length (freeRows now t n) ≡ length t
+unfolding freeRows
+length-free now t zero = refl
+length-free now t (suc n) =
+    pick-case (λ (l : List ℕ). length l ≡ length t) _ (λ e. length-put (freeRows now t n) n noKey 0 ∙ length-free now t n) (λ e. length-free now t n)
+
+-- the rows that are still to come are as they were
+pub free-ahead : (now : ℕ) (t : List ℕ) (n i j : ℕ) → n ≤ i → j < 4 → cell (freeRows now t n) i j ≡ cell t i j
+unfolding freeRows
+free-ahead now t zero i j h l = refl
+free-ahead now t (suc n) i j h l =
+    let rest = free-ahead now t n i j (omega arith) l in
+    pick-case (λ f. cell f i j ≡ cell t i j) _ (λ e. put-other (freeRows now t n) n noKey 0 i j (omega arith) l ∙ rest) (λ e. rest)
+
+-- so a row is judged as it was
+free-judged : (now : ℕ) (t : List ℕ) (n : ℕ) → rowDead now (freeRows now t n) n ≡ rowDead now t n
+unfolding rowDead
+free-judged now t n = rw (free-ahead now t n n 0 (le-refl n) (omega arith), free-ahead now t n n 3 (le-refl n) (omega arith)) refl
+
+-- a row that isn't dead is as it was
+pub free-live : (now : ℕ) (t : List ℕ) (n i j : ℕ) → rowDead now t i ≡ false → j < 4 → cell (freeRows now t n) i j ≡ cell t i j
+unfolding freeRows
+free-live now t zero i j live l = refl
+free-live now t (suc n) i j live l =
+    let rest = free-live now t n i j live l in
+    pick-case (λ f. cell f i j ≡ cell t i j) _ (λ e. go (free-judged now t n) e rest (ℕ-discrete i n)) (λ e. rest)
+  where
+    go : rowDead now (freeRows now t n) n ≡ rowDead now t n → rowDead now (freeRows now t n) n ≡ true → cell (freeRows now t n) i j ≡ cell t i j → Dec (i ≡ n)
+        → cell (putRow (freeRows now t n) n noKey 0) i j ≡ cell t i j
+    go same e rest (no ne) = put-other (freeRows now t n) n noKey 0 i j ne l ∙ rest
+    go same e rest (yes at) = absurd (not-both (rowDead now t i) (ap (rowDead now t) at ∙ sym same ∙ e) live)
+
+-- a dead row is four zeros
+pub free-dead : (now : ℕ) (t : List ℕ) (n i : ℕ) → length t ≡ 256 → i < n → n ≤ 64 → rowDead now t i ≡ true → Holds (freeRows now t n) i noKey 0
+unfolding freeRows
+free-dead now t zero i len h m dead = absurd (omega arith)
+free-dead now t (suc n) i len h m dead = go (free-judged now t n) (ℕ-discrete i n) (free-dead now t n i len)
+  where
+    go : rowDead now (freeRows now t n) n ≡ rowDead now t n → Dec (i ≡ n) → (i < n → n ≤ 64 → rowDead now t i ≡ true → Holds (freeRows now t n) i noKey 0)
+        → Holds (pick (rowDead now (freeRows now t n) n) (putRow (freeRows now t n) n noKey 0) (freeRows now t n)) i noKey 0
+    go same (yes at) ih =
+        pick-case (λ f. Holds f i noKey 0) _
+        (λ e. rw at (put-holds (freeRows now t n) n noKey 0 (length-free now t n ∙ len) (omega arith)))
+        (λ e. absurd (not-both (rowDead now t n) (ap (rowDead now t) (sym at) ∙ dead) (sym same ∙ e)))
+    go same (no ne) ih =
+        let rest = ih (omega arith) (omega arith) dead in
+        pick-case (λ f. Holds f i noKey 0) _
+        (λ e. same-holds (freeRows now t n) (putRow (freeRows now t n) n noKey 0) i (λ j l. put-other (freeRows now t n) n noKey 0 i j ne l) rest) (λ e. rest)
+
+pub free-keeps : (now : ℕ) (t : List ℕ) (i : ℕ) (k : Key) (d : ℕ) → Holds t i k d → now - d < rowLife (k .first) → Holds (freed now t) i k d
+unfolding rowDead freed
+free-keeps now t i k d h live =
+    let alive : rowDead now t i ≡ false = rw (h .first, h .clock) (lt-leb (rowLife (k .first)) (now - d) live) in
+    same-holds t (freeRows now t 64) i (λ j l. free-live now t 64 i j alive l) h
+
+-- ---- the lowest row that passes a test
+
+pub first-hit : (p : ℕ → Bool) (n i : ℕ) → firstFrom p n i < i + n → p (firstFrom p n i) ≡ true
+unfolding pick firstFrom
+first-hit p zero i h = absurd (omega arith)
+first-hit p (suc n) i h = go (true-or-false (p i)) (first-hit p n (suc i))
+  where
+    go : (p i ≡ true) ⊎ (p i ≡ false) → (firstFrom p n (suc i) < suc i + n → p (firstFrom p n (suc i)) ≡ true) → p (pick (p i) i (firstFrom p n (suc i))) ≡ true
+    go (inl e) ih = rw e e
+    go (inr e) ih = rw e (ih (let h′ : firstFrom p n (suc i) < i + suc n = rw e at h in omega arith))
+
+pub first-miss : (p : ℕ → Bool) (n i k : ℕ) → i ≤ k → k < firstFrom p n i → p k ≡ false
+unfolding pick firstFrom
+first-miss p zero i k l h = absurd (omega arith)
+first-miss p (suc n) i k l h = go (true-or-false (p i)) (ℕ-discrete i k) (first-miss p n (suc i) k)
+  where
+    go : (p i ≡ true) ⊎ (p i ≡ false) → Dec (i ≡ k) → (suc i ≤ k → k < firstFrom p n (suc i) → p k ≡ false) → p k ≡ false
+    go (inl e) d ih = let h′ : k < i = rw e at h in absurd (omega arith)
+    go (inr e) (yes same) ih = rw (← same) e
+    go (inr e) (no ne) ih = ih (omega arith) (rw e at h)
+
+-- it is no row past the last
+pub first-most : (p : ℕ → Bool) (n i : ℕ) → firstFrom p n i ≤ i + n
+unfolding pick firstFrom
+first-most p zero i = omega arith
+first-most p (suc n) i =
+    let here : i ≤ i + suc n = omega arith in
+    let there : firstFrom p n (suc i) ≤ i + suc n = omega (arith, first-most p n (suc i)) in
+    pick-case (λ (r : ℕ). r ≤ i + suc n) (p i) (λ e. here) (λ e. there)
+
+-- where no row passes a test, none does
+pub none-passes : (p : ℕ → Bool) (k : ℕ) → someRow p ≡ false → k < 64 → p k ≡ false
+unfolding someRow
+none-passes p k e l = first-miss p 64 0 k zero-le (le-trans l (ltb-false (firstFrom p 64 0) 64 e))
+
+-- and where some row does, there is one
+pub some-passes : (p : ℕ → Bool) → someRow p ≡ true → (i : ℕ) × (i < 64) × (p i ≡ true)
+unfolding someRow
+some-passes p e = let l = ltb-true (firstFrom p 64 0) 64 e in (firstFrom p 64 0, l, first-hit p 64 0 l)
+
+pub passes-some : (p : ℕ → Bool) (k : ℕ) → k < 64 → p k ≡ true → someRow p ≡ true
+passes-some p k l e = go (true-or-false (someRow p))
+  where
+    go : (someRow p ≡ true) ⊎ (someRow p ≡ false) → someRow p ≡ true
+    go (inl q) = q
+    go (inr q) = absurd (not-both (p k) e (none-passes p k q l))
+
+-- ---- free rows
+
+pub free-zeros : (t : List ℕ) (i : ℕ) → rowFree t i ≡ true → Holds t i noKey 0
+unfolding rowFree
+free-zeros t i e =
+    let a = eqb (cell t i 0) 0 in
+    let b = eqb (cell t i 1) 0 in
+    let c = eqb (cell t i 2) 0 in
+    let d = eqb (cell t i 3) 0 in
+    let abc = and-left (a && b && c) d e in
+    let ab = and-left (a && b) c abc in
+    record {
+      first = eqb-true (cell t i 0) 0 (and-left a b ab);
+      second = eqb-true (cell t i 1) 0 (and-right a b ab);
+      third = eqb-true (cell t i 2) 0 (and-right (a && b) c abc);
+      clock = eqb-true (cell t i 3) 0 (and-right (a && b && c) d e);
+    }
+
+pub zeros-free : (t : List ℕ) (i : ℕ) → Holds t i noKey 0 → rowFree t i ≡ true
+unfolding rowFree
+zeros-free t i h = rw (h .first, h .second, h .third, h .clock) refl
+
+-- the lowest free row is free, if there is one
+pub lowest-zero : (t : List ℕ) → lowestFree t < 64 → Holds t (lowestFree t) noKey 0
+unfolding lowestFree
+lowest-zero t h = free-zeros t (lowestFree t) (first-hit (rowFree t) 64 0 h)
+
+-- ---- keys
+
+pub holds-matches : (k : Key) (t : List ℕ) (i d : ℕ) → Holds t i k d → rowMatches k t i ≡ true
+unfolding rowMatches
+holds-matches k t i d h =
+    and-true (eqb (cell t i 0) (k .first) && eqb (cell t i 1) (k .second)) (eqb (cell t i 2) (k .third))
+    (and-true (eqb (cell t i 0) (k .first)) (eqb (cell t i 1) (k .second)) (eq-eqb (cell t i 0) (k .first) (h .first)) (eq-eqb (cell t i 1) (k .second) (h .second)))
+    (eq-eqb (cell t i 2) (k .third) (h .third))
+
+pub matches-holds : (k : Key) (t : List ℕ) (i : ℕ) → rowMatches k t i ≡ true → Holds t i k (cell t i 3)
+unfolding rowMatches
+matches-holds k t i e =
+    let a = eqb (cell t i 0) (k .first) in
+    let b = eqb (cell t i 1) (k .second) in
+    let c = eqb (cell t i 2) (k .third) in
+    record {
+      first = eqb-true (cell t i 0) (k .first) (and-left a b (and-left (a && b) c e));
+      second = eqb-true (cell t i 1) (k .second) (and-right a b (and-left (a && b) c e));
+      third = eqb-true (cell t i 2) (k .third) (and-right (a && b) c e);
+      clock = refl;
+    }
+
+-- a key that isn't known stands in no row
+pub unknown : (k : Key) (t : List ℕ) (i d : ℕ) → isKnown k t ≡ false → i < 64 → Holds t i k d → ⊥
+unfolding isKnown
+unknown k t i d e l h = not-both (rowMatches k t i) (holds-matches k t i d h) (none-passes (rowMatches k t) i e l)
+
+-- ---- a table that isn't refused
+
+pub table-sized : (now : ℕ) (t : List ℕ) → tableBad now t ≡ false → length t ≡ 256
+unfolding tableBad
+table-sized now t e = eqb-true (length t) 256 (not-false (eqb (length t) 256) (or-left (not (eqb (length t) 256)) (someRow (rowBad now t)) e))
+
+pub row-good : (now : ℕ) (t : List ℕ) (i : ℕ) → tableBad now t ≡ false → i < 64 → (rowFree t i ≡ true) ⊎ (rowUsed now t i ≡ true)
+unfolding tableBad rowBad
+row-good now t i e l =
+    let none = or-right (not (eqb (length t) 256)) (someRow (rowBad now t)) e in
+    or-true (rowFree t i) (rowUsed now t i) (not-false (rowFree t i || rowUsed now t i) (none-passes (rowBad now t) i none l))
+
+-- no row was admitted after the call's clock
+pub row-admitted : (now : ℕ) (t : List ℕ) (i : ℕ) → tableBad now t ≡ false → i < 64 → cell t i 3 ≤ now
+unfolding rowUsed
+row-admitted now t i e l = go (row-good now t i e l)
+  where
+    go : (rowFree t i ≡ true) ⊎ (rowUsed now t i ≡ true) → cell t i 3 ≤ now
+    go (inl f) = let z = free-zeros t i f .clock in omega arith
+    go (inr u) = leb-true (cell t i 3) now (and-right (rowKeyed t i) (leb (cell t i 3) now) u)
+
+-- ---- for the loops
+
+-- a search upwards, at its place i of n
+pub scan-here : (p : ℕ → Bool) (n i r : ℕ) → i < n → p i ≡ true → firstFrom p (n - i) i ≡ r → i ≡ r
+unfolding pick firstFrom
+scan-here p n i r l e h =
+    let here : firstFrom p (suc (n - suc i)) i ≡ i = rw e refl in
+    let left : suc (n - suc i) ≡ n - i = omega arith in
+    sym here ∙ ap (λ (m : ℕ). firstFrom p m i) left ∙ h
+
+pub scan-next : (p : ℕ → Bool) (n i r : ℕ) → i < n → p i ≡ false → firstFrom p (n - i) i ≡ r → firstFrom p (n - (i + 1)) (i + 1) ≡ r
+unfolding pick firstFrom
+scan-next p n i r l e h =
+    let next : firstFrom p (suc (n - suc i)) i ≡ firstFrom p (n - suc i) (suc i) = rw e refl in
+    let left : suc (n - suc i) ≡ n - i = omega arith in
+    rw add-one (sym next ∙ ap (λ (m : ℕ). firstFrom p m i) left ∙ h)
+
+pub scan-end : (p : ℕ → Bool) (n i r : ℕ) → n ≤ i → firstFrom p (n - i) i ≡ r → i ≡ r
+unfolding firstFrom
+scan-end p n i r l h = let z : n - i ≡ 0 = omega arith in rw z at h
+
+-- a search for some row
+pub some-here : (p : ℕ → Bool) (i : ℕ) → i < 64 → p i ≡ true → firstFrom p (64 - i) i ≡ firstFrom p 64 0 → true ≡ someRow p
+unfolding someRow
+some-here p i l e h = sym (lt-ltb (firstFrom p 64 0) 64 (let q = scan-here p 64 i (firstFrom p 64 0) l e h in omega arith))
+
+pub some-end : (p : ℕ → Bool) (i : ℕ) → 64 ≤ i → firstFrom p (64 - i) i ≡ firstFrom p 64 0 → false ≡ someRow p
+unfolding someRow
+some-end p i l h = sym (le-ltb (firstFrom p 64 0) 64 (let q = scan-end p 64 i (firstFrom p 64 0) l h in omega arith))
+
+-- a pass over the rows, at its place i
+pub pass-dead : (now : ℕ) (t u v : List ℕ) (i : ℕ) → u ≡ freeRows now t i → rowDead now u i ≡ true → v ≡ putRow u i noKey 0 → v ≡ freeRows now t (i + 1)
+unfolding pick freeRows
+pass-dead now t u v i e d h =
+    let dead : rowDead now (freeRows now t i) i ≡ true = rw e at d in
+    rw (add-one, dead) (rw e at h)
+
+pub pass-live : (now : ℕ) (t u : List ℕ) (i : ℕ) → u ≡ freeRows now t i → rowDead now u i ≡ false → u ≡ freeRows now t (i + 1)
+unfolding pick freeRows
+pass-live now t u i e d =
+    let live : rowDead now (freeRows now t i) i ≡ false = rw e at d in
+    rw (add-one, live) e
+
+pub pass-length : (now : ℕ) (t u : List ℕ) (i : ℕ) → u ≡ freeRows now t i → length t ≡ 256 → length u ≡ 256
+pass-length now t u i e sized = ap length e ∙ length-free now t i ∙ sized
+
+life-some : (first : ℕ) → 0 < rowLife first
+unfolding rowLife
+life-some first = both (λ (n : ℕ). 0 < n) _ (omega arith) (omega arith)
+
+-- a row that was admitted after the clock lives
+pub later-lives : (first now d : ℕ) → now < d → false ≡ leb (rowLife first) (now - d)
+later-lives first now d l = sym (lt-leb (rowLife first) (now - d) (omega (arith, life-some first)))
+
+-- the lowest free row filled, and where none is free
+module _ (t : List ℕ) (row : ℕ) (k : Key) (clock : ℕ) (sized : length t ≡ 256) (e : row ≡ lowestFree t) where
+  pub fills-row : (t′ : List ℕ) → row < 64 → t′ ≡ putRow t row k clock → (row ≡ whereSized t (lowestFree t) 64) × (t′ ≡ whereSized t (filled t k clock) t)
+  unfolding filled pick
+  fills-row t′ l h = (rw (of-sized t (lowestFree t) 64 sized) e, rw (of-sized t (filled t k clock) t sized, ← e, lt-ltb row 64 l) h)
+
+  pub fills-none : 64 ≤ row → (row ≡ whereSized t (lowestFree t) 64) × (t ≡ whereSized t (filled t k clock) t)
+  unfolding filled pick
+  fills-none l = (rw (of-sized t (lowestFree t) 64 sized) e, rw (of-sized t (filled t k clock) t sized, ← e, le-ltb row 64 l) refl)
+
+-- the code's index of a row's first number
+pub cell-first : (t : List ℕ) (i : ℕ) → cell t i 0 ≡ getD t (4 * i) 0
+unfolding cell
+cell-first t i = ap (λ (k : ℕ). getD t k 0) (add-zero (4 * i))
+
+-- a row that was admitted after the clock
+pub later-bad : (now d : ℕ) → ltb now d ≡ not (leb d now)
+later-bad now d = go (decLt now d)
+  where
+    go : Dec (now < d) → ltb now d ≡ not (leb d now)
+    go (yes l) = rw (lt-ltb now d l, lt-leb d now l) refl
+    go (no l) = rw (le-ltb now d (omega arith), le-leb d now (omega arith)) refl

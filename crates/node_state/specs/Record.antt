@@ -1,0 +1,62 @@
+-- The node's record (the rules, "Record and relay table"), and masks of links, whose bit i is set when interface i is up.
+use Prim.Native.Nat.{ℕ, _/_, _%_, _+_, _-_, _^_}
+use mathlib.Core.Bool.{Bool, not, _||_}
+use mathlib.Core.List.{List}
+use lib.ListN.{replicate}
+use lib.Dec.{ltb, leb, eqb}
+use Rattle.base.specs.Pick.{pick}
+use Rattle.node_state.specs.declared.Record.{Record}
+use Rattle.node_state.specs.declared.Kept.{Kept}
+
+-- the interfaces aren't 1 to 8, or a bit is set at or above their number
+unfoldable pub linksBad : ℕ → ℕ → Bool
+linksBad interfaces mask = eqb interfaces 0 || ltb 8 interfaces || leb (2 ^ interfaces) mask
+
+-- 12: the rules' limit on the tally is 2^63
+unfoldable pub recordBad : Record → Bool
+recordBad r = linksBad (r .interfaces) (r .links) || ltb (2 ^ 63) (r .tally)
+
+-- the number of a refusal beside a record
+abbrev pub keeps : ℕ → Record → Kept
+keeps n r = record { refusal = n; node = r }
+
+-- a record at clock 0 with no copies tallied
+abbrev pub begun : List ℕ → ℕ → ℕ → ℕ → ℕ → Record
+begun address port ttl interfaces mask =
+    record { address = address; port = port; ttl = ttl; interfaces = interfaces; links = mask; clock = 0; tally = 0 }
+
+-- asking for a fresh record: 12, with all zeros for the record, or the record with refusal 0
+unfoldable pub fresh : List ℕ → ℕ → ℕ → ℕ → ℕ → Kept
+fresh address port ttl interfaces mask =
+    pick (linksBad interfaces mask) (keeps 12 (begun (replicate 16 0) 0 0 0 0)) (keeps 0 (begun address port ttl interfaces mask))
+
+-- the record with another mask
+unfoldable pub linked : Record → ℕ → Record
+linked r mask =
+    record { address = r .address; port = r .port; ttl = r .ttl; interfaces = r .interfaces; links = mask; clock = r .clock; tally = r .tally }
+
+-- setting links: 12, then 13
+unfoldable pub setLinks : Record → ℕ → Kept
+setLinks r mask = pick (recordBad r) (keeps 12 r) (pick (leb (2 ^ r .interfaces) mask) (keeps 13 r) (keeps 0 (linked r mask)))
+
+-- bit i of a mask is set
+unfoldable pub isUp : ℕ → ℕ → Bool
+isUp mask i = eqb (mask / 2 ^ i % 2) 1
+
+-- 13 of the node call: the arriving interface isn't below the count, or its link is down
+unfoldable pub arrivalBad : Record → ℕ → Bool
+arrivalBad r i = leb (r .interfaces) i || not (isUp (r .links) i)
+
+-- the links up, less that of interface i, which is up
+unfoldable pub others : Record → ℕ → ℕ
+others r i = r .links - 2 ^ i
+
+-- the record with the clock taken
+unfoldable pub clocked : Record → ℕ → Record
+clocked r now =
+    record { address = r .address; port = r .port; ttl = r .ttl; interfaces = r .interfaces; links = r .links; clock = now; tally = r .tally }
+
+-- the record with so many copies tallied
+unfoldable pub tallied : Record → ℕ → Record
+tallied r copies =
+    record { address = r .address; port = r .port; ttl = r .ttl; interfaces = r .interfaces; links = r .links; clock = r .clock; tally = r .tally + copies }
