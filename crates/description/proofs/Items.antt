@@ -1,12 +1,13 @@
 -- How many items the parts of a description are.
 -- Assumes nothing.
-use Prim.Native.Nat.{ℕ, zero, suc, _+_, _/_}
+use Prim.Native.Nat.{ℕ, zero, suc, _+_, _/_, _≤_}
 use mathlib.Core.Path.{_≡_, refl, sym, ap, _∙_}
 use mathlib.Core.Bool.{false}
 use mathlib.Core.List.{List, [], _∷_}
+use mathlib.Core.Option.{Option, none, some}
 use native.Mathlib.Omega.{arith}
 use lib.ListN.{length, length-append}
-use Rattle.description.specs.Encoding.{oneMore, targetItems}
+use Rattle.description.specs.Encoding.{oneMore, howMany, targetItems}
 use Rattle.description.specs.Describe.{placeRow, upTo, locsOf, targetsOf}
 
 pub length-up : {A : Type 0} (f : ℕ → A) (n : ℕ) → length (upTo f n) ≡ n
@@ -27,3 +28,14 @@ pub more-one : (bs : List ℕ) (n : ℕ) → n ≡ length bs → (n ≡ 0 → �
 unfolding oneMore
 more-one [] n e h = absurd (h e)
 more-one (x ∷ bs) n e h = refl
+
+-- one at most
+pub more-le : (bs : List ℕ) → oneMore bs ≤ 1
+unfolding oneMore
+more-le [] = omega arith
+more-le (x ∷ bs) = omega arith
+
+pub many-le : {A : Type 0} (m : Option A) → howMany m ≤ 1
+unfolding howMany
+many-le none = omega arith
+many-le (some x) = omega arith

@@ -5,15 +5,14 @@ use mathlib.Core.Path.{_≡_}
 use mathlib.Core.Bool.{Bool, true, false}
 use mathlib.Core.List.{List}
 use native.Mathlib.Numerals.{add-one}
-use native.Mathlib.Nat.{add-sub-cancel-left}
+use native.Mathlib.Nat.{sub-zero, add-sub-cancel-left}
 use native.Mathlib.Omega.{arith}
 use lib.ListN.{length, take, drop}
 use borrow.Author.Tests.{eq-eqb, ne-eqb}
 use Rattle.options.specs.Text.{held}
 use Rattle.base.specs.Pick.{pick}
 use Rattle.options.specs.declared.Span.{Span}
-use Rattle.description.specs.Describe.{placeRow, pairRow}
-use Rattle.description.specs.Judge.{okValue, allFrom, okRow, okRows, okPair, okPairs}
+use Rattle.description.specs.Judge.{okValue, allFrom, okEach}
 use Rattle.description.proofs.Held.{held-none, held-rest, held-part}
 
 module _ (p : ℕ → Bool) (n i : ℕ) where
@@ -32,22 +31,14 @@ module _ (p : ℕ → Bool) (n i : ℕ) where
   unfolding allFrom
   all-end h = let e : n - i ≡ 0 = omega arith in rw e
 
-module _ (source list : List ℕ) where
-  pub rows-start : length list % placeRow ≡ 0 → allFrom (okRow source list) (length list / placeRow - 0) 0 ≡ okRows source list
-  unfolding okRows pick
-  rows-start h = let e : length list / placeRow - 0 ≡ length list / placeRow = omega arith in rw (eq-eqb (length list % placeRow) 0 h, e)
+module _ (size : ℕ) (ok : ℕ → Bool) (list : List ℕ) where
+  pub each-start : length list % size ≡ 0 → allFrom ok (length list / size - 0) 0 ≡ okEach size ok list
+  unfolding okEach pick
+  each-start h = rw (eq-eqb (length list % size) 0 h, sub-zero)
 
-  pub rows-bad : (length list % placeRow ≡ 0 → ⊥) → false ≡ okRows source list
-  unfolding okRows pick
-  rows-bad h = rw (ne-eqb (length list % placeRow) 0 h)
-
-  pub pairs-start : length list % pairRow ≡ 0 → allFrom (okPair source list) (length list / pairRow - 0) 0 ≡ okPairs source list
-  unfolding okPairs pick
-  pairs-start h = let e : length list / pairRow - 0 ≡ length list / pairRow = omega arith in rw (eq-eqb (length list % pairRow) 0 h, e)
-
-  pub pairs-bad : (length list % pairRow ≡ 0 → ⊥) → false ≡ okPairs source list
-  unfolding okPairs pick
-  pairs-bad h = rw (ne-eqb (length list % pairRow) 0 h)
+  pub each-bad : (length list % size ≡ 0 → ⊥) → false ≡ okEach size ok list
+  unfolding okEach pick
+  each-bad h = rw (ne-eqb (length list % size) 0 h)
 
 module _ (source : List ℕ) (s : Span) where
   pub value-none : length source < s .at → true ≡ okValue (held source s)

@@ -57,11 +57,15 @@ unfoldable pub allFrom : (ℕ → Bool) → ℕ → ℕ → Bool
 allFrom p zero i = true
 allFrom p (suc n) i = pick (p i) (allFrom p n (suc i)) false
 
+-- whole rows of so many numbers, each of which passes
+unfoldable pub okEach : ℕ → (ℕ → Bool) → List ℕ → Bool
+okEach size ok list = pick (eqb (length list % size) 0) (allFrom ok (length list / size) 0) false
+
 unfoldable pub okRow : List ℕ → List ℕ → ℕ → Bool
 okRow source list i = okPlace source (placeAt list (placeRow * i))
 
 unfoldable pub okRows : List ℕ → List ℕ → Bool
-okRows source list = pick (eqb (length list % placeRow) 0) (allFrom (okRow source list) (length list / placeRow) 0) false
+okRows source list = okEach placeRow (okRow source list) list
 
 -- the number between the count and the value is kept for later, and 0
 unfoldable pub okPair : List ℕ → List ℕ → ℕ → Bool
@@ -71,7 +75,7 @@ okPair source list i =
     false
 
 unfoldable pub okPairs : List ℕ → List ℕ → Bool
-okPairs source list = pick (eqb (length list % pairRow) 0) (allFrom (okPair source list) (length list / pairRow) 0) false
+okPairs source list = okEach pairRow (okPair source list) list
 
 unfoldable pub okExtra : List ℕ → Extra → Bool
 okExtra source X.Without = true

@@ -13,7 +13,7 @@ use Rattle.description.specs.Encoding.{targetItems, howMany}
 use Rattle.description.specs.declared.Extra.{Extra}
 use Rattle.description.specs.declared.Extra.the-variants as X
 use Rattle.description.specs.Describe.{placeRow, pairRow, upTo, rowLoc, locsOf, pairsOf, targetsOf, extraOf}
-use Rattle.description.proofs.Items.{length-up}
+use Rattle.description.proofs.Items.{length-up, many-le}
 use Rattle.encode.proofs.Puts.{then, still}
 
 -- one more
@@ -56,11 +56,6 @@ unfolding howMany extraOf
 extra-many source X.Without = refl
 extra-many source (X.With o) = refl
 
-pub extra-le : (source : List ℕ) (m : Extra) → howMany (extraOf source m) ≤ 1
-unfolding howMany extraOf
-extra-le source X.Without = omega arith
-extra-le source (X.With o) = omega arith
-
 pub length-locs : (source list : List ℕ) → length (locsOf source list) ≡ length list / placeRow
 unfolding locsOf
 length-locs source list = length-up _ _
@@ -69,7 +64,7 @@ pub targets-few : (list : List ℕ) (d : Bool) (t : ℕ) → t ≡ targetItems (
 targets-few list d t e = rw e (targets-le [] list d)
 
 pub extra-few : (m : Extra) (t : ℕ) → t ≡ howMany (extraOf [] m) → t ≤ 1
-extra-few m t e = rw e (extra-le [] m)
+extra-few m t e = rw e (many-le (extraOf [] m))
 
 pub length-pairs : (source list : List ℕ) → length (pairsOf source list) ≡ length list / pairRow
 unfolding pairsOf

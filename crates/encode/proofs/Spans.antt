@@ -1,21 +1,14 @@
 -- The bytes of a slice and of a span, put.
 -- Assumes nothing.
-use Prim.Native.Nat.{ℕ, _+_, _-_, _≤_, _<_}
-use mathlib.Core.List.{List, [], _∷_}
+use Prim.Native.Nat.{ℕ, _+_, _-_, _<_}
+use mathlib.Core.List.{List}
 use native.Mathlib.Nat.{add-sub-cancel-left}
-use native.Mathlib.Omega.{arith}
 use lib.ListN.{length, take, drop}
 use Rattle.options.specs.Text.{held}
 use Rattle.options.specs.declared.Span.{Span}
 use Rattle.encode.specs.Put.{Wrote}
-use Rattle.description.specs.Encoding.{oneMore}
 use Rattle.description.proofs.Held.{held-none, held-rest, held-part}
 use Rattle.encode.proofs.Puts.{still}
-
-pub more-le : (bs : List ℕ) → oneMore bs ≤ 1
-unfolding oneMore
-more-le [] = omega arith
-more-le (x ∷ bs) = omega arith
 
 -- a span outside the source, one that reaches past its end, and one inside
 pub part-none : (l : List ℕ) (at : ℕ) (source : List ℕ) (s : Span) → length source < s .at → Wrote l l at (held source s) at

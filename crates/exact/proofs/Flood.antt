@@ -2,7 +2,7 @@
 -- Assumes nothing.
 use mathlib.Core.Path.{_≡_, refl, sym, ap, subst}
 use mathlib.Core.Logic.{_↔_}
-use mathlib.Core.List.{List, [], _∷_}
+use mathlib.Core.List.{List, [], _∷_, map, flatMap}
 use Prim.Native.Nat.{ℕ, zero, suc, _+_, _-_, _≤_}
 use native.Mathlib.Omega.{arith}
 use lib.ListN.{length}
@@ -18,7 +18,7 @@ use Rattle.options.specs.Text.{firstOf}
 use Rattle.options.specs.Pair.{pairAt}
 use Rattle.syntax.specs.Message.{Pair, Msg}
 use Rattle.grammar.specs.Cddl.{Number, Initiator, PairItems, MessageItem, Value}
-use Rattle.grammar.specs.Limits.{Utf8, Short, pairTexts, pairsTexts, pairsNames, textsOf, namesOf}
+use Rattle.grammar.specs.Limits.{Utf8, Short, pairTexts, pairName, textsOf, namesOf}
 use Rattle.grammar.specs.Stands.{StandAll}
 use Rattle.grammar.proofs.Bridge.{join, none, split}
 use Rattle.grammar.proofs.Pairs.{PairStands, pair-sound, pair-complete}
@@ -42,8 +42,8 @@ record PairsHere (s : List ℕ) (p n bad long bad′ long′ : ℕ) : Type 0 whe
   are : PairItems items pairs
   stand : StandAll s p end items
   counted : n ≡ count items
-  texts : bad′ ≡ 0 ↔ (bad ≡ 0) × Every Utf8 (pairsTexts pairs)
-  names : long′ ≡ 0 ↔ (long ≡ 0) × Every Short (pairsNames pairs)
+  texts : bad′ ≡ 0 ↔ (bad ≡ 0) × Every Utf8 (flatMap pairTexts pairs)
+  names : long′ ≡ 0 ↔ (long ≡ 0) × Every Short (map pairName pairs)
 
 -- the answer of the loop
 data PairsOk (s : List ℕ) (p n bad long : ℕ) : PairsRead → Type 0 where
@@ -53,7 +53,7 @@ data PairsOk (s : List ℕ) (p n bad long : ℕ) : PairsRead → Type 0 where
 -- one pair, and then others
 one-more : {s : List ℕ} {p e n bad long bad′ long′ : ℕ} {o : Objective} {t : Tag} {r : PairsRead} → PairStands s p e o t bad′ long′
     → PairsOk s e n (firstOf bad bad′) (firstOf long long′) r → PairsOk s p (suc n) bad long r
-unfolding count pairsTexts pairsNames
+unfolding count flatMap
 one-more i PairsOk.refused = PairsOk.refused
 one-more i (PairsOk.ran h) =
     PairsOk.ran
@@ -64,8 +64,8 @@ one-more i (PairsOk.ran h) =
       are = PairItems.more (i .is) (h .are);
       stand = join (i .stands) (h .stand);
       counted = ap suc (h .counted);
-      texts = more-noted Utf8 (pairTexts (i .pair)) (pairsTexts (h .pairs)) (i .texts) (h .texts);
-      names = more-noted Short (i .pair .0 .name ∷ []) (pairsNames (h .pairs)) (single (i .names)) (h .names);
+      texts = more-noted Utf8 (pairTexts (i .pair)) (flatMap pairTexts (h .pairs)) (i .texts) (h .texts);
+      names = more-noted Short (i .pair .0 .name ∷ []) (map pairName (h .pairs)) (single (i .names)) (h .names);
     })
 
 module _ {s : List ℕ} (b : Bytes s) where
@@ -80,7 +80,7 @@ module _ {s : List ℕ} (b : Bytes s) where
 
   -- pairs stand one after the other where they are read
   pairs-sound : (n p bad long : ℕ) → p ≤ length s → PairsOk s p n bad long (pairsFrom s n p bad long)
-  unfolding pairsFrom count pairsTexts pairsNames
+  unfolding pairsFrom count flatMap
   pairs-sound zero p bad long low =
       PairsOk.ran (record { items = Items.done; pairs = []; end = p; are = PairItems.empty; stand = none low; counted = refl; texts = none-noted; names = none-noted })
   pairs-sound (suc n) p bad long low = next-sound low (pairs-sound n) _ refl
@@ -89,7 +89,7 @@ module _ {s : List ℕ} {n at next : ℕ} (k : Kinded s 9 n at) {opening : Openi
   -- the first pair and the others are the message
   flooded-by-sound : {e bad long : ℕ} {first : Objective} {t : Tag} → PairStands s next e first t bad long → (x : PairsRead) → PairsOk s e (parts - 1) bad long x
       → ShapeOk s (floodedBy opening first (record { at = next; many = parts }) x)
-  unfolding floodedBy count textsOf namesOf pairsTexts pairsNames
+  unfolding floodedBy count textsOf namesOf flatMap
   flooded-by-sound i _ PairsOk.refused = ShapeOk.bad
   flooded-by-sound i _ (PairsOk.ran r) =
       let pairs = PairItems.more (i .is) (r .are) in
@@ -99,8 +99,8 @@ module _ {s : List ℕ} {n at next : ℕ} (k : Kinded s 9 n at) {opening : Openi
       (λ w v. MessageItem.flood (Number.number (h .session .low)) (Initiator.initiator (h .initiator .size)) (Number.number (h .ttl .low)) pairs)
       (λ full. Describes.flood (kind-is k) (number-is-here (h .session)) (initiator-is (h .initiator)) (number-is-here (h .ttl))
       (record { items = Items.more (i .item) (r .items); stand = subst (λ (e : ℕ). StandAll s next e (Items.more (i .item) (r .items))) full stand; many = omega (arith, r .counted); are = pairs }) (i .opened) (i .objective))
-      (then-noted Utf8 (pairTexts (i .pair)) (pairsTexts (r .pairs)) (i .texts) (r .texts))
-      (then-noted Short (i .pair .0 .name ∷ []) (pairsNames (r .pairs)) (single (i .names)) (r .names))
+      (then-noted Utf8 (pairTexts (i .pair)) (flatMap pairTexts (r .pairs)) (i .texts) (r .texts))
+      (then-noted Short (i .pair .0 .name ∷ []) (map pairName (r .pairs)) (single (i .names)) (r .names))
 
   -- the first pair
   flooded-of-sound : (x : PairRead) → pairAt s next ≡ x → ShapeOk s (floodedOf s opening parts next x)

@@ -2,7 +2,7 @@
 -- Assumes nothing.
 use mathlib.Core.Path.{_≡_, refl, sym, ap, ap₂, _∙_}
 use mathlib.Core.Logic.{_↔_}
-use mathlib.Core.List.{List, [], _∷_}
+use mathlib.Core.List.{List, [], _∷_, flatMap}
 use mathlib.Core.Bool.{Bool, true, false}
 use Prim.Native.Nat.{ℕ, zero, suc, _+_, _-_, _≤_}
 use native.Mathlib.Nat.{zero-add}
@@ -22,7 +22,7 @@ use Rattle.options.specs.Text.{firstOf}
 use Rattle.options.specs.Locator.{locatorAt}
 use Rattle.syntax.specs.Message.{Loc, Obj}
 use Rattle.grammar.specs.Cddl.{uint, LocatorItem, LocatorItems, ObjectiveItem, Value}
-use Rattle.grammar.specs.Limits.{Utf8, locTexts, locsTexts}
+use Rattle.grammar.specs.Limits.{Utf8, locTexts}
 use Rattle.grammar.specs.Stands.{StandAll}
 use Rattle.grammar.proofs.Bridge.{join, none, none-end, split}
 use Rattle.grammar.proofs.Pieces.{array-items}
@@ -40,7 +40,7 @@ pub record LocatorsHere (s : List ℕ) (p e n left bad bad′ : ℕ) : Type 0 wh
   pub are : LocatorItems items locs
   pub stand : StandAll s p e items
   pub sum : n ≡ count items + left
-  pub texts : bad′ ≡ 0 ↔ (bad ≡ 0) × Every Utf8 (locsTexts locs)
+  pub texts : bad′ ≡ 0 ↔ (bad ≡ 0) × Every Utf8 (flatMap locTexts locs)
 
 -- the answer of the loop
 pub data LocatorsOk (s : List ℕ) (p n bad : ℕ) : LocatorsRead → Type 0 where
@@ -49,14 +49,14 @@ pub data LocatorsOk (s : List ℕ) (p n bad : ℕ) : LocatorsRead → Type 0 whe
 
 -- no more locators
 stopped : {s : List ℕ} {p : ℕ} (n bad : ℕ) → p ≤ length s → LocatorsOk s p n bad (LocatorsRead.Ran p n bad)
-unfolding count locsTexts
+unfolding count flatMap
 stopped n bad low =
     LocatorsOk.ran (record { items = Items.done; locs = []; are = LocatorItems.empty; stand = none low; sum = sym (zero-add n); texts = none-noted })
 
 -- one locator, and then others
 one-more : {s : List ℕ} {p e n bad bad′ : ℕ} {l : Locator} {r : LocatorsRead} → LocatorStands s p e l bad′
     → LocatorsOk s e n (firstOf bad bad′) r → LocatorsOk s p (suc n) bad r
-unfolding count locsTexts
+unfolding count flatMap
 one-more i LocatorsOk.refused = LocatorsOk.refused
 one-more i (LocatorsOk.ran {left = left} h) =
     LocatorsOk.ran {left = left}
@@ -66,7 +66,7 @@ one-more i (LocatorsOk.ran {left = left} h) =
       are = LocatorItems.more (i .is) (h .are);
       stand = join (i .stands) (h .stand);
       sum = ap suc (h .sum) ∙ omega arith;
-      texts = more-noted Utf8 (locTexts (i .loc)) (locsTexts (h .locs)) (i .texts) (h .texts);
+      texts = more-noted Utf8 (locTexts (i .loc)) (flatMap locTexts (h .locs)) (i .texts) (h .texts);
     })
 
 module _ {s : List ℕ} (b : Bytes s) where

@@ -2,7 +2,7 @@
 -- Assumes nothing.
 use mathlib.Core.Path.{_≡_, refl, sym, ap, _∙_, subst}
 use mathlib.Core.Logic.{_↔_}
-use mathlib.Core.List.{List, [], _∷_, _++_}
+use mathlib.Core.List.{List, [], _∷_, _++_, flatMap}
 use mathlib.Core.Option.{Option, none, some}
 use Prim.Native.Nat.{ℕ, suc, _+_, _-_, _≤_, _<_}
 use native.Mathlib.Omega.{arith}
@@ -22,7 +22,7 @@ use Rattle.options.specs.Text.{firstOf}
 use Rattle.options.specs.Objective.{objectiveAt}
 use Rattle.syntax.specs.Message.{Loc, Obj, Aim, Msg}
 use Rattle.grammar.specs.Cddl.{uint, joined, Number, Initiator, LocatorItems, OptionalItems, AimItems, MessageItem, Value}
-use Rattle.grammar.specs.Limits.{Utf8, Short, locsTexts, optionalNames, aimTexts, textsOf, namesOf}
+use Rattle.grammar.specs.Limits.{Utf8, Short, locTexts, optionalNames, aimTexts, textsOf, namesOf}
 use Rattle.grammar.specs.Stands.{Stands, StandAll, ArrayHead, ObjectiveIs}
 use Rattle.grammar.proofs.Objectives.{objective-sound}
 use Rattle.grammar.proofs.Bridge.{token-heading, join, none as no-items, last, split, none-end}
@@ -125,7 +125,7 @@ module _ {s : List ℕ} {n at next : ℕ} (k : Kinded s 2 n at) {opening : Openi
 
   -- locators, and what follows them
   located-finish : {many p′ left bad bad′ long : ℕ} {extra : Extra} {xs : Items} {ls : List Loc} → n ≡ 4 + (count xs + left) → many ≡ count xs → (count xs ≡ 0 → ⊥)
-      → LocatorItems xs ls → StandAll s next p′ xs → bad ≡ 0 ↔ Every Utf8 (locsTexts ls) → RestHere s p′ left bad bad′ long extra
+      → LocatorItems xs ls → StandAll s next p′ xs → bad ≡ 0 ↔ Every Utf8 (flatMap locTexts ls) → RestHere s p′ left bad bad′ long extra
       → ShapeOk s (S.Good (responseOf opening (Targets.Locators (record { at = next; many = many })) extra) bad′ long)
   unfolding count aimTexts
   located-finish counted many filled LocatorItems.empty stand texts r = absurd (filled refl)
@@ -134,7 +134,7 @@ module _ {s : List ℕ} {n at next : ℕ} (k : Kinded s 2 n at) {opening : Openi
       responded (counted ∙ ap (λ (c : ℕ). 4 + c) (ap (λ (c : ℕ). count all + c) (r .counted) ∙ sym (count-joined all (r .items)))) (join-all stand (r .stand))
       (AimItems.locators (LocatorItems.more i is) (r .are))
       (AimIs.locators refl (record { items = all; stand = stand; many = many; are = LocatorItems.more i is }))
-      (r .is) (then-noted Utf8 (locsTexts (l ∷ ls)) (optionalNames (r .obj)) texts (r .texts)) (r .names)
+      (r .is) (then-noted Utf8 (flatMap locTexts (l ∷ ls)) (optionalNames (r .obj)) texts (r .texts)) (r .names)
 
   -- what the loop answers
   located-of-sound : {parts : ℕ} → n ≡ 4 + parts → (x : LocatorsRead) → LocatorsOk s next parts 0 x → ShapeOk s (locatedOf s opening parts next x)
@@ -152,14 +152,14 @@ module _ {s : List ℕ} {n at next : ℕ} (k : Kinded s 2 n at) {opening : Openi
 
   -- a divert, and what follows it
   divert-finish : {many from p′ q left bad bad′ long w v : ℕ} {extra : Extra} {xs : Items} {ls : List Loc} → n ≡ 5 + left → many ≡ count xs → (count xs ≡ 0 → ⊥)
-      → LocatorItems xs ls → StandAll s from p′ xs → Stands s next p′ (Item.array w (Items.more (uint v 100) xs)) → ArrayHead s next q (suc many) → Stands s q from (uint v 100) → bad ≡ 0 ↔ Every Utf8 (locsTexts ls)
+      → LocatorItems xs ls → StandAll s from p′ xs → Stands s next p′ (Item.array w (Items.more (uint v 100) xs)) → ArrayHead s next q (suc many) → Stands s q from (uint v 100) → bad ≡ 0 ↔ Every Utf8 (flatMap locTexts ls)
       → RestHere s p′ left bad bad′ long extra → ShapeOk s (S.Good (responseOf opening (Targets.Divert (record { at = from; many = many })) extra) bad′ long)
   unfolding count aimTexts
   divert-finish counted many filled LocatorItems.empty stand whole head lead texts r = absurd (filled refl)
   divert-finish counted many filled (LocatorItems.more {x} {l} {xs} {ls} i is) stand whole head lead texts r =
       responded (counted ∙ omega (arith, r .counted)) (join whole (r .stand)) (AimItems.divert (LocatorItems.more i is) (r .are))
       (AimIs.divert head lead (record { items = Items.more x xs; stand = stand; many = many; are = LocatorItems.more i is }))
-      (r .is) (then-noted Utf8 (locsTexts (l ∷ ls)) (optionalNames (r .obj)) texts (r .texts)) (r .names)
+      (r .is) (then-noted Utf8 (flatMap locTexts (l ∷ ls)) (optionalNames (r .obj)) texts (r .texts)) (r .names)
 
   -- what the loop answers in a divert
   divert-of-sound : (left : ℕ) {many from q w v : ℕ} → n ≡ 5 + left → (many ≡ 0 → ⊥) → ArrayHead s next q (suc many) → Stands s q from (uint v 100)

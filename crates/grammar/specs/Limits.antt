@@ -1,6 +1,6 @@
 -- The rules' limits on texts: named texts are UTF-8 (`Utf8Exact.utf8-exactly` of `utf8` says what that means), and names have at most 64 bytes.
 use Prim.Native.Nat.{ℕ, _≤_}
-use mathlib.Core.List.{List, [], _∷_, _++_}
+use mathlib.Core.List.{List, [], _∷_, _++_, map, flatMap}
 use mathlib.Core.Bool.{true}
 use mathlib.Core.Path.{_≡_}
 use mathlib.Core.Option.{Option, none, some}
@@ -24,10 +24,6 @@ locTexts (Loc.v4 address protocol port) = []
 locTexts (Loc.domain name protocol port) = name ∷ []
 locTexts (Loc.uri uri protocol port) = uri ∷ []
 
-unfoldable pub locsTexts : List Loc → List (List ℕ)
-locsTexts [] = []
-locsTexts (l ∷ ls) = locTexts l ++ locsTexts ls
-
 unfoldable pub tagTexts : Option Loc → List (List ℕ)
 tagTexts none = []
 tagTexts (some l) = locTexts l
@@ -35,22 +31,17 @@ tagTexts (some l) = locTexts l
 unfoldable pub pairTexts : Pair Value → List (List ℕ)
 pairTexts p = p .0 .name ∷ tagTexts (p .1)
 
-unfoldable pub pairsTexts : List (Pair Value) → List (List ℕ)
-pairsTexts [] = []
-pairsTexts (p ∷ ps) = pairTexts p ++ pairsTexts ps
-
 -- the names of objectives
-unfoldable pub pairsNames : List (Pair Value) → List (List ℕ)
-pairsNames [] = []
-pairsNames (p ∷ ps) = p .0 .name ∷ pairsNames ps
+abbrev pub pairName : Pair Value → List ℕ
+pairName p = p .0 .name
 
 unfoldable pub optionalNames : Option (Obj Value) → List (List ℕ)
 optionalNames none = []
 optionalNames (some obj) = obj .name ∷ []
 
 unfoldable pub aimTexts : Aim → List (List ℕ)
-aimTexts (Aim.locators ls) = locsTexts ls
-aimTexts (Aim.divert ls) = locsTexts ls
+aimTexts (Aim.locators ls) = flatMap locTexts ls
+aimTexts (Aim.divert ls) = flatMap locTexts ls
 
 unfoldable pub endingTexts : Ending → List (List ℕ)
 endingTexts Ending.accept = []
@@ -67,7 +58,7 @@ namesOf (Msg.negotiate session obj) = obj .name ∷ []
 namesOf (Msg.end session e) = []
 namesOf (Msg.wait session time) = []
 namesOf (Msg.synch session obj) = obj .name ∷ []
-namesOf (Msg.flood session initiator ttl ps) = pairsNames ps
+namesOf (Msg.flood session initiator ttl ps) = map pairName ps
 namesOf (Msg.invalid session item) = []
 
 unfoldable pub textsOf : Msg Value → List (List ℕ)
@@ -80,7 +71,7 @@ textsOf (Msg.negotiate session obj) = obj .name ∷ []
 textsOf (Msg.end session e) = endingTexts e
 textsOf (Msg.wait session time) = []
 textsOf (Msg.synch session obj) = obj .name ∷ []
-textsOf (Msg.flood session initiator ttl ps) = pairsTexts ps
+textsOf (Msg.flood session initiator ttl ps) = flatMap pairTexts ps
 textsOf (Msg.invalid session item) = []
 
 -- 11 and 10 aren't due

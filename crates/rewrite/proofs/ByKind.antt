@@ -3,8 +3,7 @@
 use mathlib.Core.Path.{_≡_, refl, sym, ap, ap₂, _∙_, subst}
 use mathlib.Core.List.{List, _++_, map, append-assoc}
 use mathlib.Core.Option.{Option, some, Option·map}
-use Prim.Native.Nat.{ℕ, _*_, _/_, _%_, _≤_, _<_}
-use native.Mathlib.Nat.{mul-mod-right, mul-div-cancel-left}
+use Prim.Native.Nat.{ℕ, _*_, _/_, _≤_}
 use native.Mathlib.Omega.{arith}
 use lib.Dec.{ltb, lit<}
 use lib.ListN.{length, take}
@@ -31,15 +30,10 @@ use Rattle.roundtrip.specs.Says.{PlaceSays, PairSays, Rows, ExtraSays, EndingSa
 use Rattle.roundtrip.proofs.Encodes.{pairs-many}
 use Rattle.roundtrip.proofs.Places.{past-item, stands-whole, opened-place}
 use Rattle.rewrite.specs.Lent.{rowsLent}
-use Rattle.rewrite.proofs.Filled.{joined, joined-length, rows-many, lent, told-each, told-all}
+use Rattle.rewrite.proofs.Filled.{joined, rows-many, lent, told-rows}
 use Rattle.rewrite.proofs.Spans.{string-cuts, value-cuts, end-cuts, objective-goals}
 use Rattle.rewrite.proofs.Locators.{placeOf, place-behind, Locators, locators-rows}
 use Rattle.rewrite.proofs.Pairs.{rowAt, rowOf, row-behind, pairOf, InOrder, Pairs, pairs-rows}
-
--- ---- whole rows
--- so many numbers, in rows of n
-whole-rows : (n k len : ℕ) → 0 < n → len ≡ n * k → (len % n ≡ 0) × (len / n ≡ k)
-whole-rows n k len h e = (rw e (mul-mod-right n k), rw e (mul-div-cancel-left k h))
 
 module _ (s : List ℕ) (by : Bytes s) where
   -- a list of locators
@@ -49,12 +43,9 @@ module _ (s : List ℕ) (by : Bytes s) where
 
   placed-rows : {at : ℕ} {rows : List (List ℕ)} {ls : List Loc} → Locators s by at rows ls → Placed (joined rows) ls
   unfolding locsOf rowLoc
-  placed-rows {rows = rows} chain =
-      let (whole, many) = whole-rows placeRow (length rows) (length (joined rows)) (lit< tt) (joined-length chain) in
-      record {
-        says = record { whole = whole; each = λ i h. told-each placeOf (locOf s) (PlaceSays s) place-behind chain i (rw many at h) };
-        are = rw many (told-all placeOf (locOf s) (PlaceSays s) place-behind chain);
-      }
+  placed-rows chain =
+      let (says, are) = told-rows placeOf (locOf s) (PlaceSays s) place-behind (lit< tt) chain in
+      record { says = says; are = are }
 
   -- a list of pairs
   record Paired (list : List ℕ) (ps : List (Pair (List ℕ))) : Type 0 where
@@ -63,16 +54,11 @@ module _ (s : List ℕ) (by : Bytes s) where
 
   paired-rows : {at : ℕ} {rows : List (List ℕ)} {ps : List (Pair (List ℕ))} → Pairs s by at rows ps → Paired (joined rows) ps
   unfolding pairsOf rowPair rowAt
-  paired-rows {rows = rows} chain =
-      let (whole, many) = whole-rows pairRow (length rows) (length (joined rows)) (lit< tt) (joined-length chain) in
+  paired-rows chain =
+      let (says, are) = told-rows rowOf (pairOf s) (InOrder s) row-behind (lit< tt) chain in
       record {
-        says = record {
-          whole = whole;
-          each = λ i h.
-              let r = told-each rowOf (pairOf s) (InOrder s) row-behind chain i (rw many at h) in
-              record { kept = r .kept; objective = r .objective; locator = r .locator };
-        };
-        are = rw many (told-all rowOf (pairOf s) (InOrder s) row-behind chain);
+        says = record { whole = says .whole; each = λ i h. let r = says .each i h in record { kept = r .kept; objective = r .objective; locator = r .locator } };
+        are = are;
       }
 
   -- ---- a list that is lent

@@ -3,8 +3,8 @@
 use mathlib.Core.Path.{_≡_, refl, sym, ap, ap₂, _∙_, subst}
 use mathlib.Core.List.{List, [], _∷_, _++_}
 use mathlib.Core.Bool.{Bool, true, false}
-use Prim.Native.Nat.{ℕ, zero, suc, _+_, _*_, _≤_, _<_}
-use native.Mathlib.Nat.{add-zero, add-suc, suc-add, mul-zero, mul-suc}
+use Prim.Native.Nat.{ℕ, zero, suc, _+_, _*_, _/_, _%_, _≤_, _<_}
+use native.Mathlib.Nat.{add-zero, add-suc, suc-add, mul-zero, mul-suc, mul-mod-right, mul-div-cancel-left}
 use native.Mathlib.Numerals.{add-one}
 use native.Mathlib.Omega.{arith}
 use lib.ListN.{length, take, drop, set, length-append}
@@ -12,6 +12,7 @@ use lib.Seq.{sets, sets-eq, take-at}
 use Rattle.base.specs.Pick.{pick}
 use Rattle.describe.specs.Rows.{rowsFrom}
 use Rattle.description.specs.Describe.{upTo}
+use Rattle.roundtrip.specs.Says.{Rows}
 
 -- ---- stores
 -- lists one after the other
@@ -97,10 +98,14 @@ module _ {X : Type 0} {size : ℕ} {next : ℕ → ℕ} {row : ℕ → ℕ → L
       (sym e) (lent-by chain list t)
 
 -- ---- what the rows tell
+-- so many numbers, in rows of n
+whole-rows : (n k len : ℕ) → 0 < n → len ≡ n * k → (len % n ≡ 0) × (len / n ≡ k)
+whole-rows n k len h e = (rw e (mul-mod-right n k), rw e (mul-div-cancel-left k h))
+
 module _ {A X : Type 0} {size : ℕ} {next : ℕ → ℕ} {row : ℕ → ℕ → List ℕ → List ℕ} (view : List ℕ → ℕ → A) (f : A → X) (Holds : A → Type 0)
     (shift : (ns rest : List ℕ) (i : ℕ) → length ns ≡ size → view (ns ++ rest) (suc i) ≡ view rest i) where
   -- each is in order
-  pub told-each : {at : ℕ} {rows : List (List ℕ)} {xs : List X} → Chain size next row (Tells view f Holds) at rows xs → (i : ℕ) → i < length rows → Holds (view (joined rows) i)
+  told-each : {at : ℕ} {rows : List (List ℕ)} {xs : List X} → Chain size next row (Tells view f Holds) at rows xs → (i : ℕ) → i < length rows → Holds (view (joined rows) i)
   unfolding joined
   told-each Chain.end i h = absurd (omega arith)
   told-each (Chain.step {rows = rows} len stored told more) zero h = told (joined rows) .1
@@ -108,7 +113,7 @@ module _ {A X : Type 0} {size : ℕ} {next : ℕ → ℕ} {row : ℕ → ℕ →
       subst Holds (sym (shift ns (joined rows) i len)) (told-each more i (omega arith))
 
   -- and they are all of xs
-  pub told-all : {at : ℕ} {rows : List (List ℕ)} {xs : List X} → Chain size next row (Tells view f Holds) at rows xs
+  told-all : {at : ℕ} {rows : List (List ℕ)} {xs : List X} → Chain size next row (Tells view f Holds) at rows xs
       → upTo (λ i. f (view (joined rows) i)) (length rows) ≡ xs
   unfolding joined upTo
   told-all Chain.end = refl
@@ -116,3 +121,10 @@ module _ {A X : Type 0} {size : ℕ} {next : ℕ → ℕ} {row : ℕ → ℕ →
       up-first (λ i. f (view (ns ++ joined rows) i)) (length rows)
       ∙ ap₂ (λ x l. x ∷ l) (told (joined rows) .0)
       (up-same (λ i. f (view (ns ++ joined rows) (suc i))) (λ i. f (view (joined rows) i)) (length rows) (λ i. ap f (shift ns (joined rows) i len)) ∙ told-all more)
+
+  -- so they are whole rows, in order, of xs
+  pub told-rows : {at : ℕ} {rows : List (List ℕ)} {xs : List X} → 0 < size → Chain size next row (Tells view f Holds) at rows xs
+      → Rows (joined rows) size (λ i. Holds (view (joined rows) i)) × (upTo (λ i. f (view (joined rows) i)) (length (joined rows) / size) ≡ xs)
+  told-rows {rows = rows} some chain =
+      let (whole, many) = whole-rows size (length rows) (length (joined rows)) some (joined-length chain) in
+      (record { whole = whole; each = λ i h. told-each chain i (rw many at h) }, rw many (told-all chain))

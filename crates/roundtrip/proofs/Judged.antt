@@ -34,7 +34,7 @@ use Rattle.description.specs.declared.Ending.the-variants as E
 use Rattle.description.specs.declared.Description.{Description}
 use Rattle.description.specs.declared.Description.the-variants as D
 use Rattle.description.specs.Describe.{placeRow, pairRow, entryRow, upTo, entryOf, objOf, placeAt, entryAt, rowPair, pairsOf, extraOf, msgOf}
-use Rattle.description.specs.Judge.{okDiscovery, okResponse, okFlood, okParts, hasList, okList, okDescribed, alone, whole, inside, okValue, okItem, okEntry, okPlace, blank, okNoneOr, allFrom, okRow, okRows, okPair, okPairs, okExtra, okEnding}
+use Rattle.description.specs.Judge.{okDiscovery, okResponse, okFlood, okParts, hasList, okList, okDescribed, alone, whole, inside, okValue, okItem, okEntry, okPlace, blank, okNoneOr, allFrom, okEach, okRow, okRows, okPair, okPairs, okExtra, okEnding}
 use Rattle.roundtrip.specs.Says.{Inside, EntrySays, PlaceSays, Blank, PairSays, Rows, ExtraSays, EndingSays, PartsSay}
 use Rattle.roundtrip.proofs.Script.{Each, Valued}
 use Rattle.roundtrip.proofs.Once.{ValuedObj, ValuedPair, ValuedMsg}
@@ -153,6 +153,14 @@ all-exactly p P f (suc n) i =
     split h zero l = rw add-zero (h .0)
     split h (suc j) l = rw step (h .1 j (omega arith))
 
+-- whole rows
+each-exactly : (size : ℕ) (ok : ℕ → Bool) (P : ℕ → Type 0) → ((i : ℕ) → ok i ≡ true ↔ P i) → (list : List ℕ) → okEach size ok list ≡ true ↔ Rows list size P
+unfolding okEach
+each-exactly size ok P f list =
+    retold (and-exactly (equal-exactly (length list % size) 0) (all-exactly ok P f (length list / size) 0))
+    (λ h. record { whole = h .0; each = λ i l. rw zero-add at (h .1 i l) })
+    (λ h. (h .whole, λ i l. rw zero-add (h .each i l)))
+
 -- what holds of each of a list of rows
 pub up-to-exactly : {A : Type 0} (P : A → Type 0) (f : ℕ → A) (n : ℕ) → Every P (upTo f n) ↔ ((i : ℕ) → i < n → P (f i))
 unfolding upTo
@@ -219,11 +227,7 @@ module _ (source : List ℕ) (b : Bytes source) where
   rows-exactly : (list : List ℕ) → okRows source list ≡ true ↔ Rows list placeRow (λ k. PlaceSays source (placeAt list (placeRow * k)))
   unfolding okRows okRow
   rows-exactly list =
-      retold
-      (and-exactly (equal-exactly (length list % placeRow) 0)
-      (all-exactly (okRow source list) (λ k. PlaceSays source (placeAt list (placeRow * k))) (λ k. place-exactly (placeAt list (placeRow * k))) (length list / placeRow) 0))
-      (λ h. record { whole = h .0; each = λ i l. rw zero-add at (h .1 i l) })
-      (λ h. (h .whole, λ i l. rw zero-add (h .each i l)))
+      each-exactly placeRow (okRow source list) (λ k. PlaceSays source (placeAt list (placeRow * k))) (λ k. place-exactly (placeAt list (placeRow * k))) list
 
   -- a pair's row, with its value
   pair-exactly : (list : List ℕ) (i : ℕ) → okPair source list i ≡ true ↔ (PairSays source list i × ValuedPair (rowPair source list i))
@@ -239,14 +243,9 @@ module _ (source : List ℕ) (b : Bytes source) where
   pairs-exactly : (list : List ℕ) → okPairs source list ≡ true ↔ (Rows list pairRow (PairSays source list) × Every ValuedPair (pairsOf source list))
   unfolding okPairs pairsOf
   pairs-exactly list =
-      retold
-      (and-exactly (equal-exactly (length list % pairRow) 0)
-      (all-exactly (okPair source list) (λ i. PairSays source list i × ValuedPair (rowPair source list i)) (pair-exactly list) (length list / pairRow) 0))
-      (λ h. (
-        record { whole = h .0; each = λ i l. rw zero-add at (h .1 i l .0) },
-        up-to-exactly ValuedPair (rowPair source list) (length list / pairRow) .1 (λ i l. rw zero-add at (h .1 i l .1)),
-      ))
-      (λ h. (h .0 .whole, λ i l. rw zero-add (h .0 .each i l, up-to-exactly ValuedPair (rowPair source list) (length list / pairRow) .0 (h .1) i l)))
+      retold (each-exactly pairRow (okPair source list) (λ i. PairSays source list i × ValuedPair (rowPair source list i)) (pair-exactly list) list)
+      (λ h. (record { whole = h .whole; each = λ i l. h .each i l .0 }, up-to-exactly ValuedPair (rowPair source list) (length list / pairRow) .1 (λ i l. h .each i l .1)))
+      (λ h. record { whole = h .0 .whole; each = λ i l. (h .0 .each i l, up-to-exactly ValuedPair (rowPair source list) (length list / pairRow) .0 (h .1) i l) })
 
   -- an objective that may be left out
   extra-exactly : (o : Extra) → okExtra source o ≡ true ↔ (ExtraSays source o × Each ValuedObj (extraOf source o))

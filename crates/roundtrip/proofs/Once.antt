@@ -14,6 +14,7 @@ use Rattle.cbor.specs.Tree.{headBytes}
 use Rattle.message.specs.Read.{mostBytes}
 use Rattle.syntax.specs.Message.{Loc, Obj, Pair, Aim, Ending, Msg}
 use Rattle.description.specs.Encoding.{string, numberOrNull, reached, fixed, encodeLoc, oneMore, encodeObj, maybeObj, howMany, locOrEmpty, encodePair, targetItems, encodeTargets, encodeEnding, opening, exchange, encodeMsg}
+use Rattle.description.proofs.Items.{more-le, many-le}
 use Rattle.roundtrip.proofs.Script.{Small, Piece, spell, spells, Like, Valued, array-next, number-next, string-next, text-number, number-text, perhaps, Each, perhaps-next, value-next}
 
 -- a head first
@@ -71,12 +72,6 @@ objective-spelt : (o : Obj (List ℕ)) (ts : List Piece) → spells (objective o
 unfolding spells spell encodeObj
 objective-spelt o ts = simp append-assoc
 
--- a value is one item at most
-one-at-most : (v : List ℕ) → oneMore v ≤ 1
-unfolding oneMore
-one-at-most [] = omega arith
-one-at-most (x ∷ v) = omega arith
-
 -- objectives by their parts
 objective-ext : (o o′ : Obj (List ℕ)) → o .name ≡ o′ .name → o .flags ≡ o′ .flags → o .count ≡ o′ .count → o .value ≡ o′ .value → o ≡ o′
 objective-ext o o′ a b c d = same a b c d
@@ -90,7 +85,7 @@ objective-ext o o′ a b c d = same a b c d
 -- an objective passed
 objective-next : {o o′ : Obj (List ℕ)} {ts ts′ : List Piece} → SmallObj o → ValuedObj o → ValuedObj o′ → Like (objective o ts) (objective o′ ts′) → (o ≡ o′) × Like ts ts′
 objective-next {o} {o′} (hf, hc) v v′ l =
-    let (many, l₁) = array-next (omega (arith, one-at-most (o .value))) l in
+    let (many, l₁) = array-next (omega (arith, more-le (o .value))) l in
     let (name, l₂) = string-next (lit< tt) l₁ in
     let (flags, l₃) = number-next hf l₂ in
     let (count, l₄) = number-next hc l₃ in
@@ -325,7 +320,7 @@ aimed-once : (ls ls′ : List Loc) (o o′ : Option (Obj (List ℕ))) → length
 unfolding all howMany
 aimed-once [] [] o o′ e h ho v v′ l = (refl, extra-once o o′ (omega arith) ho v v′ l)
 aimed-once [] (x′ ∷ ls′) none o′ e h ho v v′ l = absurd (omega arith)
-aimed-once [] (x′ ∷ ls′) (some o) o′ e h ho v v′ l = absurd (text-number (array-next (omega (arith, one-at-most (o .value))) l .1))
+aimed-once [] (x′ ∷ ls′) (some o) o′ e h ho v v′ l = absurd (text-number (array-next (omega (arith, more-le (o .value))) l .1))
 aimed-once (x ∷ ls) [] o none e h ho v v′ l = absurd (omega arith)
 aimed-once (x ∷ ls) [] o (some o′) e h ho v v′ l = absurd (number-text (array-next (lit< tt) l .1))
 aimed-once (x ∷ ls) (x′ ∷ ls′) o o′ e (h, hs) ho v v′ l =
@@ -341,7 +336,7 @@ led-apart l = (λ e. omega (arith, kind-range l), λ e. omega (arith, kind-range
 mixed : (ls ls′ : List Loc) (o o′ : Option (Obj (List ℕ))) → length ls + howMany o ≡ 1 + howMany o′ → Like (targets (Aim.locators ls) (extra o)) (targets (Aim.divert ls′) (extra o′)) → ⊥
 unfolding targets all howMany
 mixed [] ls′ none o′ e l = omega arith
-mixed [] ls′ (some o) o′ e l = text-number (array-next (omega (arith, one-at-most (o .value))) l .1)
+mixed [] ls′ (some o) o′ e l = text-number (array-next (omega (arith, more-le (o .value))) l .1)
 mixed (x ∷ ls) ls′ o o′ e l = led-apart x .0 (number-next (omega (arith, kind-range x)) (array-next (lit< tt) l .1) .0)
 
 -- so many locators as have bytes
@@ -544,18 +539,12 @@ unfolding targetItems encodeTargets head headBytes
 targets-few (Aim.locators ls) = locators-few ls
 targets-few (Aim.divert ls) = omega arith
 
--- what may be left out is one at most
-one-or-none : {A : Type 0} (m : Option A) → howMany m ≤ 1
-unfolding howMany
-one-or-none none = omega arith
-one-or-none (some x) = omega arith
-
 -- so the items of a message are few
 items-small : (m : Msg (List ℕ)) → length (encodeMsg m) ≤ mostBytes → Small (itemsOf m)
 unfolding itemsOf encodeMsg
 items-small Msg.noop h = omega arith
 items-small (Msg.discovery s i o) h = omega arith
-items-small (Msg.response s i t x o) h = omega (arith, simp length-append at h, targets-few x, one-or-none o)
+items-small (Msg.response s i t x o) h = omega (arith, simp length-append at h, targets-few x, many-le o)
 items-small (Msg.request-negotiation s o) h = omega arith
 items-small (Msg.request-synchronization s o) h = omega arith
 items-small (Msg.negotiate s o) h = omega arith
@@ -563,7 +552,7 @@ items-small (Msg.end s e) h = omega arith
 items-small (Msg.wait s t) h = omega arith
 items-small (Msg.synch s o) h = omega arith
 items-small (Msg.flood s i t ps) h = omega (arith, simp length-append at h, pairs-few ps)
-items-small (Msg.invalid s v) h = omega (arith, one-at-most v)
+items-small (Msg.invalid s v) h = omega (arith, more-le v)
 
 -- a session and an objective are the same
 exchange-once : {s s′ : ℕ} {o o′ : Obj (List ℕ)} → Small s → SmallObj o → ValuedObj o → ValuedObj o′ → Like (exchanged s o) (exchanged s′ o′) → (s ≡ s′) × (o ≡ o′)

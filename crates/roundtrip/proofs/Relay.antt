@@ -3,7 +3,7 @@
 -- Assumes nothing.
 use mathlib.Core.Path.{_≡_, refl, sym, ap, _∙_, subst}
 use mathlib.Core.Logic.{_⊎_, inl, inr}
-use mathlib.Core.List.{List, [], _∷_, _++_, append-assoc}
+use mathlib.Core.List.{List, [], _∷_, _++_, flatMap, append-assoc}
 use Prim.Native.Nat.{ℕ, _+_, _-_, _^_, _≤_, _<_}
 use native.Mathlib.Omega.{arith}
 use lib.Dec.{lit<}
@@ -21,7 +21,7 @@ use Rattle.options.specs.declared.Span.{Span}
 use Rattle.options.specs.declared.objective.Objective.{Objective}
 use Rattle.syntax.specs.Message.{Msg}
 use Rattle.grammar.specs.Cddl.{Value}
-use Rattle.grammar.specs.Limits.{TextsGood, NamesGood, textsOf, namesOf, pairsTexts, pairTexts, pairsNames}
+use Rattle.grammar.specs.Limits.{TextsGood, NamesGood, textsOf, namesOf, pairTexts}
 use Rattle.grammar.proofs.Bridge.{text-token}
 use Rattle.message.specs.declared.Extra.{Extra}
 use Rattle.message.specs.declared.Message.{Message}
@@ -44,7 +44,7 @@ use Rattle.roundtrip.proofs.Counts.{Hole, hole}
 -- ---- texts and names
 -- a lowered message has the same texts
 texts-stay : (msg : Msg Value) → textsOf (lowerMsg msg) ≡ textsOf msg
-unfolding textsOf lowerMsg lowerObj withCount pairsTexts pairTexts
+unfolding textsOf lowerMsg lowerObj withCount flatMap pairTexts
 texts-stay Msg.noop = refl
 texts-stay (Msg.discovery s i o) = refl
 texts-stay (Msg.response s i t aim o) = refl
@@ -60,7 +60,7 @@ texts-stay (Msg.invalid s item) = refl
 
 -- and the same names
 names-stay : (msg : Msg Value) → namesOf (lowerMsg msg) ≡ namesOf msg
-unfolding namesOf lowerMsg lowerObj withCount pairsNames
+unfolding namesOf lowerMsg lowerObj withCount
 names-stay Msg.noop = refl
 names-stay (Msg.discovery s i o) = refl
 names-stay (Msg.response s i t aim o) = refl

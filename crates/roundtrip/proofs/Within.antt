@@ -8,7 +8,7 @@ use lib.Dec.{lit<}
 use Rattle.base.specs.Lists.{Every}
 use Rattle.cbor.specs.Item.{mostLevels}
 use Rattle.cbor.specs.Tree.{Item, Items, depth, depths, Good, Goods}
-use Rattle.syntax.specs.Message.{Loc, Obj, Pair, Aim, Msg, valuedObj, valuedPair, valued as revalued}
+use Rattle.syntax.specs.Message.{Loc, Obj, Pair, Aim, Msg, valuedObj, valuedPair, valued}
 use Rattle.grammar.specs.Cddl.{joined, Protocol, Port, OrNull, LocatorItem, ObjectiveItem, LocatorItems, Value, PairItem, PairItems, Number, OptionalItems, AimItems, MessageItem}
 use Rattle.roundtrip.specs.Plain.{valueBytes, plain}
 use Rattle.roundtrip.proofs.Script.{Small, Each, Valued}
@@ -74,7 +74,7 @@ aim-small (AimItems.divert is o) = (locators-small is, optional-small o)
 
 -- Every message's numbers are small.
 pub plain-small : {x : Item} {msg : Msg Value} → MessageItem x msg → SmallMsg (plain msg)
-unfolding plain revalued
+unfolding plain valued
 plain-small MessageItem.noop = tt
 plain-small (MessageItem.discovery i j o) = (number-small i, objective-small o)
 plain-small (MessageItem.response i j t a) = let (x, o) = aim-small a in (number-small i, number-small t, x, o)
@@ -154,21 +154,21 @@ aim-valued f (AimItems.locators {xs = xs} {ys = ys} is o) = optional-valued (joi
 aim-valued f (AimItems.divert is o) = optional-valued (fine-rest f) o
 
 -- a message's
-valued : {x : Item} {msg : Msg Value} → Fine x → MessageItem x msg → ValuedMsg (plain msg)
-unfolding plain revalued valueBytes
-valued f MessageItem.noop = tt
-valued f (MessageItem.discovery i j o) = objective-valued (fine-first (fine-after f)) o
-valued f (MessageItem.response i j t a) = aim-valued (fine-rest (fine-after f)) a
-valued f (MessageItem.request-negotiation i o) = objective-valued (fine-third f) o
-valued f (MessageItem.request-synchronization i o) = objective-valued (fine-third f) o
-valued f (MessageItem.negotiate i o) = objective-valued (fine-third f) o
-valued f (MessageItem.end i e) = tt
-valued f (MessageItem.wait i t) = tt
-valued f (MessageItem.synch i o) = objective-valued (fine-third f) o
-valued f (MessageItem.flood i j t p) = pairs-valued (fine-rest (fine-after f)) p
-valued f (MessageItem.invalid i) = Valued.none
-valued f (MessageItem.invalid-with {x = x} i) = let v = fine-third f in Valued.one x (v .good) (v .shallow)
+message-valued : {x : Item} {msg : Msg Value} → Fine x → MessageItem x msg → ValuedMsg (plain msg)
+unfolding plain valued valueBytes
+message-valued f MessageItem.noop = tt
+message-valued f (MessageItem.discovery i j o) = objective-valued (fine-first (fine-after f)) o
+message-valued f (MessageItem.response i j t a) = aim-valued (fine-rest (fine-after f)) a
+message-valued f (MessageItem.request-negotiation i o) = objective-valued (fine-third f) o
+message-valued f (MessageItem.request-synchronization i o) = objective-valued (fine-third f) o
+message-valued f (MessageItem.negotiate i o) = objective-valued (fine-third f) o
+message-valued f (MessageItem.end i e) = tt
+message-valued f (MessageItem.wait i t) = tt
+message-valued f (MessageItem.synch i o) = objective-valued (fine-third f) o
+message-valued f (MessageItem.flood i j t p) = pairs-valued (fine-rest (fine-after f)) p
+message-valued f (MessageItem.invalid i) = Valued.none
+message-valued f (MessageItem.invalid-with {x = x} i) = let v = fine-third f in Valued.one x (v .good) (v .shallow)
 
 -- Every message's values are items.
 pub plain-valued : {x : Item} {msg : Msg Value} → Good x → depth x ≤ mostLevels → MessageItem x msg → ValuedMsg (plain msg)
-plain-valued g d i = valued (record { good = g; shallow = d }) i
+plain-valued g d i = message-valued (record { good = g; shallow = d }) i

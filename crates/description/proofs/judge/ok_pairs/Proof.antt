@@ -7,7 +7,7 @@ use lib.ListN.{length}
 use borrow.Author.Tests.{not-true, not-false}
 use Rattle.description.specs.Describe.{pairRow}
 use Rattle.description.specs.Judge.{allFrom, okPair, okPairs}
-use Rattle.description.proofs.Verdicts.{all-step, all-stop, all-end, pairs-start, pairs-bad}
+use Rattle.description.proofs.Verdicts.{all-step, all-stop, all-end, each-start, each-bad}
 use Rattle.description.proofs.judge.ok_pairs.Statement.{statement}
 use Rattle.description.proofs.judge.ok_pairs.Tie as tie
 use Rattle.description.proofs.judge.ok_pairs.Reads as reads
@@ -22,11 +22,13 @@ abbrev μ-loop : tie.MeasureT-loop
 
 -- src/judge.rt:155:9
 returns : tie.Need-returns Inv-loop μ-loop
-returns c = pairs-bad _ _ (c .if1 .taken)
+unfolding okPairs
+returns c = each-bad _ _ _ (c .if1 .taken)
 
 -- src/judge.rt:159:5
 loop-holds : tie.Need-loop-holds Inv-loop μ-loop
-loop-holds c = (omega arith, pairs-start _ _ (c .if1 .left))
+unfolding okPairs
+loop-holds c = (omega arith, each-start _ _ _ (c .if1 .left))
 
 -- src/judge.rt:160:13
 ok-pair-requires : tie.Need-ok-pair-requires Inv-loop μ-loop

@@ -7,7 +7,7 @@ use lib.ListN.{length}
 use borrow.Author.Tests.{not-true, not-false}
 use Rattle.description.specs.Describe.{placeRow}
 use Rattle.description.specs.Judge.{allFrom, okRow, okRows}
-use Rattle.description.proofs.Verdicts.{all-step, all-stop, all-end, rows-start, rows-bad}
+use Rattle.description.proofs.Verdicts.{all-step, all-stop, all-end, each-start, each-bad}
 use Rattle.description.proofs.judge.ok_rows.Statement.{statement}
 use Rattle.description.proofs.judge.ok_rows.Tie as tie
 use Rattle.description.proofs.judge.ok_rows.Reads as reads
@@ -22,11 +22,13 @@ abbrev μ-loop : tie.MeasureT-loop
 
 -- src/judge.rt:130:9
 returns : tie.Need-returns Inv-loop μ-loop
-returns c = rows-bad _ _ (c .if1 .taken)
+unfolding okRows
+returns c = each-bad _ _ _ (c .if1 .taken)
 
 -- src/judge.rt:134:5
 loop-holds : tie.Need-loop-holds Inv-loop μ-loop
-loop-holds c = (omega arith, rows-start _ _ (c .if1 .left))
+unfolding okRows
+loop-holds c = (omega arith, each-start _ _ _ (c .if1 .left))
 
 -- src/judge.rt:135:13
 ok-row-requires : tie.Need-ok-row-requires Inv-loop μ-loop

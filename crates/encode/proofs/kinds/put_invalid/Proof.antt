@@ -3,7 +3,7 @@
 use Rattle.options.specs.Text.{held}
 use Rattle.description.specs.Encoding.{encodeMsg}
 use Rattle.encode.proofs.Puts.{then}
-use Rattle.encode.proofs.Spans.{more-le}
+use Rattle.description.proofs.Items.{more-le}
 use native.Mathlib.Omega.{arith}
 use borrow.Author.Needs.{needs}
 use Rattle.encode.proofs.kinds.put_invalid.Statement.{statement}

@@ -5,7 +5,7 @@ use Rattle.description.specs.Encoding.{encodeObj}
 use Rattle.description.specs.Describe.{objOf}
 use Rattle.encode.proofs.Puts.{then}
 use native.Mathlib.Omega.{arith}
-use Rattle.encode.proofs.Spans.{more-le}
+use Rattle.description.proofs.Items.{more-le}
 use borrow.Author.Needs.{needs}
 use Rattle.encode.proofs.objective.put_entry.Statement.{statement}
 use Rattle.encode.proofs.objective.put_entry.Tie as tie
