@@ -59,6 +59,18 @@ module _ (s : List ℕ) (at : ℕ) where
   pub one-byte : at < length s → getD s at 0 % 32 < 24 → headAt (drop at s) ≡ HeadRead.Head (getD s at 0 / 32) (getD s at 0 % 32) 1
   one-byte h low = in-place h ∙ short (getD s at 0) (drop (suc at) s) low
 
+  pub small-head : at < length s → getD s at 0 < 24 → headAt (drop at s) ≡ HeadRead.Head 0 (getD s at 0) 1
+  small-head h low =
+      let major : getD s at 0 / 32 ≡ 0 = omega arith in
+      let arg : getD s at 0 % 32 ≡ getD s at 0 = omega arith in
+      rw (major, arg) at (one-byte h (omega arith))
+
+  pub array-head : at < length s → 128 ≤ getD s at 0 → getD s at 0 < 152 → headAt (drop at s) ≡ HeadRead.Head 4 (getD s at 0 - 128) 1
+  array-head h lo hi =
+      let major : getD s at 0 / 32 ≡ 4 = omega arith in
+      let arg : getD s at 0 % 32 ≡ getD s at 0 - 128 = omega arith in
+      rw (major, arg) at (one-byte h (omega arith))
+
   pub two-bytes : at + 1 < length s → getD s at 0 ≡ 24 → 24 ≤ getD s (at + 1) 0 → headAt (drop at s) ≡ HeadRead.Head 0 (getD s (at + 1) 0) 2
   two-bytes h is least =
       let d = length-drop (suc at) s in
@@ -79,9 +91,7 @@ module _ (s : List ℕ) (at : ℕ) where
     number arg len e = rw e
 
     pub small-passed : at < length s → getD s at 0 < 24 → stepAt left (drop at s) ≡ Step.Passed 1
-    small-passed h low =
-        let zero-is : getD s at 0 / 32 ≡ 0 = omega arith in
-        number _ 1 (rw zero-is at (one-byte h (omega arith)))
+    small-passed h low = number _ 1 (small-head h low)
 
     pub byte-passed : at + 1 < length s → getD s at 0 ≡ 24 → 24 ≤ getD s (at + 1) 0 → stepAt left (drop at s) ≡ Step.Passed 2
     byte-passed h is least = number _ 2 (two-bytes h is least)
@@ -99,7 +109,4 @@ module _ (s : List ℕ) (at : ℕ) where
 
     pub array-opened : at < length s → 128 ≤ getD s at 0 → getD s at 0 < 152 → (left ≡ 0 → ⊥) → stepAt left (drop at s) ≡ Step.Opened 1 (getD s at 0 - 128) false
     unfolding stepAt stepFrom stepOf opens pick
-    array-opened h lo hi may =
-        let major : getD s at 0 / 32 ≡ 4 = omega arith in
-        let arg : getD s at 0 % 32 ≡ getD s at 0 - 128 = omega arith in
-        rw (one-byte h (omega arith), major, arg, ne-eqb left 0 may)
+    array-opened h lo hi may = rw (array-head h lo hi, ne-eqb left 0 may)

@@ -73,6 +73,12 @@ token-found s at t x y e q f =
     ∙ ap (tokenFrom at (length s - at)) (sym q ∙ e ∙ ap headAt (rest-is at s))
     ∙ ap (λ (n : ℕ). tokenFrom at n (headAt (drop at s))) (sym (length-drop at s)))
 
+-- a token whose head is told otherwise
+pub token-told : (s : List ℕ) (at : ℕ) (t : Token) (major arg len n : ℕ) → headAt (drop at s) ≡ HeadRead.Head major arg len → n ≡ arg
+    → t ≡ tokenOf at (length s - at) major n len → TokenIs s at t
+unfolding tokenAt tokenFrom
+token-told s at t major arg len n e same f = token-is s at t (rw (e, length-drop at s, ← same) f)
+
 pub head-fits : (s : List ℕ) (at major arg len : ℕ) (y : HeadRead) → y ≡ headAt (take (length s - at) (drop at s)) → y ≡ HeadRead.Head major arg len → len ≤ length s - at
 head-fits s at major arg len y e q =
     rw (length-drop at s) at (subst (HeadOk (length (drop at s))) (ap headAt (sym (rest-is at s)) ∙ sym e ∙ q) (head-ok (drop at s)) .1)
