@@ -1,3 +1,5 @@
+-- `cbor::item::common_at` meets its contract.
+-- Assumes nothing.
 use native.Mathlib.Omega.{arith}
 use Rattle.cbor.specs.Item.{CommonIs}
 use Rattle.cbor.proofs.Common.{small-passed, string-passed, array-opened}
