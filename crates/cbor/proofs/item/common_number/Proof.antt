@@ -1,6 +1,5 @@
 -- `cbor::item::common_number` meets its contract.
 -- Assumes nothing.
-use Prim.Native.Nat.{_+_}
 use native.Mathlib.Omega.{arith}
 use Rattle.cbor.specs.Item.{CommonIs}
 use Rattle.cbor.proofs.Common.{byte-passed, two-passed}
