@@ -11,6 +11,7 @@ pub mod Refuses
 pub mod Tokens
 -- For the proofs of this crate.
 mod Bounds
+mod Common
 mod Runs
 mod Turn
 mod Steps

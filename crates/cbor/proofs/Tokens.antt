@@ -1,23 +1,28 @@
 -- The bounds of a token and of an item's size, and how the code's answers meet the definitions.
 -- Assumes nothing.
 use mathlib.Core.Path.{_≡_, refl, sym, ap, _∙_, subst}
-use mathlib.Core.List.{List, []}
+use mathlib.Core.List.{List, [], _∷_}
 use mathlib.Core.Bool.{Bool, true, false}
 use Prim.Native.Nat.{ℕ, _+_, _-_, _≤_, _<_, zero-le}
-use native.Mathlib.Nat.{le-refl}
+use native.Mathlib.Nat.{le-refl, zero-add}
 use native.Mathlib.Omega.{arith}
 use lib.ListN.{length, take, drop, length-drop}
-use lib.Dec.{leb}
+use lib.Seq.{drop-drop}
+use lib.Dec.{ltb, leb}
 use borrow.Author.Tests.{leb-true, leb-false}
+use Rattle.base.specs.Pick.{pick}
 use Rattle.base.proofs.Picks.{pick-case, both}
 use Rattle.base.proofs.Parts.{rest-is, drop-past}
 use Rattle.cbor.specs.declared.head.HeadRead.{HeadRead}
+use Rattle.cbor.specs.declared.item.Common.{Common}
 use Rattle.cbor.specs.declared.item.ItemRead.{ItemRead}
+use Rattle.cbor.specs.declared.item.Step.{Step}
 use Rattle.cbor.specs.declared.token.Token.{Token}
 use Rattle.cbor.specs.Head.{headAt}
-use Rattle.cbor.specs.Item.{firstItem, run, enough, next, stepAt, stepFrom}
+use Rattle.cbor.specs.Item.{CommonIs, firstItem, run, enough, next, stepAt, stepFrom}
 use Rattle.cbor.specs.Token.{nothingAt, tokenOf, tokenFrom, tokenAt, TokenIs, sizeFrom, sizeAt, SizeIs}
 use Rattle.cbor.proofs.Bounds.{HeadOk, head-ok}
+use Rattle.cbor.proofs.Runs.{runs, runs-end, runs-close, runs-step}
 use Rattle.cbor.proofs.Within.{item-within}
 
 abbrev Bounds : ℕ → ℕ → Token → Type 0
@@ -73,12 +78,49 @@ token-found s at t x y e q f =
     ∙ ap (tokenFrom at (length s - at)) (sym q ∙ e ∙ ap headAt (rest-is at s))
     ∙ ap (λ (n : ℕ). tokenFrom at n (headAt (drop at s))) (sym (length-drop at s)))
 
+-- a token whose head is told otherwise
+pub token-told : (s : List ℕ) (at : ℕ) (t : Token) (major arg len n : ℕ) → headAt (drop at s) ≡ HeadRead.Head major arg len → n ≡ arg
+    → t ≡ tokenOf at (length s - at) major n len → TokenIs s at t
+unfolding tokenAt tokenFrom
+token-told s at t major arg len n e same f = token-is s at t (rw (e, length-drop at s, ← same) f)
+
 pub head-fits : (s : List ℕ) (at major arg len : ℕ) (y : HeadRead) → y ≡ headAt (take (length s - at) (drop at s)) → y ≡ HeadRead.Head major arg len → len ≤ length s - at
 head-fits s at major arg len y e q =
     rw (length-drop at s) at (subst (HeadOk (length (drop at s))) (ap headAt (sym (rest-is at s)) ∙ sym e ∙ q) (head-ok (drop at s)) .1)
 
 pub token-end : (s : List ℕ) (at : ℕ) → tokenAt s at .next ≤ length s
 token-end s at = token-is s at (tokenAt s at) refl .end
+
+-- ---- a token seen from an earlier place
+-- the same head with its string at two places: one is nothing where the other is, and the next heads lie as far off
+pub record Shifted (by : ℕ) (t u : Token) : Type 0 where
+  pub major : t .major ≡ u .major
+  pub arg : t .arg ≡ u .arg
+  pub next : (u .major ≡ 8 → ⊥) → t .next ≡ by + u .next
+
+shifted-from : (by at room : ℕ) (x : HeadRead) → Shifted by (tokenFrom (by + at) room x) (tokenFrom at room x)
+unfolding tokenFrom tokenOf nothingAt pick
+shifted-from by at room (HeadRead.Refused number place) = record { major = refl; arg = refl; next = λ ne. absurd (ne refl) }
+shifted-from by at room (HeadRead.Head major arg len) = go (ltb 1 major) (ltb major 4) (leb arg (room - len))
+  where
+    leaf : ℕ → Token
+    leaf p = record { at = p; major = major; arg = arg; body = p + len; next = p + len }
+
+    string : ℕ → Token
+    string p = record { at = p; major = major; arg = arg; body = p + len; next = p + len + arg }
+
+    shown : ℕ → Bool → Bool → Bool → Token
+    shown p a b c = pick a (pick b (pick c (string p) (nothingAt p)) (leaf p)) (leaf p)
+
+    go : (a b c : Bool) → Shifted by (shown (by + at) a b c) (shown at a b c)
+    go true true true = record { major = refl; arg = refl; next = λ _. omega arith }
+    go true true false = record { major = refl; arg = refl; next = λ ne. absurd (ne refl) }
+    go true false c = record { major = refl; arg = refl; next = λ _. omega arith }
+    go false b c = record { major = refl; arg = refl; next = λ _. omega arith }
+
+pub token-shifted : (s : List ℕ) (by at : ℕ) → Shifted by (tokenAt s (by + at)) (tokenAt (drop by s) at)
+unfolding tokenAt
+token-shifted s by at = rw (drop-drop at by s) (shifted-from by at (length (drop (by + at) s)) (headAt (drop (by + at) s)))
 
 -- ---- an item passed over
 size-within : (s : List ℕ) (x : ItemRead) → firstItem 0 s ≡ x → sizeFrom x ≤ length s
@@ -93,6 +135,22 @@ size-le s at = rw (length-drop at s) at (size-within (drop at s) (firstItem 0 (d
 first-of-nothing : firstItem 0 [] ≡ ItemRead.Refused 2 0
 unfolding firstItem run enough next stepAt stepFrom headAt
 first-of-nothing = refl
+
+first-of-leaf : (s : List ℕ) (len : ℕ) → stepAt 8 s ≡ Step.Passed len → firstItem 0 s ≡ ItemRead.Ends len
+unfolding firstItem next
+first-of-leaf s len e =
+    runs-step 8 0 0 s []
+    ∙ ap (next (runs 8) 0 s (0 ∷ [])) e
+    ∙ ap (λ (at : ℕ). runs 8 at (drop len s) (0 ∷ [])) (zero-add len)
+    ∙ runs-close 8 len (drop len s) []
+    ∙ runs-end 8 len (drop len s)
+
+-- an item that is one head with its string
+pub size-leaf : (s : List ℕ) (at len : ℕ) (x : Common) → CommonIs 8 (drop at s) x → x ≡ Common.Passed len → SizeIs s at len
+unfolding sizeAt sizeFrom CommonIs
+size-leaf s at len x c e =
+    let ends : firstItem 0 (drop at s) ≡ ItemRead.Ends len = first-of-leaf (drop at s) len (subst (CommonIs 8 (drop at s)) e c) in
+    record { is = sym (ap sizeFrom ends); within = rw (length-drop at s) at (size-within (drop at s) (ItemRead.Ends len) ends) }
 
 pub size-none : (s : List ℕ) (at : ℕ) → length s < at → SizeIs s at 0
 unfolding sizeAt sizeFrom

@@ -3,10 +3,12 @@
 use Prim.Native.Nat.{ℕ, zero, suc, _+_, _-_, _*_}
 use mathlib.Core.List.{List, [], _∷_}
 use mathlib.Core.Bool.{Bool, true, false}
+use mathlib.Core.Path.{_≡_}
 use lib.ListN.{length, drop}
 use lib.Dec.{leb, eqb}
 use Rattle.base.specs.Pick.{pick}
 use Rattle.cbor.specs.declared.head.HeadRead.{HeadRead}
+use Rattle.cbor.specs.declared.item.Common.{Common}
 use Rattle.cbor.specs.declared.item.Step.{Step}
 use Rattle.cbor.specs.declared.item.ItemRead.{ItemRead}
 use Rattle.cbor.specs.Head.{headAt}
@@ -38,6 +40,12 @@ stepFrom left room (HeadRead.Head major arg len) = stepOf left room major arg le
 -- the head at the start of s
 unfoldable pub stepAt : ℕ → List ℕ → Step
 stepAt left s = stepFrom left (length s) (headAt s)
+
+-- what is said of a common head is what `stepAt` gives
+unfoldable pub CommonIs : ℕ → List ℕ → Common → Type 0
+CommonIs left s (Common.Passed len) = stepAt left s ≡ Step.Passed len
+CommonIs left s (Common.Opened n) = stepAt left s ≡ Step.Opened 1 n false
+CommonIs left s Common.Other = Unit {0}
 
 -- n items, or n pairs of items
 unfoldable pub itemsOf : ℕ → Bool → ℕ

@@ -1,6 +1,6 @@
 // The head of an item (RFC 8949, section 3).
 ghost use mathlib.Core.Path.{_≡_};
-ghost use Prim.Native.Nat.{_≤_};
+ghost use Prim.Native.Nat.{_+_, _*_, _≤_};
 ghost use lib.ListN.{length};
 ghost use Rattle.base.specs.BigEndian.{bigEndian};
 ghost use Rattle.cbor.specs.Head.{widthOf, leastOf, initialOf, judged, headOf, headFrom, headAt};
@@ -97,11 +97,25 @@ fn big_endian(s: &[u8], n: usize) -> u64
     requires { ⌜ (n ≤ 8) × (n ≤ length (now s)) ⌝ }
     ensures { λ r. ⌜ r ≡ bigEndian (now (s .entry)) n ⌝ }
 {
+    // The common widths by themselves, with no loop.
+    if n == 1 {
+        return s[0] as u64;
+    }
+    if n == 2 {
+        return two(s[0], s[1]);
+    }
     let mut value: u64 = 0;
     for i in 0..n {
         value = value * 256 + s[i] as u64;
     }
     value
+}
+
+// The number that two bytes spell.
+pub(crate) fn two(high: u8, low: u8) -> u64
+    ensures { λ r. ⌜ r ≡ high * 256 + low ⌝ }
+{
+    high as u64 * 256 + low as u64
 }
 
 // A whole head: refused where it is a simple value below 32 in two bytes, or longer than its argument needs.

@@ -1,8 +1,9 @@
 // The first whole item of a slice.
 ghost use mathlib.Core.Path.{_≡_};
 ghost use mathlib.Core.Logic.{_⊎_};
-ghost use Prim.Native.Nat.{_^_, _≤_};
-ghost use Rattle.cbor.specs.Item.{stepOf, stepAt, itemsOf, leftUnder, firstItem};
+ghost use Prim.Native.Nat.{ℕ, _+_, _^_, _≤_};
+ghost use lib.ListN.{length, drop};
+ghost use Rattle.cbor.specs.Item.{CommonIs, stepOf, stepAt, itemsOf, leftUnder, firstItem};
 use crate::head;
 use crate::head::HeadRead;
 
@@ -23,41 +24,66 @@ pub enum Step {
     Refused { number: u8, place: usize },
 }
 
+// A head that most messages are made of: passed, `len` bytes with nothing inside; an array of n items opened, a head of one byte;
+// or any other, of which nothing is said.
+pub enum Common {
+    Passed(usize),
+    Opened(u64),
+    Other,
+}
+
 // The first whole item at the start of s, under so many open levels.
 pub fn first(levels: usize, s: &[u8]) -> ItemRead
     ensures { λ r. ⌜ r ≡ firstItem levels (now (s .entry)) ⌝ }
 {
     let most = left_under(levels);
-    // What each open level still lacks, the outermost first; the first count is for the item itself.
-    let mut counts = [0u64; 9];
-    counts[0] = 1;
-    let mut depth: usize = 1;
+    // What each open level but the innermost still lacks, the outermost first; the innermost one's count is a local, which every head changes.
+    let mut outer = [0u64; 8];
+    let mut depth: usize = 0;
+    let mut lacking: u64 = 1;
     let mut at: usize = 0;
-    while 0 < depth {
-        let top = depth - 1;
-        let lacking = counts[top];
+    loop {
         if lacking == 0 {
-            depth = top;
+            if depth == 0 {
+                return ItemRead::Ends(at);
+            }
+            depth = depth - 1;
+            lacking = outer[depth];
         } else {
-            counts[top] = lacking - 1;
-            let step = step_at(most - top, &s[at..]);
-            match step {
-                Step::Refused { number, place } => {
-                    let place = at + place;
-                    return ItemRead::Refused { number, place };
-                }
-                Step::Passed(len) => {
+            let common = common_at(most - depth, s, at);
+            match common {
+                Common::Passed(len) => {
                     at = at + len;
+                    lacking = lacking - 1;
                 }
-                Step::Opened { len, n, pairs } => {
-                    at = at + len;
-                    counts[depth] = items(n, pairs);
+                Common::Opened(n) => {
+                    at = at + 1;
+                    outer[depth] = lacking - 1;
                     depth = depth + 1;
+                    lacking = n;
+                }
+                Common::Other => {
+                    let step = step_at(most - depth, &s[at..]);
+                    match step {
+                        Step::Refused { number, place } => {
+                            let place = at + place;
+                            return ItemRead::Refused { number, place };
+                        }
+                        Step::Passed(len) => {
+                            at = at + len;
+                            lacking = lacking - 1;
+                        }
+                        Step::Opened { len, n, pairs } => {
+                            at = at + len;
+                            outer[depth] = lacking - 1;
+                            depth = depth + 1;
+                            lacking = items(n, pairs);
+                        }
+                    }
                 }
             }
         }
     }
-    ItemRead::Ends(at)
 }
 
 // How many levels may open under so many.
@@ -68,6 +94,62 @@ fn left_under(levels: usize) -> usize
         return 0;
     }
     MOST_LEVELS - levels
+}
+
+// The head at `at`, where so many levels may open, told by its first byte or two, so that most turns of the walk are short.
+pub(crate) fn common_at(left: usize, s: &[u8], at: usize) -> Common
+    ensures { λ r. ⌜ CommonIs left (drop at (now (s .entry))) r ⌝ }
+{
+    if s.len() <= at {
+        return Common::Other;
+    }
+    let first = s[at];
+    if first < 24 {
+        return Common::Passed(1);
+    }
+    let rest = s.len() - at - 1;
+    if first < 128 {
+        if first < 64 {
+            return common_number(s, at, rest);
+        }
+        let info = (first % 32) as usize;
+        if info < 24 {
+            if info <= rest {
+                return Common::Passed(1 + info);
+            }
+        }
+        return Common::Other;
+    }
+    if first < 152 {
+        if left != 0 {
+            return Common::Opened((first - 128) as u64);
+        }
+    }
+    Common::Other
+}
+
+// The head at `at` with `rest` bytes after its first one, where it is an unsigned number in one or two bytes of argument.
+fn common_number(s: &[u8], at: usize, rest: usize) -> Common
+    requires { ⌜ at + 1 + rest ≡ length (now s) ⌝ }
+    ensures { λ r. ⌜ ((left : ℕ) → CommonIs left (drop at (now (s .entry))) r) ⌝ }
+{
+    let first = s[at];
+    if first == 24 {
+        if 0 < rest {
+            if 24 <= s[at + 1] {
+                return Common::Passed(2);
+            }
+        }
+        return Common::Other;
+    }
+    if first == 25 {
+        if 1 < rest {
+            if 0 < s[at + 1] {
+                return Common::Passed(3);
+            }
+        }
+    }
+    Common::Other
 }
 
 // The head at the start of s with its string, where so many levels may open.

@@ -5,6 +5,7 @@ ghost use Rattle.cbor.specs.Token.{nothingAt, tokenOf, TokenIs, SizeIs, 
 use crate::head;
 use crate::head::HeadRead;
 use crate::item;
+use crate::item::Common;
 use crate::item::ItemRead;
 
 // The head at `at`: its major type and argument, where what it heads begins, and where the next head stands (after a
@@ -31,6 +32,65 @@ pub fn token_at(s: &[u8], at: usize) -> Token
         } => nothing_at(at),
         HeadRead::Head { major, arg, len } => token_of(at, s.len() - at, major, arg, len),
     }
+}
+
+// The token at `at`, told by its first byte where it is an array of fewer than 24 items.
+pub fn array_at(s: &[u8], at: usize) -> Token
+    ensures { λ r. ⌜ TokenIs (now (s .entry)) at r ⌝ }
+{
+    if at < s.len() {
+        let first = s[at];
+        if 128 <= first {
+            if first < 152 {
+                return token_of(at, s.len() - at, 4, (first - 128) as u64, 1);
+            }
+        }
+    }
+    token_at(s, at)
+}
+
+// The token at `at`, told by its first byte where it is a string of fewer than 24 bytes, or any other head of one byte.
+pub fn string_at(s: &[u8], at: usize) -> Token
+    ensures { λ r. ⌜ TokenIs (now (s .entry)) at r ⌝ }
+{
+    if at < s.len() {
+        let first = s[at];
+        let info = first % 32;
+        if info < 24 {
+            return token_of(at, s.len() - at, first / 32, info as u64, 1);
+        }
+    }
+    token_at(s, at)
+}
+
+// The token at `at`, told by its first bytes where it is an unsigned number up to 65,535.
+pub fn number_at(s: &[u8], at: usize) -> Token
+    ensures { λ r. ⌜ TokenIs (now (s .entry)) at r ⌝ }
+{
+    if at < s.len() {
+        let first = s[at];
+        let room = s.len() - at;
+        if first < 24 {
+            return token_of(at, room, 0, first as u64, 1);
+        }
+        if first == 24 {
+            if 1 < room {
+                let high = s[at + 1];
+                if 24 <= high {
+                    return token_of(at, room, 0, high as u64, 2);
+                }
+            }
+        }
+        if first == 25 {
+            if 2 < room {
+                let high = s[at + 1];
+                if 0 < high {
+                    return token_of(at, room, 0, head::two(high, s[at + 2]), 3);
+                }
+            }
+        }
+    }
+    token_at(s, at)
 }
 
 fn nothing_at(at: usize) -> Token
@@ -82,6 +142,11 @@ pub fn size_at(s: &[u8], at: usize) -> usize
 {
     if s.len() < at {
         return 0;
+    }
+    // Most values are one head with its string.
+    let common = item::common_at(item::MOST_LEVELS, s, at);
+    if let Common::Passed(len) = common {
+        return len;
     }
     let read = item::first(0, &s[at..]);
     match read {

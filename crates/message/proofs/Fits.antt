@@ -23,6 +23,7 @@ use Rattle.message.specs.declared.opening.OpeningRead.{OpeningRead}
 use Rattle.message.specs.declared.sequence.LocatorsRead.{LocatorsRead}
 use Rattle.message.specs.declared.sequence.PairsRead.{PairsRead}
 use Rattle.message.specs.Opening.{openingAt, OpeningOk, OpeningIs}
+use Rattle.message.proofs.Led.{never-led}
 use Rattle.message.specs.Sequence.{textLed, locatorNext, locatorsFrom, LocatorsOk, LocatorsAre, pairNext, pairsFrom}
 
 opening-ok : (s : List ℕ) (at : ℕ) → OpeningOk (length s) (openingAt s at)
@@ -86,14 +87,15 @@ module _ (s : List ℕ) (n from : ℕ) where
   located-bad zero at bad place b r h e f g q i = absurd (omega arith)
   located-bad (suc m) at bad place b r h e f g q i = next m at bad b r (LocatorRead.Bad place) e f g q i
 
-  pub located-next : (left at bad : ℕ) (l : Locator) (size bad′ new : ℕ) (b : Bool) (r : LocatorRead) → 0 < left → b ≡ textLed s at → b ≡ false
-      → r ≡ locatorAt s at → r ≡ LocatorRead.Got l size bad′ → new ≡ firstOf bad bad′ → Located s n from left at bad → Located s n from (left - 1) (at + size) new
+  pub located-next : (left at bad : ℕ) (l : Locator) (size bad′ new : ℕ) (r : LocatorRead) → 0 < left → r ≡ locatorAt s at → r ≡ LocatorRead.Got l size bad′
+      → new ≡ firstOf bad bad′ → Located s n from left at bad → Located s n from (left - 1) (at + size) new
   unfolding locatorNext
-  located-next zero at bad l size bad′ new b r h e f g q k i = absurd (omega arith)
-  located-next (suc m) at bad l size bad′ new b r h e f g q k i =
+  located-next zero at bad l size bad′ new r h g q k i = absurd (omega arith)
+  located-next (suc m) at bad l size bad′ new r h g q k i =
+      let apart = sym (never-led s at l size bad′ (sym g ∙ q)) in
       record {
         within = omega (arith, i .within, locator-within s at at r (LocatorRead.Got l size bad′) g q);
-        same = rw (less m, k) (next m at bad b r (LocatorRead.Got l size bad′) e f g q i);
+        same = rw (less m, k) (next m at bad false r (LocatorRead.Got l size bad′) apart refl g q i);
       }
 
 -- the loop over pairs

@@ -152,14 +152,14 @@ pub(crate) fn examine(s: &[u8]) -> Examined
 fn examine_item(s: &[u8]) -> Examined
     ensures { λ r. ⌜ r ≡ shaped (now (s .entry)) ⌝ }
 {
-    let a = token::token_at(s, 0);
+    let a = token::array_at(s, 0);
     if token::items_in(a) == 0 {
         return Examined::Refused {
             number: 9,
             place: 0,
         };
     }
-    let k = token::token_at(s, a.next);
+    let k = token::number_at(s, a.next);
     if k.major != 0 {
         return Examined::Refused {
             number: 9,
@@ -173,7 +173,6 @@ fn examine_item(s: &[u8]) -> Examined
                 place: k.at,
             };
         }
-        return judge(shape::by_kind(s, k.arg, a.arg, k.next));
     }
     judge(shape::by_kind(s, k.arg, a.arg, k.next))
 }

@@ -24,16 +24,16 @@ pub enum OpeningRead {
 pub(crate) fn read_at(s: &[u8], at: usize) -> OpeningRead
     ensures { λ r. ⌜ OpeningIs (now (s .entry)) at r ⌝ }
 {
-    let i = token::token_at(s, at);
+    let i = token::number_at(s, at);
     let session = token::up_to(MOST_NUMBER, i);
     if (MOST_NUMBER as u64) < session {
         return OpeningRead::Bad(i.at);
     }
-    let j = token::token_at(s, i.next);
+    let j = token::string_at(s, i.next);
     if !is_initiator(j) {
         return OpeningRead::Bad(j.at);
     }
-    let t = token::token_at(s, j.next);
+    let t = token::number_at(s, j.next);
     let ttl = token::up_to(MOST_NUMBER, t);
     if (MOST_NUMBER as u64) < ttl {
         return OpeningRead::Bad(t.at);

@@ -32,12 +32,13 @@ pub(crate) fn read_locators(s: &[u8], n: u64, from: usize) -> LocatorsRead
     let mut at = from;
     let mut bad: usize = 0;
     while 0 < left {
-        if text_led(s, at) {
-            return LocatorsRead::Ran { end: at, left, bad };
-        }
         let read = locator::read_at(s, at);
         match read {
             LocatorRead::Bad(place) => {
+                // No locator is led by a text, so that this is asked only where none was found.
+                if text_led(s, at) {
+                    return LocatorsRead::Ran { end: at, left, bad };
+                }
                 return LocatorsRead::Bad(place);
             }
             LocatorRead::Got {

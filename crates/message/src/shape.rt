@@ -73,12 +73,12 @@ fn discovery_at(s: &[u8], n: u64, at: usize) -> Shape
     if n != 4 {
         return Shape::Bad(0);
     }
-    let i = token::token_at(s, at);
+    let i = token::number_at(s, at);
     let session = token::up_to(MOST_NUMBER, i);
     if (MOST_NUMBER as u64) < session {
         return Shape::Bad(i.at);
     }
-    let j = token::token_at(s, i.next);
+    let j = token::string_at(s, i.next);
     if !opening::is_initiator(j) {
         return Shape::Bad(j.at);
     }
@@ -113,7 +113,7 @@ fn exchange_at(s: &[u8], kind: u64, n: u64, at: usize) -> Shape
     if n != 3 {
         return Shape::Bad(0);
     }
-    let i = token::token_at(s, at);
+    let i = token::number_at(s, at);
     let session = token::up_to(MOST_NUMBER, i);
     if (MOST_NUMBER as u64) < session {
         return Shape::Bad(i.at);
@@ -156,12 +156,12 @@ fn wait_at(s: &[u8], n: u64, at: usize) -> Shape
     if n != 3 {
         return Shape::Bad(0);
     }
-    let i = token::token_at(s, at);
+    let i = token::number_at(s, at);
     let session = token::up_to(MOST_NUMBER, i);
     if (MOST_NUMBER as u64) < session {
         return Shape::Bad(i.at);
     }
-    let t = token::token_at(s, i.next);
+    let t = token::number_at(s, i.next);
     let time = token::up_to(MOST_NUMBER, t);
     if (MOST_NUMBER as u64) < time {
         return Shape::Bad(t.at);
@@ -186,7 +186,7 @@ fn invalid_at(s: &[u8], n: u64, at: usize) -> Shape
     if 3 < n {
         return Shape::Bad(0);
     }
-    let i = token::token_at(s, at);
+    let i = token::number_at(s, at);
     let session = token::up_to(MOST_NUMBER, i);
     if (MOST_NUMBER as u64) < session {
         return Shape::Bad(i.at);
@@ -223,7 +223,7 @@ fn end_at(s: &[u8], n: u64, at: usize) -> Shape
     if n != 3 {
         return Shape::Bad(0);
     }
-    let i = token::token_at(s, at);
+    let i = token::number_at(s, at);
     let session = token::up_to(MOST_NUMBER, i);
     if (MOST_NUMBER as u64) < session {
         return Shape::Bad(i.at);
@@ -235,11 +235,11 @@ fn end_at(s: &[u8], n: u64, at: usize) -> Shape
 fn option_at(s: &[u8], session: u32, at: usize) -> Shape
     ensures { λ r. ⌜ r ≡ optionAt (now (s .entry)) session at ⌝ }
 {
-    let o = token::token_at(s, at);
+    let o = token::array_at(s, at);
     if token::items_in(o) == 0 {
         return Shape::Bad(o.at);
     }
-    let x = token::token_at(s, o.next);
+    let x = token::number_at(s, o.next);
     let lead = token::up_to(102, x);
     if lead < 101 {
         return Shape::Bad(x.at);
@@ -259,7 +259,7 @@ fn option_at(s: &[u8], session: u32, at: usize) -> Shape
     if o.arg != 2 {
         return Shape::Bad(o.at);
     }
-    let t = token::token_at(s, x.next);
+    let t = token::string_at(s, x.next);
     if t.major != 3 {
         return Shape::Bad(t.at);
     }

@@ -42,11 +42,11 @@ pub(crate) fn read_in(s: &[u8], base: usize) -> LocatorRead
     requires { ⌜ base + length (now s) < 2 ^ 63 ⌝ }
     ensures { λ r. ⌜ r ≡ locatorIn base (now (s .entry)) ⌝ }
 {
-    let a = token::token_at(s, 0);
+    let a = token::array_at(s, 0);
     if token::items_in(a) == 0 {
         return LocatorRead::Bad(base);
     }
-    let k = token::token_at(s, a.next);
+    let k = token::number_at(s, a.next);
     let kind = token::up_to(106, k);
     if kind < 103 {
         return LocatorRead::Bad(base + k.at);
@@ -57,16 +57,16 @@ pub(crate) fn read_in(s: &[u8], base: usize) -> LocatorRead
     if a.arg != 4 {
         return LocatorRead::Bad(base);
     }
-    let b = token::token_at(s, k.next);
+    let b = token::string_at(s, k.next);
     if !address_fits(kind, b) {
         return LocatorRead::Bad(base + b.at);
     }
-    let p = token::token_at(s, b.next);
+    let p = token::number_at(s, b.next);
     let protocol = protocol_of(kind, p);
     if protocol == 255 {
         return LocatorRead::Bad(base + p.at);
     }
-    let q = token::token_at(s, p.next);
+    let q = token::number_at(s, p.next);
     let port = port_of(kind, q);
     if 65536 < port {
         return LocatorRead::Bad(base + q.at);

@@ -46,11 +46,11 @@ pub(crate) fn read_in(s: &[u8], base: usize) -> ObjectiveRead
     requires { ⌜ base + length (now s) < 2 ^ 63 ⌝ }
     ensures { λ r. ⌜ r ≡ objectiveIn base (now (s .entry)) ⌝ }
 {
-    let a = token::token_at(s, 0);
+    let a = token::array_at(s, 0);
     if token::items_in(a) == 0 {
         return ObjectiveRead::Bad(base);
     }
-    let n = token::token_at(s, a.next);
+    let n = token::string_at(s, a.next);
     if n.major != 3 {
         return ObjectiveRead::Bad(base + n.at);
     }
@@ -60,12 +60,12 @@ pub(crate) fn read_in(s: &[u8], base: usize) -> ObjectiveRead
     if 4 < a.arg {
         return ObjectiveRead::Bad(base);
     }
-    let f = token::token_at(s, n.next);
+    let f = token::number_at(s, n.next);
     let flags = token::up_to(15, f);
     if 15 < flags {
         return ObjectiveRead::Bad(base + f.at);
     }
-    let c = token::token_at(s, f.next);
+    let c = token::number_at(s, f.next);
     let count = token::up_to(255, c);
     if 255 < count {
         return ObjectiveRead::Bad(base + c.at);

@@ -46,7 +46,7 @@ pub(crate) fn read_in(s: &[u8], base: usize) -> PairRead
     requires { ⌜ base + length (now s) < 2 ^ 63 ⌝ }
     ensures { λ r. ⌜ r ≡ pairIn base (now (s .entry)) ⌝ }
 {
-    let a = token::token_at(s, 0);
+    let a = token::array_at(s, 0);
     if token::items_in(a) == 0 {
         return PairRead::Bad(base);
     }
@@ -80,7 +80,7 @@ fn read_tag(
     requires { ⌜ (base + length (now s) < 2 ^ 63) × (at ≤ length (now s)) ⌝ }
     ensures { λ r. ⌜ r ≡ pairTail base (now (s .entry)) at objective bad long ⌝ }
 {
-    let t = token::token_at(s, at);
+    let t = token::array_at(s, at);
     if is_empty(t) {
         return PairRead::Got {
             objective,

@@ -9,16 +9,41 @@ use lib.Dec.{lit<}
 use lib.ListN.{getD}
 use Rattle.base.proofs.Digits.{below-more, below-word}
 use Rattle.base.specs.BigEndian.{bigEndian}
+use borrow.Author.Needs.{needs}
 use Rattle.cbor.proofs.head.big_endian.Statement.{statement}
 use Rattle.cbor.proofs.head.big_endian.Tie as tie
 use Rattle.cbor.proofs.head.big_endian.Reads as reads
 use Rattle.cbor.proofs.head.big_endian.Lts as lts
+use Rattle.cbor.proofs.head.two.Reads as two-reads
 
 abbrev Inv-loop : tie.InvT-loop
 Inv-loop s n value₀ i₀ value i = (i ≤ n) × (value ≡ bigEndian s i) × (value < 2 ^ (8 * i))
 
 abbrev μ-loop : tie.MeasureT-loop
 μ-loop s n value₀ i₀ value i = n - i
+
+shared-slice-read-result : tie.Need-shared-slice-read-result Inv-loop μ-loop
+shared-slice-read-result c = search needs
+
+cast-result : tie.Need-cast-result Inv-loop μ-loop
+cast-result c = omega (arith, c .shared-slice-known2 .given 0)
+
+returns : tie.Need-returns Inv-loop μ-loop
+unfolding bigEndian
+returns c = rw (c .before .if1 .taken) (omega arith)
+
+shared-slice-read-two : tie.Need-shared-slice-read-two Inv-loop μ-loop
+shared-slice-read-two c = search needs
+
+shared-slice-read-two-2 : tie.Need-shared-slice-read-two-2 Inv-loop μ-loop
+shared-slice-read-two-2 c = search needs
+
+two-requires : tie.Need-two-requires Inv-loop μ-loop
+two-requires c κs = search needs
+
+returns-2 : tie.Need-returns-2 Inv-loop μ-loop
+unfolding bigEndian
+returns-2 c = rw (c .before .before .before .if2 .taken) (omega (arith, c .two .ensures))
 
 loop-holds : tie.Need-loop-holds Inv-loop μ-loop
 unfolding bigEndian
@@ -34,13 +59,13 @@ shared-slice-read-value : tie.Need-shared-slice-read-value Inv-loop μ-loop
 shared-slice-read-value c = omega arith
 
 -- the next byte makes a number of one byte more
-grown : (c : tie.After-shared-slice-known Inv-loop μ-loop) → c .before .before .loop .value * 256 + getD (c .before .before .before .args .s .now) (c .before .before .loop .i) 0 < 2 ^ (8 * (c .before .before .loop .i + 1))
+grown : (c : tie.After-shared-slice-known5 Inv-loop μ-loop) → c .before .before .loop .value * 256 + getD (c .before .before .before .before .before .before .args .s .now) (c .before .before .loop .i) 0 < 2 ^ (8 * (c .before .before .loop .i + 1))
 grown c =
     let at-loop = c .before .before .loop in
-    below-more (at-loop .i) (at-loop .value) _ (at-loop .inv .2) (c .shared-slice-known .given (at-loop .i) .fits)
+    below-more (at-loop .i) (at-loop .value) _ (at-loop .inv .2) (c .shared-slice-known5 .given (at-loop .i) .fits)
 
 cast-value : tie.Need-cast-value Inv-loop μ-loop
-cast-value c = omega (arith, c .shared-slice-known .given (c .before .before .loop .i))
+cast-value c = omega (arith, c .shared-slice-known5 .given (c .before .before .loop .i))
 
 add-value : tie.Need-add-value Inv-loop μ-loop
 add-value c = record { fits = below-word _ _ (room (c .before)) (grown c) }
@@ -57,9 +82,9 @@ loop-again c =
     let e = c .before .before .loop .inv .1 in
     (omega arith, rw (add-one) (cc), grown c)
 
-returns : tie.Need-returns Inv-loop μ-loop
-returns c =
-    let e : c .before .loop .i ≡ c .before .before .args .n = omega arith in
+returns-3 : tie.Need-returns-3 Inv-loop μ-loop
+returns-3 c =
+    let e : c .before .loop .i ≡ c .before .before .before .before .before .args .n = omega arith in
     rw (← e) (c .before .loop .inv .1)
 
 pub big-endian-spec : {M : Type 1} → statement M
@@ -68,6 +93,13 @@ big-endian-spec =
     (tie.spec
     Inv-loop
     μ-loop
+    shared-slice-read-result
+    cast-result
+    returns
+    shared-slice-read-two
+    shared-slice-read-two-2
+    two-requires
+    returns-2
     loop-holds
     mul-value
     shared-slice-read-value
@@ -76,4 +108,4 @@ big-endian-spec =
     add-i
     loop-less
     loop-again
-    returns)
+    returns-3)

@@ -9,13 +9,14 @@ use Rattle.message.proofs.opening.read_at.Statement.{statement}
 use Rattle.message.proofs.opening.read_at.Tie as tie
 use Rattle.message.proofs.opening.read_at.Reads as reads
 use Rattle.message.proofs.opening.read_at.Lts as lts
-use Rattle.cbor.proofs.token.token_at.Reads as token-at-reads
+use Rattle.cbor.proofs.token.number_at.Reads as number-at-reads
+use Rattle.cbor.proofs.token.string_at.Reads as string-at-reads
 use Rattle.cbor.proofs.token.up_to.Reads as up-to-reads
 use Rattle.message.proofs.opening.is_initiator.Reads as is-initiator-reads
 
 -- src/opening.rt:27:9
-token-at-requires : tie.Need-token-at-requires
-token-at-requires c κs = search needs
+number-at-requires : tie.Need-number-at-requires
+number-at-requires c κs = search needs
 
 -- src/opening.rt:28:9
 up-to-requires : tie.Need-up-to-requires
@@ -29,11 +30,11 @@ cast-if1 c = search needs
 returns : tie.Need-returns
 unfolding openingAt pick
 returns c =
-    opening-is _ _ _ (rw (← c .before .before .token-at .ensures .is, ← c .before .up-to .ensures, lt-ltb _ _ (c .if1 .taken)))
+    opening-is _ _ _ (rw (← c .before .before .number-at .ensures .is, ← c .before .up-to .ensures, lt-ltb _ _ (c .if1 .taken)))
 
 -- src/opening.rt:32:9
-token-at-requires-2 : tie.Need-token-at-requires-2
-token-at-requires-2 c κs = search needs
+string-at-requires : tie.Need-string-at-requires
+string-at-requires c κs = search needs
 
 -- src/opening.rt:33:9
 is-initiator-requires : tie.Need-is-initiator-requires
@@ -43,11 +44,11 @@ is-initiator-requires c κs = search needs
 returns-2 : tie.Need-returns-2
 unfolding openingAt pick
 returns-2 c =
-    opening-is _ _ _ (rw (← c .before .before .before .before .before .token-at .ensures .is, ← c .before .before .before .before .up-to .ensures, le-ltb _ _ (c .before .before .before .if1 .left), ← c .before .before .token-at2 .ensures .is, ← c .before .is-initiator .ensures, not-true (c .before .is-initiator .result) (c .if2 .taken)))
+    opening-is _ _ _ (rw (← c .before .before .before .before .before .number-at .ensures .is, ← c .before .before .before .before .up-to .ensures, le-ltb _ _ (c .before .before .before .if1 .left), ← c .before .before .string-at .ensures .is, ← c .before .is-initiator .ensures, not-true (c .before .is-initiator .result) (c .if2 .taken)))
 
 -- src/opening.rt:36:9
-token-at-requires-3 : tie.Need-token-at-requires-3
-token-at-requires-3 c κs = search needs
+number-at-requires-2 : tie.Need-number-at-requires-2
+number-at-requires-2 c κs = search needs
 
 -- src/opening.rt:37:9
 up-to-requires-2 : tie.Need-up-to-requires-2
@@ -61,7 +62,7 @@ cast-if3 c = search needs
 returns-3 : tie.Need-returns-3
 unfolding openingAt pick
 returns-3 c =
-    opening-is _ _ _ (rw (← c .before .before .before .before .before .before .before .before .token-at .ensures .is, ← c .before .before .before .before .before .before .before .up-to .ensures, le-ltb _ _ (c .before .before .before .before .before .before .if1 .left), ← c .before .before .before .before .before .token-at2 .ensures .is, ← c .before .before .before .before .is-initiator .ensures, not-false (c .before .before .before .before .is-initiator .result) (c .before .before .before .if2 .left), ← c .before .before .token-at3 .ensures .is, ← c .before .up-to2 .ensures, lt-ltb _ _ (c .if3 .taken)))
+    opening-is _ _ _ (rw (← c .before .before .before .before .before .before .before .before .number-at .ensures .is, ← c .before .before .before .before .before .before .before .up-to .ensures, le-ltb _ _ (c .before .before .before .before .before .before .if1 .left), ← c .before .before .before .before .before .string-at .ensures .is, ← c .before .before .before .before .is-initiator .ensures, not-false (c .before .before .before .before .is-initiator .result) (c .before .before .before .if2 .left), ← c .before .before .number-at2 .ensures .is, ← c .before .up-to2 .ensures, lt-ltb _ _ (c .if3 .taken)))
 
 -- src/opening.rt:43:14
 sub-t12 : tie.Need-sub-t12
@@ -79,20 +80,20 @@ cast-t14 c = search needs
 returns-4 : tie.Need-returns-4
 unfolding openingAt pick
 returns-4 c =
-    opening-is _ _ _ (rw (← c .before .before .before .before .before .before .before .before .before .token-at .ensures .is, ← c .before .before .before .before .before .before .before .before .up-to .ensures, le-ltb _ _ (c .before .before .before .before .before .before .before .if1 .left), ← c .before .before .before .before .before .before .token-at2 .ensures .is, ← c .before .before .before .before .before .is-initiator .ensures, not-false (c .before .before .before .before .before .is-initiator .result) (c .before .before .before .before .if2 .left), ← c .before .before .before .token-at3 .ensures .is, ← c .before .before .up-to2 .ensures, le-ltb _ _ (c .before .if3 .left)))
+    opening-is _ _ _ (rw (← c .before .before .before .before .before .before .before .before .before .number-at .ensures .is, ← c .before .before .before .before .before .before .before .before .up-to .ensures, le-ltb _ _ (c .before .before .before .before .before .before .before .if1 .left), ← c .before .before .before .before .before .before .string-at .ensures .is, ← c .before .before .before .before .before .is-initiator .ensures, not-false (c .before .before .before .before .before .is-initiator .result) (c .before .before .before .before .if2 .left), ← c .before .before .before .number-at2 .ensures .is, ← c .before .before .up-to2 .ensures, le-ltb _ _ (c .before .if3 .left)))
 
 pub read-at-spec : {M : Type 1} → statement M
 read-at-spec =
     tie.close
     (tie.spec
-    token-at-requires
+    number-at-requires
     up-to-requires
     cast-if1
     returns
-    token-at-requires-2
+    string-at-requires
     is-initiator-requires
     returns-2
-    token-at-requires-3
+    number-at-requires-2
     up-to-requires-2
     cast-if3
     returns-3

@@ -9,14 +9,15 @@ use Rattle.message.proofs.response.targets_at.Tie as tie
 use Rattle.message.proofs.response.targets_at.Reads as reads
 use Rattle.message.proofs.response.targets_at.Lts as lts
 use Rattle.cbor.proofs.token.items_in.Reads as items-in-reads
-use Rattle.cbor.proofs.token.token_at.Reads as token-at-reads
+use Rattle.cbor.proofs.token.array_at.Reads as array-at-reads
+use Rattle.cbor.proofs.token.number_at.Reads as number-at-reads
 use Rattle.cbor.proofs.token.up_to.Reads as up-to-reads
 use Rattle.message.proofs.response.divert_at.Reads as divert-at-reads
 use Rattle.message.proofs.response.located_at.Reads as located-at-reads
 
 -- src/response.rt:39:9
-token-at-requires : tie.Need-token-at-requires
-token-at-requires c κs = search needs
+array-at-requires : tie.Need-array-at-requires
+array-at-requires c κs = search needs
 
 -- src/response.rt:40:8
 items-in-requires : tie.Need-items-in-requires
@@ -30,11 +31,11 @@ located-at-requires c κs = search needs
 returns : tie.Need-returns
 unfolding targetsAt pick
 returns c =
-    rw (← c .before .before .before .token-at .ensures .is, ← c .before .before .items-in .ensures, eq-eqb _ _ (c .before .if1 .taken), ← c .located-at .ensures)
+    rw (← c .before .before .before .array-at .ensures .is, ← c .before .before .items-in .ensures, eq-eqb _ _ (c .before .if1 .taken), ← c .located-at .ensures)
 
 -- src/response.rt:43:9
-token-at-requires-2 : tie.Need-token-at-requires-2
-token-at-requires-2 c κs = search needs
+number-at-requires : tie.Need-number-at-requires
+number-at-requires c κs = search needs
 
 -- src/response.rt:44:8
 up-to-requires : tie.Need-up-to-requires
@@ -52,7 +53,7 @@ divert-at-requires c κs = search needs
 returns-2 : tie.Need-returns-2
 unfolding targetsAt pick
 returns-2 c =
-    rw (← c .before .before .before .before .before .before .token-at .ensures .is, ← c .before .before .before .before .before .items-in .ensures, ne-eqb _ _ (c .before .before .before .before .if1 .left), ← c .before .before .before .token-at2 .ensures .is, ← c .before .before .up-to .ensures, eq-eqb _ _ (c .before .if2 .taken), ← c .divert-at .ensures)
+    rw (← c .before .before .before .before .before .before .array-at .ensures .is, ← c .before .before .before .before .before .items-in .ensures, ne-eqb _ _ (c .before .before .before .before .if1 .left), ← c .before .before .before .number-at .ensures .is, ← c .before .before .up-to .ensures, eq-eqb _ _ (c .before .if2 .taken), ← c .divert-at .ensures)
 
 -- src/response.rt:47:5
 located-at-requires-2 : tie.Need-located-at-requires-2
@@ -62,17 +63,17 @@ located-at-requires-2 c κs = search needs
 returns-3 : tie.Need-returns-3
 unfolding targetsAt pick
 returns-3 c =
-    rw (← c .before .before .before .before .before .before .token-at .ensures .is, ← c .before .before .before .before .before .items-in .ensures, ne-eqb _ _ (c .before .before .before .before .if1 .left), ← c .before .before .before .token-at2 .ensures .is, ← c .before .before .up-to .ensures, ne-eqb _ _ (c .before .if2 .left), ← c .located-at2 .ensures)
+    rw (← c .before .before .before .before .before .before .array-at .ensures .is, ← c .before .before .before .before .before .items-in .ensures, ne-eqb _ _ (c .before .before .before .before .if1 .left), ← c .before .before .before .number-at .ensures .is, ← c .before .before .up-to .ensures, ne-eqb _ _ (c .before .if2 .left), ← c .located-at2 .ensures)
 
 pub targets-at-spec : {M : Type 1} → statement M
 targets-at-spec =
     tie.close
     (tie.spec
-    token-at-requires
+    array-at-requires
     items-in-requires
     located-at-requires
     returns
-    token-at-requires-2
+    number-at-requires
     up-to-requires
     sub-divert-at
     divert-at-requires

@@ -8,7 +8,8 @@ use Rattle.message.proofs.shape.discovery_at.Statement.{statement}
 use Rattle.message.proofs.shape.discovery_at.Tie as tie
 use Rattle.message.proofs.shape.discovery_at.Reads as reads
 use Rattle.message.proofs.shape.discovery_at.Lts as lts
-use Rattle.cbor.proofs.token.token_at.Reads as token-at-reads
+use Rattle.cbor.proofs.token.number_at.Reads as number-at-reads
+use Rattle.cbor.proofs.token.string_at.Reads as string-at-reads
 use Rattle.cbor.proofs.token.up_to.Reads as up-to-reads
 use Rattle.message.proofs.opening.is_initiator.Reads as is-initiator-reads
 use Rattle.options.proofs.objective.read_at.Reads as read-at-reads
@@ -20,8 +21,8 @@ returns c =
     rw (ne-eqb _ _ (c .if1 .taken))
 
 -- src/shape.rt:76:9
-token-at-requires : tie.Need-token-at-requires
-token-at-requires c κs = search needs
+number-at-requires : tie.Need-number-at-requires
+number-at-requires c κs = search needs
 
 -- src/shape.rt:77:9
 up-to-requires : tie.Need-up-to-requires
@@ -35,11 +36,11 @@ cast-if2 c = search needs
 returns-2 : tie.Need-returns-2
 unfolding discoveryAt discovered pick
 returns-2 c =
-    rw (eq-eqb _ _ (c .before .before .before .if1 .left), ← c .before .before .token-at .ensures .is, ← c .before .up-to .ensures, lt-ltb _ _ (c .if2 .taken))
+    rw (eq-eqb _ _ (c .before .before .before .if1 .left), ← c .before .before .number-at .ensures .is, ← c .before .up-to .ensures, lt-ltb _ _ (c .if2 .taken))
 
 -- src/shape.rt:81:9
-token-at-requires-2 : tie.Need-token-at-requires-2
-token-at-requires-2 c κs = search needs
+string-at-requires : tie.Need-string-at-requires
+string-at-requires c κs = search needs
 
 -- src/shape.rt:82:9
 is-initiator-requires : tie.Need-is-initiator-requires
@@ -49,7 +50,7 @@ is-initiator-requires c κs = search needs
 returns-3 : tie.Need-returns-3
 unfolding discoveryAt discovered pick
 returns-3 c =
-    rw (eq-eqb _ _ (c .before .before .before .before .before .before .if1 .left), ← c .before .before .before .before .before .token-at .ensures .is, ← c .before .before .before .before .up-to .ensures, le-ltb _ _ (c .before .before .before .if2 .left), ← c .before .before .token-at2 .ensures .is, ← c .before .is-initiator .ensures, not-true (c .before .is-initiator .result) (c .if3 .taken))
+    rw (eq-eqb _ _ (c .before .before .before .before .before .before .if1 .left), ← c .before .before .before .before .before .number-at .ensures .is, ← c .before .before .before .before .up-to .ensures, le-ltb _ _ (c .before .before .before .if2 .left), ← c .before .before .string-at .ensures .is, ← c .before .is-initiator .ensures, not-true (c .before .is-initiator .result) (c .if3 .taken))
 
 -- src/shape.rt:87:14
 sub-t16 : tie.Need-sub-t16
@@ -75,24 +76,24 @@ cast-t18 c = search needs
 returns-4 : tie.Need-returns-4
 unfolding discoveryAt discovered pick
 returns-4 c =
-    rw (eq-eqb _ _ (c .before .before .before .before .before .before .before .before .before .before .before .if1 .left), ← c .before .before .before .before .before .before .before .before .before .before .token-at .ensures .is, ← c .before .before .before .before .before .before .before .before .before .up-to .ensures, le-ltb _ _ (c .before .before .before .before .before .before .before .before .if2 .left), ← c .before .before .before .before .before .before .before .token-at2 .ensures .is, ← c .before .before .before .before .before .before .is-initiator .ensures, not-false (c .before .before .before .before .before .before .is-initiator .result) (c .before .before .before .before .before .if3 .left), ← c .before .before .before .read-at .ensures, c .before .read .given .1)
+    rw (eq-eqb _ _ (c .before .before .before .before .before .before .before .before .before .before .before .if1 .left), ← c .before .before .before .before .before .before .before .before .before .before .number-at .ensures .is, ← c .before .before .before .before .before .before .before .before .before .up-to .ensures, le-ltb _ _ (c .before .before .before .before .before .before .before .before .if2 .left), ← c .before .before .before .before .before .before .before .string-at .ensures .is, ← c .before .before .before .before .before .before .is-initiator .ensures, not-false (c .before .before .before .before .before .before .is-initiator .result) (c .before .before .before .before .before .if3 .left), ← c .before .before .before .read-at .ensures, c .before .read .given .1)
 
 -- src/shape.rt:70:1
 returns-5 : tie.Need-returns-5
 unfolding discoveryAt discovered pick
 returns-5 c =
-    rw (eq-eqb _ _ (c .before .before .before .before .before .before .before .before .before .before .before .if1 .left), ← c .before .before .before .before .before .before .before .before .before .before .token-at .ensures .is, ← c .before .before .before .before .before .before .before .before .before .up-to .ensures, le-ltb _ _ (c .before .before .before .before .before .before .before .before .if2 .left), ← c .before .before .before .before .before .before .before .token-at2 .ensures .is, ← c .before .before .before .before .before .before .is-initiator .ensures, not-false (c .before .before .before .before .before .before .is-initiator .result) (c .before .before .before .before .before .if3 .left), ← c .before .before .before .read-at .ensures, c .before .read2 .given .1)
+    rw (eq-eqb _ _ (c .before .before .before .before .before .before .before .before .before .before .before .if1 .left), ← c .before .before .before .before .before .before .before .before .before .before .number-at .ensures .is, ← c .before .before .before .before .before .before .before .before .before .up-to .ensures, le-ltb _ _ (c .before .before .before .before .before .before .before .before .if2 .left), ← c .before .before .before .before .before .before .before .string-at .ensures .is, ← c .before .before .before .before .before .before .is-initiator .ensures, not-false (c .before .before .before .before .before .before .is-initiator .result) (c .before .before .before .before .before .if3 .left), ← c .before .before .before .read-at .ensures, c .before .read2 .given .1)
 
 pub discovery-at-spec : {M : Type 1} → statement M
 discovery-at-spec =
     tie.close
     (tie.spec
     returns
-    token-at-requires
+    number-at-requires
     up-to-requires
     cast-if2
     returns-2
-    token-at-requires-2
+    string-at-requires
     is-initiator-requires
     returns-3
     sub-t16

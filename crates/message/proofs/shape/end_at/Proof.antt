@@ -8,7 +8,7 @@ use Rattle.message.proofs.shape.end_at.Statement.{statement}
 use Rattle.message.proofs.shape.end_at.Tie as tie
 use Rattle.message.proofs.shape.end_at.Reads as reads
 use Rattle.message.proofs.shape.end_at.Lts as lts
-use Rattle.cbor.proofs.token.token_at.Reads as token-at-reads
+use Rattle.cbor.proofs.token.number_at.Reads as number-at-reads
 use Rattle.cbor.proofs.token.up_to.Reads as up-to-reads
 use Rattle.message.proofs.shape.option_at.Reads as option-at-reads
 
@@ -19,8 +19,8 @@ returns c =
     rw (ne-eqb _ _ (c .if1 .taken))
 
 -- src/shape.rt:226:9
-token-at-requires : tie.Need-token-at-requires
-token-at-requires c κs = search needs
+number-at-requires : tie.Need-number-at-requires
+number-at-requires c κs = search needs
 
 -- src/shape.rt:227:9
 up-to-requires : tie.Need-up-to-requires
@@ -34,7 +34,7 @@ cast-if2 c = search needs
 returns-2 : tie.Need-returns-2
 unfolding endAt pick
 returns-2 c =
-    rw (eq-eqb _ _ (c .before .before .before .if1 .left), ← c .before .before .token-at .ensures .is, ← c .before .up-to .ensures, lt-ltb _ _ (c .if2 .taken))
+    rw (eq-eqb _ _ (c .before .before .before .if1 .left), ← c .before .before .number-at .ensures .is, ← c .before .up-to .ensures, lt-ltb _ _ (c .if2 .taken))
 
 -- src/shape.rt:231:18
 cast-option-at : tie.Need-cast-option-at
@@ -48,14 +48,14 @@ option-at-requires c κs = search needs
 returns-3 : tie.Need-returns-3
 unfolding endAt pick
 returns-3 c =
-    rw (eq-eqb _ _ (c .before .before .before .before .if1 .left), ← c .before .before .before .token-at .ensures .is, ← c .before .before .up-to .ensures, le-ltb _ _ (c .before .if2 .left), ← c .option-at .ensures)
+    rw (eq-eqb _ _ (c .before .before .before .before .if1 .left), ← c .before .before .before .number-at .ensures .is, ← c .before .before .up-to .ensures, le-ltb _ _ (c .before .if2 .left), ← c .option-at .ensures)
 
 pub end-at-spec : {M : Type 1} → statement M
 end-at-spec =
     tie.close
     (tie.spec
     returns
-    token-at-requires
+    number-at-requires
     up-to-requires
     cast-if2
     returns-2

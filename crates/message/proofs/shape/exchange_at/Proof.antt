@@ -8,7 +8,7 @@ use Rattle.message.proofs.shape.exchange_at.Statement.{statement}
 use Rattle.message.proofs.shape.exchange_at.Tie as tie
 use Rattle.message.proofs.shape.exchange_at.Reads as reads
 use Rattle.message.proofs.shape.exchange_at.Lts as lts
-use Rattle.cbor.proofs.token.token_at.Reads as token-at-reads
+use Rattle.cbor.proofs.token.number_at.Reads as number-at-reads
 use Rattle.cbor.proofs.token.up_to.Reads as up-to-reads
 use Rattle.message.proofs.shape.exchange_of.Reads as exchange-of-reads
 use Rattle.options.proofs.objective.read_at.Reads as read-at-reads
@@ -20,8 +20,8 @@ returns c =
     rw (ne-eqb _ _ (c .if1 .taken))
 
 -- src/shape.rt:116:9
-token-at-requires : tie.Need-token-at-requires
-token-at-requires c κs = search needs
+number-at-requires : tie.Need-number-at-requires
+number-at-requires c κs = search needs
 
 -- src/shape.rt:117:9
 up-to-requires : tie.Need-up-to-requires
@@ -35,7 +35,7 @@ cast-if2 c = search needs
 returns-2 : tie.Need-returns-2
 unfolding exchangeAt exchanged pick
 returns-2 c =
-    rw (eq-eqb _ _ (c .before .before .before .if1 .left), ← c .before .before .token-at .ensures .is, ← c .before .up-to .ensures, lt-ltb _ _ (c .if2 .taken))
+    rw (eq-eqb _ _ (c .before .before .before .if1 .left), ← c .before .before .number-at .ensures .is, ← c .before .up-to .ensures, lt-ltb _ _ (c .if2 .taken))
 
 -- src/shape.rt:121:9
 read-at-requires : tie.Need-read-at-requires
@@ -61,20 +61,20 @@ exchange-of-requires c κs = search needs
 returns-3 : tie.Need-returns-3
 unfolding exchangeAt exchanged pick
 returns-3 c =
-    rw (eq-eqb _ _ (c .before .before .before .before .before .before .before .if1 .left), ← c .before .before .before .before .before .before .token-at .ensures .is, ← c .before .before .before .before .before .up-to .ensures, le-ltb _ _ (c .before .before .before .before .if2 .left), ← c .before .before .before .read-at .ensures, c .before .read .given .1)
+    rw (eq-eqb _ _ (c .before .before .before .before .before .before .before .if1 .left), ← c .before .before .before .before .before .before .number-at .ensures .is, ← c .before .before .before .before .before .up-to .ensures, le-ltb _ _ (c .before .before .before .before .if2 .left), ← c .before .before .before .read-at .ensures, c .before .read .given .1)
 
 -- src/shape.rt:110:1
 returns-4 : tie.Need-returns-4
 unfolding exchangeAt exchanged pick
 returns-4 c =
-    rw (eq-eqb _ _ (c .before .before .before .before .before .before .before .before .if1 .left), ← c .before .before .before .before .before .before .before .token-at .ensures .is, ← c .before .before .before .before .before .before .up-to .ensures, le-ltb _ _ (c .before .before .before .before .before .if2 .left), ← c .before .before .before .before .read-at .ensures, c .before .before .read2 .given .1, ← c .exchange-of .ensures)
+    rw (eq-eqb _ _ (c .before .before .before .before .before .before .before .before .if1 .left), ← c .before .before .before .before .before .before .before .number-at .ensures .is, ← c .before .before .before .before .before .before .up-to .ensures, le-ltb _ _ (c .before .before .before .before .before .if2 .left), ← c .before .before .before .before .read-at .ensures, c .before .before .read2 .given .1, ← c .exchange-of .ensures)
 
 pub exchange-at-spec : {M : Type 1} → statement M
 exchange-at-spec =
     tie.close
     (tie.spec
     returns
-    token-at-requires
+    number-at-requires
     up-to-requires
     cast-if2
     returns-2

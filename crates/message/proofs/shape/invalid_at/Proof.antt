@@ -9,7 +9,7 @@ use Rattle.message.proofs.shape.invalid_at.Tie as tie
 use Rattle.message.proofs.shape.invalid_at.Reads as reads
 use Rattle.message.proofs.shape.invalid_at.Lts as lts
 use Rattle.cbor.proofs.token.size_at.Reads as size-at-reads
-use Rattle.cbor.proofs.token.token_at.Reads as token-at-reads
+use Rattle.cbor.proofs.token.number_at.Reads as number-at-reads
 use Rattle.cbor.proofs.token.up_to.Reads as up-to-reads
 
 -- src/shape.rt:184:9
@@ -25,8 +25,8 @@ returns-2 c =
     rw (le-ltb _ _ (c .before .if1 .left), lt-ltb _ _ (c .if2 .taken))
 
 -- src/shape.rt:189:9
-token-at-requires : tie.Need-token-at-requires
-token-at-requires c κs = search needs
+number-at-requires : tie.Need-number-at-requires
+number-at-requires c κs = search needs
 
 -- src/shape.rt:190:9
 up-to-requires : tie.Need-up-to-requires
@@ -40,7 +40,7 @@ cast-if3 c = search needs
 returns-3 : tie.Need-returns-3
 unfolding invalidAt pick
 returns-3 c =
-    rw (le-ltb _ _ (c .before .before .before .before .if1 .left), le-ltb _ _ (c .before .before .before .if2 .left), ← c .before .before .token-at .ensures .is, ← c .before .up-to .ensures, lt-ltb _ _ (c .if3 .taken))
+    rw (le-ltb _ _ (c .before .before .before .before .if1 .left), le-ltb _ _ (c .before .before .before .if2 .left), ← c .before .before .number-at .ensures .is, ← c .before .up-to .ensures, lt-ltb _ _ (c .if3 .taken))
 
 -- src/shape.rt:198:26
 cast-t10 : tie.Need-cast-t10
@@ -50,7 +50,7 @@ cast-t10 c = search needs
 returns-4 : tie.Need-returns-4
 unfolding invalidAt pick
 returns-4 c =
-    rw (le-ltb _ _ (c .before .before .before .before .before .if1 .left), le-ltb _ _ (c .before .before .before .before .if2 .left), ← c .before .before .before .token-at .ensures .is, ← c .before .before .up-to .ensures, le-ltb _ _ (c .before .if3 .left), eq-eqb _ _ (c .if4 .taken))
+    rw (le-ltb _ _ (c .before .before .before .before .before .if1 .left), le-ltb _ _ (c .before .before .before .before .if2 .left), ← c .before .before .before .number-at .ensures .is, ← c .before .before .up-to .ensures, le-ltb _ _ (c .before .if3 .left), eq-eqb _ _ (c .if4 .taken))
 
 -- src/shape.rt:205:9
 size-at-requires : tie.Need-size-at-requires
@@ -60,7 +60,7 @@ size-at-requires c κs = search needs
 returns-5 : tie.Need-returns-5
 unfolding invalidAt pick
 returns-5 c =
-    rw (le-ltb _ _ (c .before .before .before .before .before .before .before .if1 .left), le-ltb _ _ (c .before .before .before .before .before .before .if2 .left), ← c .before .before .before .before .before .token-at .ensures .is, ← c .before .before .before .before .up-to .ensures, le-ltb _ _ (c .before .before .before .if3 .left), ne-eqb _ _ (c .before .before .if4 .left), ← c .before .size-at .ensures .is, eq-eqb _ _ (c .if5 .taken))
+    rw (le-ltb _ _ (c .before .before .before .before .before .before .before .if1 .left), le-ltb _ _ (c .before .before .before .before .before .before .if2 .left), ← c .before .before .before .before .before .number-at .ensures .is, ← c .before .before .before .before .up-to .ensures, le-ltb _ _ (c .before .before .before .if3 .left), ne-eqb _ _ (c .before .before .if4 .left), ← c .before .size-at .ensures .is, eq-eqb _ _ (c .if5 .taken))
 
 -- src/shape.rt:211:22
 cast-t13 : tie.Need-cast-t13
@@ -70,7 +70,7 @@ cast-t13 c = search needs
 returns-6 : tie.Need-returns-6
 unfolding invalidAt pick
 returns-6 c =
-    rw (le-ltb _ _ (c .before .before .before .before .before .before .before .if1 .left), le-ltb _ _ (c .before .before .before .before .before .before .if2 .left), ← c .before .before .before .before .before .token-at .ensures .is, ← c .before .before .before .before .up-to .ensures, le-ltb _ _ (c .before .before .before .if3 .left), ne-eqb _ _ (c .before .before .if4 .left), ← c .before .size-at .ensures .is, ne-eqb _ _ (c .if5 .left))
+    rw (le-ltb _ _ (c .before .before .before .before .before .before .before .if1 .left), le-ltb _ _ (c .before .before .before .before .before .before .if2 .left), ← c .before .before .before .before .before .number-at .ensures .is, ← c .before .before .before .before .up-to .ensures, le-ltb _ _ (c .before .before .before .if3 .left), ne-eqb _ _ (c .before .before .if4 .left), ← c .before .size-at .ensures .is, ne-eqb _ _ (c .if5 .left))
 
 pub invalid-at-spec : {M : Type 1} → statement M
 invalid-at-spec =
@@ -78,7 +78,7 @@ invalid-at-spec =
     (tie.spec
     returns
     returns-2
-    token-at-requires
+    number-at-requires
     up-to-requires
     cast-if3
     returns-3

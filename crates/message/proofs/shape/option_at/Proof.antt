@@ -9,14 +9,16 @@ use Rattle.message.proofs.shape.option_at.Tie as tie
 use Rattle.message.proofs.shape.option_at.Reads as reads
 use Rattle.message.proofs.shape.option_at.Lts as lts
 use Rattle.cbor.proofs.token.items_in.Reads as items-in-reads
-use Rattle.cbor.proofs.token.token_at.Reads as token-at-reads
+use Rattle.cbor.proofs.token.array_at.Reads as array-at-reads
+use Rattle.cbor.proofs.token.number_at.Reads as number-at-reads
+use Rattle.cbor.proofs.token.string_at.Reads as string-at-reads
 use Rattle.cbor.proofs.token.up_to.Reads as up-to-reads
 use Rattle.message.proofs.shape.ended.Reads as ended-reads
 use Rattle.options.proofs.bad_text.Reads as bad-text-reads
 
 -- src/shape.rt:238:9
-token-at-requires : tie.Need-token-at-requires
-token-at-requires c κs = search needs
+array-at-requires : tie.Need-array-at-requires
+array-at-requires c κs = search needs
 
 -- src/shape.rt:239:8
 items-in-requires : tie.Need-items-in-requires
@@ -26,11 +28,11 @@ items-in-requires c κs = search needs
 returns : tie.Need-returns
 unfolding optionAt pick
 returns c =
-    rw (← c .before .before .token-at .ensures .is, ← c .before .items-in .ensures, eq-eqb _ _ (c .if1 .taken))
+    rw (← c .before .before .array-at .ensures .is, ← c .before .items-in .ensures, eq-eqb _ _ (c .if1 .taken))
 
 -- src/shape.rt:242:9
-token-at-requires-2 : tie.Need-token-at-requires-2
-token-at-requires-2 c κs = search needs
+number-at-requires : tie.Need-number-at-requires
+number-at-requires c κs = search needs
 
 -- src/shape.rt:243:9
 up-to-requires : tie.Need-up-to-requires
@@ -40,13 +42,13 @@ up-to-requires c κs = search needs
 returns-2 : tie.Need-returns-2
 unfolding optionAt pick
 returns-2 c =
-    rw (← c .before .before .before .before .before .token-at .ensures .is, ← c .before .before .before .before .items-in .ensures, ne-eqb _ _ (c .before .before .before .if1 .left), ← c .before .before .token-at2 .ensures .is, ← c .before .up-to .ensures, lt-ltb _ _ (c .if2 .taken))
+    rw (← c .before .before .before .before .before .array-at .ensures .is, ← c .before .before .before .before .items-in .ensures, ne-eqb _ _ (c .before .before .before .if1 .left), ← c .before .before .number-at .ensures .is, ← c .before .up-to .ensures, lt-ltb _ _ (c .if2 .taken))
 
 -- src/shape.rt:248:9
 returns-3 : tie.Need-returns-3
 unfolding optionAt pick
 returns-3 c =
-    rw (← c .before .before .before .before .before .before .token-at .ensures .is, ← c .before .before .before .before .before .items-in .ensures, ne-eqb _ _ (c .before .before .before .before .if1 .left), ← c .before .before .before .token-at2 .ensures .is, ← c .before .before .up-to .ensures, le-ltb _ _ (c .before .if2 .left), lt-ltb _ _ (c .if3 .taken))
+    rw (← c .before .before .before .before .before .before .array-at .ensures .is, ← c .before .before .before .before .before .items-in .ensures, ne-eqb _ _ (c .before .before .before .before .if1 .left), ← c .before .before .before .number-at .ensures .is, ← c .before .before .up-to .ensures, le-ltb _ _ (c .before .if2 .left), lt-ltb _ _ (c .if3 .taken))
 
 -- src/shape.rt:252:13
 ended-requires : tie.Need-ended-requires
@@ -56,7 +58,7 @@ ended-requires c κs = search needs
 returns-4 : tie.Need-returns-4
 unfolding optionAt pick
 returns-4 c =
-    rw (← c .before .before .before .before .before .before .before .before .before .before .token-at .ensures .is, ← c .before .before .before .before .before .before .before .before .before .items-in .ensures, ne-eqb _ _ (c .before .before .before .before .before .before .before .before .if1 .left), ← c .before .before .before .before .before .before .before .token-at2 .ensures .is, ← c .before .before .before .before .before .before .up-to .ensures, le-ltb _ _ (c .before .before .before .before .before .if2 .left), le-ltb _ _ (c .before .before .before .before .if3 .left), eq-eqb _ _ (c .before .before .if4 .taken), eq-eqb _ _ (c .before .if5 .taken), ← c .ended .ensures)
+    rw (← c .before .before .before .before .before .before .before .before .before .before .array-at .ensures .is, ← c .before .before .before .before .before .before .before .before .before .items-in .ensures, ne-eqb _ _ (c .before .before .before .before .before .before .before .before .if1 .left), ← c .before .before .before .before .before .before .before .number-at .ensures .is, ← c .before .before .before .before .before .before .up-to .ensures, le-ltb _ _ (c .before .before .before .before .before .if2 .left), le-ltb _ _ (c .before .before .before .before .if3 .left), eq-eqb _ _ (c .before .before .if4 .taken), eq-eqb _ _ (c .before .if5 .taken), ← c .ended .ensures)
 
 -- src/shape.rt:254:9
 ended-requires-2 : tie.Need-ended-requires-2
@@ -66,29 +68,29 @@ ended-requires-2 c κs = search needs
 returns-5 : tie.Need-returns-5
 unfolding optionAt pick
 returns-5 c =
-    rw (← c .before .before .before .before .before .before .before .before .before .before .token-at .ensures .is, ← c .before .before .before .before .before .before .before .before .before .items-in .ensures, ne-eqb _ _ (c .before .before .before .before .before .before .before .before .if1 .left), ← c .before .before .before .before .before .before .before .token-at2 .ensures .is, ← c .before .before .before .before .before .before .up-to .ensures, le-ltb _ _ (c .before .before .before .before .before .if2 .left), le-ltb _ _ (c .before .before .before .before .if3 .left), eq-eqb _ _ (c .before .before .if4 .taken), ne-eqb _ _ (c .before .if5 .left), ← c .ended2 .ensures)
+    rw (← c .before .before .before .before .before .before .before .before .before .before .array-at .ensures .is, ← c .before .before .before .before .before .before .before .before .before .items-in .ensures, ne-eqb _ _ (c .before .before .before .before .before .before .before .before .if1 .left), ← c .before .before .before .before .before .before .before .number-at .ensures .is, ← c .before .before .before .before .before .before .up-to .ensures, le-ltb _ _ (c .before .before .before .before .before .if2 .left), le-ltb _ _ (c .before .before .before .before .if3 .left), eq-eqb _ _ (c .before .before .if4 .taken), ne-eqb _ _ (c .before .if5 .left), ← c .ended2 .ensures)
 
 -- src/shape.rt:257:9
 returns-6 : tie.Need-returns-6
 unfolding optionAt pick
 returns-6 c =
-    rw (← c .before .before .before .before .before .before .before .before .before .token-at .ensures .is, ← c .before .before .before .before .before .before .before .before .items-in .ensures, ne-eqb _ _ (c .before .before .before .before .before .before .before .if1 .left), ← c .before .before .before .before .before .before .token-at2 .ensures .is, ← c .before .before .before .before .before .up-to .ensures, le-ltb _ _ (c .before .before .before .before .if2 .left), le-ltb _ _ (c .before .before .before .if3 .left), ne-eqb _ _ (c .before .if4 .left), eq-eqb _ _ (c .if6 .taken))
+    rw (← c .before .before .before .before .before .before .before .before .before .array-at .ensures .is, ← c .before .before .before .before .before .before .before .before .items-in .ensures, ne-eqb _ _ (c .before .before .before .before .before .before .before .if1 .left), ← c .before .before .before .before .before .before .number-at .ensures .is, ← c .before .before .before .before .before .up-to .ensures, le-ltb _ _ (c .before .before .before .before .if2 .left), le-ltb _ _ (c .before .before .before .if3 .left), ne-eqb _ _ (c .before .if4 .left), eq-eqb _ _ (c .if6 .taken))
 
 -- src/shape.rt:260:9
 returns-7 : tie.Need-returns-7
 unfolding optionAt pick
 returns-7 c =
-    rw (← c .before .before .before .before .before .before .before .before .before .before .before .token-at .ensures .is, ← c .before .before .before .before .before .before .before .before .before .before .items-in .ensures, ne-eqb _ _ (c .before .before .before .before .before .before .before .before .before .if1 .left), ← c .before .before .before .before .before .before .before .before .token-at2 .ensures .is, ← c .before .before .before .before .before .before .before .up-to .ensures, le-ltb _ _ (c .before .before .before .before .before .before .if2 .left), le-ltb _ _ (c .before .before .before .before .before .if3 .left), ne-eqb _ _ (c .before .before .before .if4 .left), ne-eqb _ _ (c .before .before .if6 .left), ne-eqb _ _ (c .if7 .taken))
+    rw (← c .before .before .before .before .before .before .before .before .before .before .before .array-at .ensures .is, ← c .before .before .before .before .before .before .before .before .before .before .items-in .ensures, ne-eqb _ _ (c .before .before .before .before .before .before .before .before .before .if1 .left), ← c .before .before .before .before .before .before .before .before .number-at .ensures .is, ← c .before .before .before .before .before .before .before .up-to .ensures, le-ltb _ _ (c .before .before .before .before .before .before .if2 .left), le-ltb _ _ (c .before .before .before .before .before .if3 .left), ne-eqb _ _ (c .before .before .before .if4 .left), ne-eqb _ _ (c .before .before .if6 .left), ne-eqb _ _ (c .if7 .taken))
 
 -- src/shape.rt:262:9
-token-at-requires-3 : tie.Need-token-at-requires-3
-token-at-requires-3 c κs = search needs
+string-at-requires : tie.Need-string-at-requires
+string-at-requires c κs = search needs
 
 -- src/shape.rt:264:9
 returns-8 : tie.Need-returns-8
 unfolding optionAt pick
 returns-8 c =
-    rw (← c .before .before .before .before .before .before .before .before .before .before .before .before .before .before .token-at .ensures .is, ← c .before .before .before .before .before .before .before .before .before .before .before .before .before .items-in .ensures, ne-eqb _ _ (c .before .before .before .before .before .before .before .before .before .before .before .before .if1 .left), ← c .before .before .before .before .before .before .before .before .before .before .before .token-at2 .ensures .is, ← c .before .before .before .before .before .before .before .before .before .before .up-to .ensures, le-ltb _ _ (c .before .before .before .before .before .before .before .before .before .if2 .left), le-ltb _ _ (c .before .before .before .before .before .before .before .before .if3 .left), ne-eqb _ _ (c .before .before .before .before .before .before .if4 .left), ne-eqb _ _ (c .before .before .before .before .before .if6 .left), eq-eqb _ _ (c .before .before .before .if7 .left), ← c .before .before .token-at3 .ensures .is, ne-eqb _ _ (c .if8 .taken))
+    rw (← c .before .before .before .before .before .before .before .before .before .before .before .before .before .before .array-at .ensures .is, ← c .before .before .before .before .before .before .before .before .before .before .before .before .before .items-in .ensures, ne-eqb _ _ (c .before .before .before .before .before .before .before .before .before .before .before .before .if1 .left), ← c .before .before .before .before .before .before .before .before .before .before .before .number-at .ensures .is, ← c .before .before .before .before .before .before .before .before .before .before .up-to .ensures, le-ltb _ _ (c .before .before .before .before .before .before .before .before .before .if2 .left), le-ltb _ _ (c .before .before .before .before .before .before .before .before .if3 .left), ne-eqb _ _ (c .before .before .before .before .before .before .if4 .left), ne-eqb _ _ (c .before .before .before .before .before .if6 .left), eq-eqb _ _ (c .before .before .before .if7 .left), ← c .before .before .string-at .ensures .is, ne-eqb _ _ (c .if8 .taken))
 
 -- src/shape.rt:268:14
 sub-t15 : tie.Need-sub-t15
@@ -106,16 +108,16 @@ ended-requires-3 c κs = search needs
 returns-9 : tie.Need-returns-9
 unfolding optionAt pick
 returns-9 c =
-    rw (← c .before .before .before .before .before .before .before .before .before .before .before .before .before .before .before .before .before .token-at .ensures .is, ← c .before .before .before .before .before .before .before .before .before .before .before .before .before .before .before .before .items-in .ensures, ne-eqb _ _ (c .before .before .before .before .before .before .before .before .before .before .before .before .before .before .before .if1 .left), ← c .before .before .before .before .before .before .before .before .before .before .before .before .before .before .token-at2 .ensures .is, ← c .before .before .before .before .before .before .before .before .before .before .before .before .before .up-to .ensures, le-ltb _ _ (c .before .before .before .before .before .before .before .before .before .before .before .before .if2 .left), le-ltb _ _ (c .before .before .before .before .before .before .before .before .before .before .before .if3 .left), ne-eqb _ _ (c .before .before .before .before .before .before .before .before .before .if4 .left), ne-eqb _ _ (c .before .before .before .before .before .before .before .before .if6 .left), eq-eqb _ _ (c .before .before .before .before .before .before .if7 .left), ← c .before .before .before .before .before .token-at3 .ensures .is, eq-eqb _ _ (c .before .before .before .if8 .left), ← c .before .bad-text .ensures, ← c .ended3 .ensures)
+    rw (← c .before .before .before .before .before .before .before .before .before .before .before .before .before .before .before .before .before .array-at .ensures .is, ← c .before .before .before .before .before .before .before .before .before .before .before .before .before .before .before .before .items-in .ensures, ne-eqb _ _ (c .before .before .before .before .before .before .before .before .before .before .before .before .before .before .before .if1 .left), ← c .before .before .before .before .before .before .before .before .before .before .before .before .before .before .number-at .ensures .is, ← c .before .before .before .before .before .before .before .before .before .before .before .before .before .up-to .ensures, le-ltb _ _ (c .before .before .before .before .before .before .before .before .before .before .before .before .if2 .left), le-ltb _ _ (c .before .before .before .before .before .before .before .before .before .before .before .if3 .left), ne-eqb _ _ (c .before .before .before .before .before .before .before .before .before .if4 .left), ne-eqb _ _ (c .before .before .before .before .before .before .before .before .if6 .left), eq-eqb _ _ (c .before .before .before .before .before .before .if7 .left), ← c .before .before .before .before .before .string-at .ensures .is, eq-eqb _ _ (c .before .before .before .if8 .left), ← c .before .bad-text .ensures, ← c .ended3 .ensures)
 
 pub option-at-spec : {M : Type 1} → statement M
 option-at-spec =
     tie.close
     (tie.spec
-    token-at-requires
+    array-at-requires
     items-in-requires
     returns
-    token-at-requires-2
+    number-at-requires
     up-to-requires
     returns-2
     returns-3
@@ -125,7 +127,7 @@ option-at-spec =
     returns-5
     returns-6
     returns-7
-    token-at-requires-3
+    string-at-requires
     returns-8
     sub-t15
     bad-text-requires

@@ -8,7 +8,7 @@ use Rattle.message.proofs.shape.wait_at.Statement.{statement}
 use Rattle.message.proofs.shape.wait_at.Tie as tie
 use Rattle.message.proofs.shape.wait_at.Reads as reads
 use Rattle.message.proofs.shape.wait_at.Lts as lts
-use Rattle.cbor.proofs.token.token_at.Reads as token-at-reads
+use Rattle.cbor.proofs.token.number_at.Reads as number-at-reads
 use Rattle.cbor.proofs.token.up_to.Reads as up-to-reads
 
 -- src/shape.rt:157:9
@@ -18,8 +18,8 @@ returns c =
     rw (ne-eqb _ _ (c .if1 .taken))
 
 -- src/shape.rt:159:9
-token-at-requires : tie.Need-token-at-requires
-token-at-requires c κs = search needs
+number-at-requires : tie.Need-number-at-requires
+number-at-requires c κs = search needs
 
 -- src/shape.rt:160:9
 up-to-requires : tie.Need-up-to-requires
@@ -33,11 +33,11 @@ cast-if2 c = search needs
 returns-2 : tie.Need-returns-2
 unfolding waitAt pick
 returns-2 c =
-    rw (eq-eqb _ _ (c .before .before .before .if1 .left), ← c .before .before .token-at .ensures .is, ← c .before .up-to .ensures, lt-ltb _ _ (c .if2 .taken))
+    rw (eq-eqb _ _ (c .before .before .before .if1 .left), ← c .before .before .number-at .ensures .is, ← c .before .up-to .ensures, lt-ltb _ _ (c .if2 .taken))
 
 -- src/shape.rt:164:9
-token-at-requires-2 : tie.Need-token-at-requires-2
-token-at-requires-2 c κs = search needs
+number-at-requires-2 : tie.Need-number-at-requires-2
+number-at-requires-2 c κs = search needs
 
 -- src/shape.rt:165:9
 up-to-requires-2 : tie.Need-up-to-requires-2
@@ -51,7 +51,7 @@ cast-if3 c = search needs
 returns-3 : tie.Need-returns-3
 unfolding waitAt pick
 returns-3 c =
-    rw (eq-eqb _ _ (c .before .before .before .before .before .before .if1 .left), ← c .before .before .before .before .before .token-at .ensures .is, ← c .before .before .before .before .up-to .ensures, le-ltb _ _ (c .before .before .before .if2 .left), ← c .before .before .token-at2 .ensures .is, ← c .before .up-to2 .ensures, lt-ltb _ _ (c .if3 .taken))
+    rw (eq-eqb _ _ (c .before .before .before .before .before .before .if1 .left), ← c .before .before .before .before .before .number-at .ensures .is, ← c .before .before .before .before .up-to .ensures, le-ltb _ _ (c .before .before .before .if2 .left), ← c .before .before .number-at2 .ensures .is, ← c .before .up-to2 .ensures, lt-ltb _ _ (c .if3 .taken))
 
 -- src/shape.rt:171:22
 cast-t10 : tie.Need-cast-t10
@@ -65,18 +65,18 @@ cast-t11 c = search needs
 returns-4 : tie.Need-returns-4
 unfolding waitAt pick
 returns-4 c =
-    rw (eq-eqb _ _ (c .before .before .before .before .before .before .if1 .left), ← c .before .before .before .before .before .token-at .ensures .is, ← c .before .before .before .before .up-to .ensures, le-ltb _ _ (c .before .before .before .if2 .left), ← c .before .before .token-at2 .ensures .is, ← c .before .up-to2 .ensures, le-ltb _ _ (c .if3 .left))
+    rw (eq-eqb _ _ (c .before .before .before .before .before .before .if1 .left), ← c .before .before .before .before .before .number-at .ensures .is, ← c .before .before .before .before .up-to .ensures, le-ltb _ _ (c .before .before .before .if2 .left), ← c .before .before .number-at2 .ensures .is, ← c .before .up-to2 .ensures, le-ltb _ _ (c .if3 .left))
 
 pub wait-at-spec : {M : Type 1} → statement M
 wait-at-spec =
     tie.close
     (tie.spec
     returns
-    token-at-requires
+    number-at-requires
     up-to-requires
     cast-if2
     returns-2
-    token-at-requires-2
+    number-at-requires-2
     up-to-requires-2
     cast-if3
     returns-3

@@ -10,7 +10,9 @@ use Rattle.options.proofs.locator.read_in.Tie as tie
 use Rattle.options.proofs.locator.read_in.Reads as reads
 use Rattle.options.proofs.locator.read_in.Lts as lts
 use Rattle.cbor.proofs.token.items_in.Reads as items-in-reads
-use Rattle.cbor.proofs.token.token_at.Reads as token-at-reads
+use Rattle.cbor.proofs.token.array_at.Reads as array-at-reads
+use Rattle.cbor.proofs.token.number_at.Reads as number-at-reads
+use Rattle.cbor.proofs.token.string_at.Reads as string-at-reads
 use Rattle.cbor.proofs.token.up_to.Reads as up-to-reads
 use Rattle.options.proofs.locator.address_fits.Reads as address-fits-reads
 use Rattle.options.proofs.locator.locator_of.Reads as locator-of-reads
@@ -19,8 +21,8 @@ use Rattle.options.proofs.locator.protocol_of.Reads as protocol-of-read
 use Rattle.options.proofs.locator.text_of.Reads as text-of-reads
 
 -- src/locator.rt:45:9
-token-at-requires : tie.Need-token-at-requires
-token-at-requires c κs = search needs
+array-at-requires : tie.Need-array-at-requires
+array-at-requires c κs = search needs
 
 -- src/locator.rt:46:8
 items-in-requires : tie.Need-items-in-requires
@@ -30,11 +32,11 @@ items-in-requires c κs = search needs
 returns : tie.Need-returns
 unfolding locatorIn pick
 returns c =
-    rw (← c .before .before .token-at .ensures .is, ← c .before .items-in .ensures, eq-eqb _ _ (c .if1 .taken))
+    rw (← c .before .before .array-at .ensures .is, ← c .before .items-in .ensures, eq-eqb _ _ (c .if1 .taken))
 
 -- src/locator.rt:49:9
-token-at-requires-2 : tie.Need-token-at-requires-2
-token-at-requires-2 c κs = search needs
+number-at-requires : tie.Need-number-at-requires
+number-at-requires c κs = search needs
 
 -- src/locator.rt:50:9
 up-to-requires : tie.Need-up-to-requires
@@ -48,7 +50,7 @@ add-t15 c = search needs
 returns-2 : tie.Need-returns-2
 unfolding locatorIn pick
 returns-2 c =
-    rw (← c .before .before .before .before .before .before .token-at .ensures .is, ← c .before .before .before .before .before .items-in .ensures, ne-eqb _ _ (c .before .before .before .before .if1 .left), ← c .before .before .before .token-at2 .ensures .is, ← c .before .before .up-to .ensures, lt-ltb _ _ (c .before .if2 .taken))
+    rw (← c .before .before .before .before .before .before .array-at .ensures .is, ← c .before .before .before .before .before .items-in .ensures, ne-eqb _ _ (c .before .before .before .before .if1 .left), ← c .before .before .before .number-at .ensures .is, ← c .before .before .up-to .ensures, lt-ltb _ _ (c .before .if2 .taken))
 
 -- src/locator.rt:55:33
 add-t16 : tie.Need-add-t16
@@ -58,17 +60,17 @@ add-t16 c = search needs
 returns-3 : tie.Need-returns-3
 unfolding locatorIn pick
 returns-3 c =
-    rw (← c .before .before .before .before .before .before .before .token-at .ensures .is, ← c .before .before .before .before .before .before .items-in .ensures, ne-eqb _ _ (c .before .before .before .before .before .if1 .left), ← c .before .before .before .before .token-at2 .ensures .is, ← c .before .before .before .up-to .ensures, le-ltb _ _ (c .before .before .if2 .left), lt-ltb _ _ (c .before .if3 .taken))
+    rw (← c .before .before .before .before .before .before .before .array-at .ensures .is, ← c .before .before .before .before .before .before .items-in .ensures, ne-eqb _ _ (c .before .before .before .before .before .if1 .left), ← c .before .before .before .before .number-at .ensures .is, ← c .before .before .before .up-to .ensures, le-ltb _ _ (c .before .before .if2 .left), lt-ltb _ _ (c .before .if3 .taken))
 
 -- src/locator.rt:58:9
 returns-4 : tie.Need-returns-4
 unfolding locatorIn pick
 returns-4 c =
-    rw (← c .before .before .before .before .before .before .before .before .token-at .ensures .is, ← c .before .before .before .before .before .before .before .items-in .ensures, ne-eqb _ _ (c .before .before .before .before .before .before .if1 .left), ← c .before .before .before .before .before .token-at2 .ensures .is, ← c .before .before .before .before .up-to .ensures, le-ltb _ _ (c .before .before .before .if2 .left), le-ltb _ _ (c .before .before .if3 .left), ne-eqb _ _ (c .if4 .taken))
+    rw (← c .before .before .before .before .before .before .before .before .array-at .ensures .is, ← c .before .before .before .before .before .before .before .items-in .ensures, ne-eqb _ _ (c .before .before .before .before .before .before .if1 .left), ← c .before .before .before .before .before .number-at .ensures .is, ← c .before .before .before .before .up-to .ensures, le-ltb _ _ (c .before .before .before .if2 .left), le-ltb _ _ (c .before .before .if3 .left), ne-eqb _ _ (c .if4 .taken))
 
 -- src/locator.rt:60:9
-token-at-requires-3 : tie.Need-token-at-requires-3
-token-at-requires-3 c κs = search needs
+string-at-requires : tie.Need-string-at-requires
+string-at-requires c κs = search needs
 
 -- src/locator.rt:61:9
 address-fits-requires : tie.Need-address-fits-requires
@@ -82,11 +84,11 @@ add-t18 c = search needs
 returns-5 : tie.Need-returns-5
 unfolding locatorIn pick
 returns-5 c =
-    rw (← c .before .before .before .before .before .before .before .before .before .before .before .before .token-at .ensures .is, ← c .before .before .before .before .before .before .before .before .before .before .before .items-in .ensures, ne-eqb _ _ (c .before .before .before .before .before .before .before .before .before .before .if1 .left), ← c .before .before .before .before .before .before .before .before .before .token-at2 .ensures .is, ← c .before .before .before .before .before .before .before .before .up-to .ensures, le-ltb _ _ (c .before .before .before .before .before .before .before .if2 .left), le-ltb _ _ (c .before .before .before .before .before .before .if3 .left), eq-eqb _ _ (c .before .before .before .before .if4 .left), ← c .before .before .before .token-at3 .ensures .is, ← c .before .before .address-fits .ensures, not-true (c .before .before .address-fits .result) (c .before .if5 .taken))
+    rw (← c .before .before .before .before .before .before .before .before .before .before .before .before .array-at .ensures .is, ← c .before .before .before .before .before .before .before .before .before .before .before .items-in .ensures, ne-eqb _ _ (c .before .before .before .before .before .before .before .before .before .before .if1 .left), ← c .before .before .before .before .before .before .before .before .before .number-at .ensures .is, ← c .before .before .before .before .before .before .before .before .up-to .ensures, le-ltb _ _ (c .before .before .before .before .before .before .before .if2 .left), le-ltb _ _ (c .before .before .before .before .before .before .if3 .left), eq-eqb _ _ (c .before .before .before .before .if4 .left), ← c .before .before .before .string-at .ensures .is, ← c .before .before .address-fits .ensures, not-true (c .before .before .address-fits .result) (c .before .if5 .taken))
 
 -- src/locator.rt:64:9
-token-at-requires-4 : tie.Need-token-at-requires-4
-token-at-requires-4 c κs = search needs
+number-at-requires-2 : tie.Need-number-at-requires-2
+number-at-requires-2 c κs = search needs
 
 -- src/locator.rt:65:9
 protocol-of-requires : tie.Need-protocol-of-requires
@@ -100,11 +102,11 @@ add-t19 c = search needs
 returns-6 : tie.Need-returns-6
 unfolding locatorIn pick
 returns-6 c =
-    rw (← c .before .before .before .before .before .before .before .before .before .before .before .before .before .before .before .token-at .ensures .is, ← c .before .before .before .before .before .before .before .before .before .before .before .before .before .before .items-in .ensures, ne-eqb _ _ (c .before .before .before .before .before .before .before .before .before .before .before .before .before .if1 .left), ← c .before .before .before .before .before .before .before .before .before .before .before .before .token-at2 .ensures .is, ← c .before .before .before .before .before .before .before .before .before .before .before .up-to .ensures, le-ltb _ _ (c .before .before .before .before .before .before .before .before .before .before .if2 .left), le-ltb _ _ (c .before .before .before .before .before .before .before .before .before .if3 .left), eq-eqb _ _ (c .before .before .before .before .before .before .before .if4 .left), ← c .before .before .before .before .before .before .token-at3 .ensures .is, ← c .before .before .before .before .before .address-fits .ensures, not-false (c .before .before .before .before .before .address-fits .result) (c .before .before .before .before .if5 .left), ← c .before .before .before .token-at4 .ensures .is, ← c .before .before .protocol-of .ensures, eq-eqb _ _ (c .before .if6 .taken))
+    rw (← c .before .before .before .before .before .before .before .before .before .before .before .before .before .before .before .array-at .ensures .is, ← c .before .before .before .before .before .before .before .before .before .before .before .before .before .before .items-in .ensures, ne-eqb _ _ (c .before .before .before .before .before .before .before .before .before .before .before .before .before .if1 .left), ← c .before .before .before .before .before .before .before .before .before .before .before .before .number-at .ensures .is, ← c .before .before .before .before .before .before .before .before .before .before .before .up-to .ensures, le-ltb _ _ (c .before .before .before .before .before .before .before .before .before .before .if2 .left), le-ltb _ _ (c .before .before .before .before .before .before .before .before .before .if3 .left), eq-eqb _ _ (c .before .before .before .before .before .before .before .if4 .left), ← c .before .before .before .before .before .before .string-at .ensures .is, ← c .before .before .before .before .before .address-fits .ensures, not-false (c .before .before .before .before .before .address-fits .result) (c .before .before .before .before .if5 .left), ← c .before .before .before .number-at2 .ensures .is, ← c .before .before .protocol-of .ensures, eq-eqb _ _ (c .before .if6 .taken))
 
 -- src/locator.rt:69:9
-token-at-requires-5 : tie.Need-token-at-requires-5
-token-at-requires-5 c κs = search needs
+number-at-requires-3 : tie.Need-number-at-requires-3
+number-at-requires-3 c κs = search needs
 
 -- src/locator.rt:70:9
 port-of-requires : tie.Need-port-of-requires
@@ -113,18 +115,18 @@ port-of-requires c κs = search needs
 -- src/locator.rt:72:33
 add-t20 : tie.Need-add-t20
 add-t20 c =
-    omega (arith, c .before .before .before .token-at5 .ensures, c .before .before .before .before .before .before .token-at4 .ensures, c .before .before .before .before .before .before .before .before .before .token-at3 .ensures, c .before .before .before .before .before .before .before .before .before .before .before .before .before .before .before .token-at2 .ensures, c .before .before .before .before .before .before .before .before .before .before .before .before .before .before .before .before .before .before .token-at .ensures, c .before .before .before .before .before .before .before .before .before .before .before .before .before .before .before .before .before .before .before .before .good, c .before .before .before .before .before .before .before .before .before .before .before .before .before .before .before .before .before .before .before .before .pre)
+    omega (arith, c .before .before .before .number-at3 .ensures, c .before .before .before .before .before .before .number-at2 .ensures, c .before .before .before .before .before .before .before .before .before .string-at .ensures, c .before .before .before .before .before .before .before .before .before .before .before .before .before .before .before .number-at .ensures, c .before .before .before .before .before .before .before .before .before .before .before .before .before .before .before .before .before .before .array-at .ensures, c .before .before .before .before .before .before .before .before .before .before .before .before .before .before .before .before .before .before .before .before .good, c .before .before .before .before .before .before .before .before .before .before .before .before .before .before .before .before .before .before .before .before .pre)
 
 -- src/locator.rt:72:9
 returns-7 : tie.Need-returns-7
 unfolding locatorIn pick
 returns-7 c =
-    rw (← c .before .before .before .before .before .before .before .before .before .before .before .before .before .before .before .before .before .before .token-at .ensures .is, ← c .before .before .before .before .before .before .before .before .before .before .before .before .before .before .before .before .before .items-in .ensures, ne-eqb _ _ (c .before .before .before .before .before .before .before .before .before .before .before .before .before .before .before .before .if1 .left), ← c .before .before .before .before .before .before .before .before .before .before .before .before .before .before .before .token-at2 .ensures .is, ← c .before .before .before .before .before .before .before .before .before .before .before .before .before .before .up-to .ensures, le-ltb _ _ (c .before .before .before .before .before .before .before .before .before .before .before .before .before .if2 .left), le-ltb _ _ (c .before .before .before .before .before .before .before .before .before .before .before .before .if3 .left), eq-eqb _ _ (c .before .before .before .before .before .before .before .before .before .before .if4 .left), ← c .before .before .before .before .before .before .before .before .before .token-at3 .ensures .is, ← c .before .before .before .before .before .before .before .before .address-fits .ensures, not-false (c .before .before .before .before .before .before .before .before .address-fits .result) (c .before .before .before .before .before .before .before .if5 .left), ← c .before .before .before .before .before .before .token-at4 .ensures .is, ← c .before .before .before .before .before .protocol-of .ensures, ne-eqb _ _ (c .before .before .before .before .if6 .left), ← c .before .before .before .token-at5 .ensures .is, ← c .before .before .port-of .ensures, lt-ltb _ _ (c .before .if7 .taken))
+    rw (← c .before .before .before .before .before .before .before .before .before .before .before .before .before .before .before .before .before .before .array-at .ensures .is, ← c .before .before .before .before .before .before .before .before .before .before .before .before .before .before .before .before .before .items-in .ensures, ne-eqb _ _ (c .before .before .before .before .before .before .before .before .before .before .before .before .before .before .before .before .if1 .left), ← c .before .before .before .before .before .before .before .before .before .before .before .before .before .before .before .number-at .ensures .is, ← c .before .before .before .before .before .before .before .before .before .before .before .before .before .before .up-to .ensures, le-ltb _ _ (c .before .before .before .before .before .before .before .before .before .before .before .before .before .if2 .left), le-ltb _ _ (c .before .before .before .before .before .before .before .before .before .before .before .before .if3 .left), eq-eqb _ _ (c .before .before .before .before .before .before .before .before .before .before .if4 .left), ← c .before .before .before .before .before .before .before .before .before .string-at .ensures .is, ← c .before .before .before .before .before .before .before .before .address-fits .ensures, not-false (c .before .before .before .before .before .before .before .before .address-fits .result) (c .before .before .before .before .before .before .before .if5 .left), ← c .before .before .before .before .before .before .number-at2 .ensures .is, ← c .before .before .before .before .before .protocol-of .ensures, ne-eqb _ _ (c .before .before .before .before .if6 .left), ← c .before .before .before .number-at3 .ensures .is, ← c .before .before .port-of .ensures, lt-ltb _ _ (c .before .if7 .taken))
 
 -- src/locator.rt:74:36
 add-locator-of : tie.Need-add-locator-of
 add-locator-of c =
-    omega (arith, c .before .before .before .token-at5 .ensures, c .before .before .before .before .before .before .token-at4 .ensures, c .before .before .before .before .before .before .before .before .before .token-at3 .ensures, c .before .before .before .before .before .before .before .before .before .before .before .before .before .before .before .token-at2 .ensures, c .before .before .before .before .before .before .before .before .before .before .before .before .before .before .before .before .before .before .token-at .ensures, c .before .before .before .before .before .before .before .before .before .before .before .before .before .before .before .before .before .before .before .before .good, c .before .before .before .before .before .before .before .before .before .before .before .before .before .before .before .before .before .before .before .before .pre)
+    omega (arith, c .before .before .before .number-at3 .ensures, c .before .before .before .before .before .before .number-at2 .ensures, c .before .before .before .before .before .before .before .before .before .string-at .ensures, c .before .before .before .before .before .before .before .before .before .before .before .before .before .before .before .number-at .ensures, c .before .before .before .before .before .before .before .before .before .before .before .before .before .before .before .before .before .before .array-at .ensures, c .before .before .before .before .before .before .before .before .before .before .before .before .before .before .before .before .before .before .before .before .good, c .before .before .before .before .before .before .before .before .before .before .before .before .before .before .before .before .before .before .before .before .pre)
 
 -- src/locator.rt:74:51
 sub-locator-of : tie.Need-sub-locator-of
@@ -137,7 +139,7 @@ locator-of-requires c κs = search needs
 -- src/locator.rt:75:35
 add-text-of : tie.Need-add-text-of
 add-text-of c =
-    omega (arith, c .before .before .before .before .before .before .token-at5 .ensures, c .before .before .before .before .before .before .before .before .before .token-at4 .ensures, c .before .before .before .before .before .before .before .before .before .before .before .before .token-at3 .ensures, c .before .before .before .before .before .before .before .before .before .before .before .before .before .before .before .before .before .before .token-at2 .ensures, c .before .before .before .before .before .before .before .before .before .before .before .before .before .before .before .before .before .before .before .before .before .token-at .ensures, c .before .before .before .before .before .before .before .before .before .before .before .before .before .before .before .before .before .before .before .before .before .before .before .good, c .before .before .before .before .before .before .before .before .before .before .before .before .before .before .before .before .before .before .before .before .before .before .before .pre)
+    omega (arith, c .before .before .before .before .before .before .number-at3 .ensures, c .before .before .before .before .before .before .before .before .before .number-at2 .ensures, c .before .before .before .before .before .before .before .before .before .before .before .before .string-at .ensures, c .before .before .before .before .before .before .before .before .before .before .before .before .before .before .before .before .before .before .number-at .ensures, c .before .before .before .before .before .before .before .before .before .before .before .before .before .before .before .before .before .before .before .before .before .array-at .ensures, c .before .before .before .before .before .before .before .before .before .before .before .before .before .before .before .before .before .before .before .before .before .before .before .good, c .before .before .before .before .before .before .before .before .before .before .before .before .before .before .before .before .before .before .before .before .before .before .before .pre)
 
 -- src/locator.rt:75:9
 text-of-requires : tie.Need-text-of-requires
@@ -147,31 +149,31 @@ text-of-requires c κs = search needs
 returns-8 : tie.Need-returns-8
 unfolding locatorIn pick
 returns-8 c =
-    rw (← c .before .before .before .before .before .before .before .before .before .before .before .before .before .before .before .before .before .before .before .before .before .before .token-at .ensures .is, ← c .before .before .before .before .before .before .before .before .before .before .before .before .before .before .before .before .before .before .before .before .before .items-in .ensures, ne-eqb _ _ (c .before .before .before .before .before .before .before .before .before .before .before .before .before .before .before .before .before .before .before .before .if1 .left), ← c .before .before .before .before .before .before .before .before .before .before .before .before .before .before .before .before .before .before .before .token-at2 .ensures .is, ← c .before .before .before .before .before .before .before .before .before .before .before .before .before .before .before .before .before .before .up-to .ensures, le-ltb _ _ (c .before .before .before .before .before .before .before .before .before .before .before .before .before .before .before .before .before .if2 .left), le-ltb _ _ (c .before .before .before .before .before .before .before .before .before .before .before .before .before .before .before .before .if3 .left), eq-eqb _ _ (c .before .before .before .before .before .before .before .before .before .before .before .before .before .before .if4 .left), ← c .before .before .before .before .before .before .before .before .before .before .before .before .before .token-at3 .ensures .is, ← c .before .before .before .before .before .before .before .before .before .before .before .before .address-fits .ensures, not-false (c .before .before .before .before .before .before .before .before .before .before .before .before .address-fits .result) (c .before .before .before .before .before .before .before .before .before .before .before .if5 .left), ← c .before .before .before .before .before .before .before .before .before .before .token-at4 .ensures .is, ← c .before .before .before .before .before .before .before .before .before .protocol-of .ensures, ne-eqb _ _ (c .before .before .before .before .before .before .before .before .if6 .left), ← c .before .before .before .before .before .before .before .token-at5 .ensures .is, ← c .before .before .before .before .before .before .port-of .ensures, le-ltb _ _ (c .before .before .before .before .before .if7 .left), ← c .before .before .locator-of .ensures, ← c .text-of .ensures)
+    rw (← c .before .before .before .before .before .before .before .before .before .before .before .before .before .before .before .before .before .before .before .before .before .before .array-at .ensures .is, ← c .before .before .before .before .before .before .before .before .before .before .before .before .before .before .before .before .before .before .before .before .before .items-in .ensures, ne-eqb _ _ (c .before .before .before .before .before .before .before .before .before .before .before .before .before .before .before .before .before .before .before .before .if1 .left), ← c .before .before .before .before .before .before .before .before .before .before .before .before .before .before .before .before .before .before .before .number-at .ensures .is, ← c .before .before .before .before .before .before .before .before .before .before .before .before .before .before .before .before .before .before .up-to .ensures, le-ltb _ _ (c .before .before .before .before .before .before .before .before .before .before .before .before .before .before .before .before .before .if2 .left), le-ltb _ _ (c .before .before .before .before .before .before .before .before .before .before .before .before .before .before .before .before .if3 .left), eq-eqb _ _ (c .before .before .before .before .before .before .before .before .before .before .before .before .before .before .if4 .left), ← c .before .before .before .before .before .before .before .before .before .before .before .before .before .string-at .ensures .is, ← c .before .before .before .before .before .before .before .before .before .before .before .before .address-fits .ensures, not-false (c .before .before .before .before .before .before .before .before .before .before .before .before .address-fits .result) (c .before .before .before .before .before .before .before .before .before .before .before .if5 .left), ← c .before .before .before .before .before .before .before .before .before .before .number-at2 .ensures .is, ← c .before .before .before .before .before .before .before .before .before .protocol-of .ensures, ne-eqb _ _ (c .before .before .before .before .before .before .before .before .if6 .left), ← c .before .before .before .before .before .before .before .number-at3 .ensures .is, ← c .before .before .before .before .before .before .port-of .ensures, le-ltb _ _ (c .before .before .before .before .before .if7 .left), ← c .before .before .locator-of .ensures, ← c .text-of .ensures)
 
 pub read-in-spec : {M : Type 1} → statement M
 read-in-spec =
     tie.close
     (tie.spec
-    token-at-requires
+    array-at-requires
     items-in-requires
     returns
-    token-at-requires-2
+    number-at-requires
     up-to-requires
     add-t15
     returns-2
     add-t16
     returns-3
     returns-4
-    token-at-requires-3
+    string-at-requires
     address-fits-requires
     add-t18
     returns-5
-    token-at-requires-4
+    number-at-requires-2
     protocol-of-requires
     add-t19
     returns-6
-    token-at-requires-5
+    number-at-requires-3
     port-of-requires
     add-t20
     returns-7

@@ -13,13 +13,13 @@ use Rattle.options.proofs.pair.read_in.Tie as tie
 use Rattle.options.proofs.pair.read_in.Reads as reads
 use Rattle.options.proofs.pair.read_in.Lts as lts
 use Rattle.cbor.proofs.token.items_in.Reads as items-in-reads
-use Rattle.cbor.proofs.token.token_at.Reads as token-at-reads
+use Rattle.cbor.proofs.token.array_at.Reads as array-at-reads
 use Rattle.options.proofs.objective.read_in.Reads as read-in-reads
 use Rattle.options.proofs.pair.read_tag.Reads as read-tag-reads
 
 -- src/pair.rt:49:9
-token-at-requires : tie.Need-token-at-requires
-token-at-requires c κs = search needs
+array-at-requires : tie.Need-array-at-requires
+array-at-requires c κs = search needs
 
 -- src/pair.rt:50:8
 items-in-requires : tie.Need-items-in-requires
@@ -28,7 +28,7 @@ items-in-requires c κs = search needs
 -- src/pair.rt:51:9
 returns : tie.Need-returns
 unfolding pairIn pick
-returns c = rw (← c .before .before .token-at .ensures .is, ← c .before .items-in .ensures, eq-eqb _ _ (c .if1 .taken))
+returns c = rw (← c .before .before .array-at .ensures .is, ← c .before .items-in .ensures, eq-eqb _ _ (c .if1 .taken))
 
 -- src/pair.rt:54:35
 sub-read-in : tie.Need-sub-read-in
@@ -60,32 +60,32 @@ enum-known-read-2 c = search needs
 
 -- src/pair.rt:64:42
 add-read-tag : tie.Need-add-read-tag
-add-read-tag c = omega (arith, c .before .before .before .before .before .before .before .before .before .before .before .pre, c .before .before .before .before .before .before .before .before .before .token-at .ensures, objective-fits (c .before .before .before .before .before .before .before .before .before .before .before .args .s .now) _ (c .before .before .before .before .before .before .before .before .before .token-at .result .next) _ _ (c .before .before .before .before .before .read-in .ensures) (c .before .before .before .read2 .given .1))
+add-read-tag c = omega (arith, c .before .before .before .before .before .before .before .before .before .before .before .pre, c .before .before .before .before .before .before .before .before .before .array-at .ensures, objective-fits (c .before .before .before .before .before .before .before .before .before .before .before .args .s .now) _ (c .before .before .before .before .before .before .before .before .before .array-at .result .next) _ _ (c .before .before .before .before .before .read-in .ensures) (c .before .before .before .read2 .given .1))
 
 -- src/pair.rt:64:17
 read-tag-requires : tie.Need-read-tag-requires
-read-tag-requires c κs = (c .before .before .before .before .before .before .before .before .before .before .before .pre, omega (arith, c .before .before .before .before .before .before .before .before .before .token-at .ensures, objective-fits (c .before .before .before .before .before .before .before .before .before .before .before .args .s .now) _ (c .before .before .before .before .before .before .before .before .before .token-at .result .next) _ _ (c .before .before .before .before .before .read-in .ensures) (c .before .before .before .read2 .given .1)))
+read-tag-requires c κs = (c .before .before .before .before .before .before .before .before .before .before .before .pre, omega (arith, c .before .before .before .before .before .before .before .before .before .array-at .ensures, objective-fits (c .before .before .before .before .before .before .before .before .before .before .before .args .s .now) _ (c .before .before .before .before .before .before .before .before .before .array-at .result .next) _ _ (c .before .before .before .before .before .read-in .ensures) (c .before .before .before .read2 .given .1)))
 
 -- src/pair.rt:64:17
 returns-2 : tie.Need-returns-2
 unfolding pairLed pick
-returns-2 c = (c .read-tag .ensures) ∙ rw (eq-eqb _ _ (c .before .if2 .taken)) at (pair-found _ _ _ _ _ (ObjectiveRead.Got _ _ _ _) (c .before .before .before .before .before .before .before .before .before .before .token-at .ensures .is) (c .before .before .before .before .before .before .before .before .before .items-in .ensures) (c .before .before .before .before .before .before .before .before .if1 .left) (c .before .before .before .before .before .before .read-in .ensures) (c .before .before .before .before .read2 .given .1))
+returns-2 c = (c .read-tag .ensures) ∙ rw (eq-eqb _ _ (c .before .if2 .taken)) at (pair-found _ _ _ _ _ (ObjectiveRead.Got _ _ _ _) (c .before .before .before .before .before .before .before .before .before .before .array-at .ensures .is) (c .before .before .before .before .before .before .before .before .before .items-in .ensures) (c .before .before .before .before .before .before .before .before .if1 .left) (c .before .before .before .before .before .before .read-in .ensures) (c .before .before .before .before .read2 .given .1))
 
 -- src/pair.rt:45:1
 returns-3 : tie.Need-returns-3
 unfolding pairLed pick
-returns-3 c = pair-found _ _ _ _ _ (ObjectiveRead.Bad _) (c .before .before .before .before .before .before .before .token-at .ensures .is) (c .before .before .before .before .before .before .items-in .ensures) (c .before .before .before .before .before .if1 .left) (c .before .before .before .read-in .ensures) (c .before .read .given .1)
+returns-3 c = pair-found _ _ _ _ _ (ObjectiveRead.Bad _) (c .before .before .before .before .before .before .before .array-at .ensures .is) (c .before .before .before .before .before .before .items-in .ensures) (c .before .before .before .before .before .if1 .left) (c .before .before .before .read-in .ensures) (c .before .read .given .1)
 
 -- src/pair.rt:45:1
 returns-4 : tie.Need-returns-4
 unfolding pairLed pick
-returns-4 c = rw (ne-eqb _ _ (c .if2 .left)) at (pair-found _ _ _ _ _ (ObjectiveRead.Got _ _ _ _) (c .before .before .before .before .before .before .before .before .before .token-at .ensures .is) (c .before .before .before .before .before .before .before .before .items-in .ensures) (c .before .before .before .before .before .before .before .if1 .left) (c .before .before .before .before .before .read-in .ensures) (c .before .before .before .read2 .given .1))
+returns-4 c = rw (ne-eqb _ _ (c .if2 .left)) at (pair-found _ _ _ _ _ (ObjectiveRead.Got _ _ _ _) (c .before .before .before .before .before .before .before .before .before .array-at .ensures .is) (c .before .before .before .before .before .before .before .before .items-in .ensures) (c .before .before .before .before .before .before .before .if1 .left) (c .before .before .before .before .before .read-in .ensures) (c .before .before .before .read2 .given .1))
 
 pub read-in-spec : {M : Type 1} → statement M
 read-in-spec =
     tie.close
     (tie.spec
-    token-at-requires
+    array-at-requires
     items-in-requires
     returns
     sub-read-in

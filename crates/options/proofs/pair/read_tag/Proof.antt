@@ -10,14 +10,14 @@ use Rattle.options.proofs.pair.read_tag.Statement.{statement}
 use Rattle.options.proofs.pair.read_tag.Tie as tie
 use Rattle.options.proofs.pair.read_tag.Reads as reads
 use Rattle.options.proofs.pair.read_tag.Lts as lts
-use Rattle.cbor.proofs.token.token_at.Reads as token-at-reads
+use Rattle.cbor.proofs.token.array_at.Reads as array-at-reads
 use Rattle.options.proofs.first_of.Reads as first-of-reads
 use Rattle.options.proofs.locator.read_in.Reads as read-in-reads
 use Rattle.options.proofs.pair.is_empty.Reads as is-empty-reads
 
 -- src/pair.rt:83:9
-token-at-requires : tie.Need-token-at-requires
-token-at-requires c κs = search needs
+array-at-requires : tie.Need-array-at-requires
+array-at-requires c κs = search needs
 
 -- src/pair.rt:84:8
 is-empty-requires : tie.Need-is-empty-requires
@@ -26,7 +26,7 @@ is-empty-requires c κs = search needs
 -- src/pair.rt:85:9
 returns : tie.Need-returns
 unfolding pairTail pick
-returns c = rw (← c .before .before .token-at .ensures .is, ← c .before .is-empty .ensures, c .if1 .taken)
+returns c = rw (← c .before .before .array-at .ensures .is, ← c .before .is-empty .ensures, c .if1 .taken)
 
 -- src/pair.rt:93:33
 sub-read-in : tie.Need-sub-read-in
@@ -67,18 +67,18 @@ first-of-requires c κs = search needs
 -- src/pair.rt:72:1
 returns-2 : tie.Need-returns-2
 unfolding pairTagged
-returns-2 c = tail-found _ _ _ _ _ _ _ _ _ (LocatorRead.Bad _) (c .before .before .before .before .before .before .before .token-at .ensures .is) (c .before .before .before .before .before .before .is-empty .ensures) (c .before .before .before .before .before .if1 .left) (c .before .before .before .read-in .ensures) (c .before .read .given .1)
+returns-2 c = tail-found _ _ _ _ _ _ _ _ _ (LocatorRead.Bad _) (c .before .before .before .before .before .before .before .array-at .ensures .is) (c .before .before .before .before .before .before .is-empty .ensures) (c .before .before .before .before .before .if1 .left) (c .before .before .before .read-in .ensures) (c .before .read .given .1)
 
 -- src/pair.rt:72:1
 returns-3 : tie.Need-returns-3
 unfolding pairTagged
-returns-3 c = rw (c .first-of .ensures) (tail-found _ _ _ _ _ _ _ _ _ (LocatorRead.Got _ _ _) (c .before .before .before .before .before .before .before .before .token-at .ensures .is) (c .before .before .before .before .before .before .before .is-empty .ensures) (c .before .before .before .before .before .before .if1 .left) (c .before .before .before .before .read-in .ensures) (c .before .before .read2 .given .1))
+returns-3 c = rw (c .first-of .ensures) (tail-found _ _ _ _ _ _ _ _ _ (LocatorRead.Got _ _ _) (c .before .before .before .before .before .before .before .before .array-at .ensures .is) (c .before .before .before .before .before .before .before .is-empty .ensures) (c .before .before .before .before .before .before .if1 .left) (c .before .before .before .before .read-in .ensures) (c .before .before .read2 .given .1))
 
 pub read-tag-spec : {M : Type 1} → statement M
 read-tag-spec =
     tie.close
     (tie.spec
-    token-at-requires
+    array-at-requires
     is-empty-requires
     returns
     sub-read-in

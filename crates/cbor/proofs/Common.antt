@@ -1,0 +1,112 @@
+-- The heads that most messages are made of, told in place by their first bytes.
+-- Assumes nothing.
+use mathlib.Core.Path.{_≡_, refl, ap, _∙_}
+use mathlib.Core.List.{List}
+use mathlib.Core.Bool.{Bool, true, false}
+use Prim.Native.Nat.{ℕ, suc, _+_, _-_, _*_, _/_, _%_, _≤_, _<_, zero-le}
+use native.Mathlib.Omega.{arith}
+use lib.ListN.{length, drop, getD, length-drop}
+use lib.Seq.{drop-cons, getD-drop}
+use lib.Dec.{ltb, eqb}
+use borrow.Author.Tests.{lt-ltb, le-ltb, le-leb, lt-leb, ne-eqb}
+use Rattle.base.specs.Pick.{pick}
+use Rattle.base.specs.BigEndian.{bigEndian}
+use Rattle.cbor.specs.declared.head.HeadRead.{HeadRead}
+use Rattle.cbor.specs.declared.item.Step.{Step}
+use Rattle.cbor.specs.Head.{widthOf, leastOf, initialOf, argOf, judged, headFrom, headBy, headOf, headAt}
+use Rattle.cbor.specs.Item.{opens, stepOf, stepFrom, stepAt}
+
+-- ---- heads by their first byte and what follows it
+judged-short : (major arg : ℕ) → judged major arg 0 ≡ HeadRead.Head major arg 1
+unfolding judged leastOf pick
+judged-short major arg = by (eqb major 7)
+  where
+    by : (t : Bool) → pick t (HeadRead.Head major arg 1) (pick (ltb arg 0) (HeadRead.Refused 5 0) (HeadRead.Head major arg 1)) ≡ HeadRead.Head major arg 1
+    by true = refl
+    by false = rw (le-ltb arg 0 zero-le)
+
+short : (first : ℕ) (s : List ℕ) → first % 32 < 24 → headOf first s ≡ HeadRead.Head (first / 32) (first % 32) 1
+unfolding headOf headBy initialOf headFrom argOf widthOf pick
+short first s low =
+    rw (ne-eqb (first % 32) 31 (λ e. omega arith), lt-leb 28 (first % 32) (omega arith), lt-ltb (first % 32) 24 low, le-ltb (length s) 0 zero-le)
+    (judged-short (first / 32) (first % 32))
+
+one-spells : (s : List ℕ) → bigEndian s 1 ≡ getD s 0 0
+unfolding bigEndian
+one-spells s = omega arith
+
+two-spell : (s : List ℕ) → bigEndian s 2 ≡ getD s 0 0 * 256 + getD s 1 0
+unfolding bigEndian
+two-spell s = omega arith
+
+in-byte : (s : List ℕ) → 1 ≤ length s → 24 ≤ getD s 0 0 → headOf 24 s ≡ HeadRead.Head 0 (getD s 0 0) 2
+unfolding headOf headBy initialOf headFrom argOf judged widthOf leastOf pick
+in-byte s long least = rw (le-ltb (length s) 1 long, one-spells s, le-ltb (getD s 0 0) 24 least)
+
+in-two : (s : List ℕ) → 2 ≤ length s → 1 ≤ getD s 0 0 → headOf 25 s ≡ HeadRead.Head 0 (getD s 0 0 * 256 + getD s 1 0) 3
+unfolding headOf headBy initialOf headFrom argOf judged widthOf leastOf pick
+in-two s long least = rw (le-ltb (length s) 2 long, two-spell s, le-ltb (getD s 0 0 * 256 + getD s 1 0) 256 (omega arith))
+
+module _ (s : List ℕ) (at : ℕ) where
+  -- ---- heads in place
+  in-place : at < length s → headAt (drop at s) ≡ headOf (getD s at 0) (drop (suc at) s)
+  unfolding headAt
+  in-place h = ap headAt (drop-cons s at 0 h)
+
+  after : (i : ℕ) → getD (drop (suc at) s) i 0 ≡ getD s (at + suc i) 0
+  after i = getD-drop (suc at) s i 0 ∙ ap (λ (k : ℕ). getD s k 0) (omega arith)
+
+  pub one-byte : at < length s → getD s at 0 % 32 < 24 → headAt (drop at s) ≡ HeadRead.Head (getD s at 0 / 32) (getD s at 0 % 32) 1
+  one-byte h low = in-place h ∙ short (getD s at 0) (drop (suc at) s) low
+
+  pub small-head : at < length s → getD s at 0 < 24 → headAt (drop at s) ≡ HeadRead.Head 0 (getD s at 0) 1
+  small-head h low =
+      let major : getD s at 0 / 32 ≡ 0 = omega arith in
+      let arg : getD s at 0 % 32 ≡ getD s at 0 = omega arith in
+      rw (major, arg) at (one-byte h (omega arith))
+
+  pub array-head : at < length s → 128 ≤ getD s at 0 → getD s at 0 < 152 → headAt (drop at s) ≡ HeadRead.Head 4 (getD s at 0 - 128) 1
+  array-head h lo hi =
+      let major : getD s at 0 / 32 ≡ 4 = omega arith in
+      let arg : getD s at 0 % 32 ≡ getD s at 0 - 128 = omega arith in
+      rw (major, arg) at (one-byte h (omega arith))
+
+  pub two-bytes : at + 1 < length s → getD s at 0 ≡ 24 → 24 ≤ getD s (at + 1) 0 → headAt (drop at s) ≡ HeadRead.Head 0 (getD s (at + 1) 0) 2
+  two-bytes h is least =
+      let d = length-drop (suc at) s in
+      in-place (omega arith)
+      ∙ rw (is, ← after 0) (in-byte (drop (suc at) s) (omega arith) (rw (after 0) least))
+
+  pub three-bytes : at + 2 < length s → getD s at 0 ≡ 25 → 1 ≤ getD s (at + 1) 0
+      → headAt (drop at s) ≡ HeadRead.Head 0 (getD s (at + 1) 0 * 256 + getD s (at + 2) 0) 3
+  three-bytes h is least =
+      let d = length-drop (suc at) s in
+      in-place (omega arith)
+      ∙ rw (is, ← after 0, ← after 1) (in-two (drop (suc at) s) (omega arith) (rw (after 0) least))
+
+  -- ---- what the walk makes of them
+  module _ (left : ℕ) where
+    number : (arg len : ℕ) → headAt (drop at s) ≡ HeadRead.Head 0 arg len → stepAt left (drop at s) ≡ Step.Passed len
+    unfolding stepAt stepFrom stepOf pick
+    number arg len e = rw e
+
+    pub small-passed : at < length s → getD s at 0 < 24 → stepAt left (drop at s) ≡ Step.Passed 1
+    small-passed h low = number _ 1 (small-head h low)
+
+    pub byte-passed : at + 1 < length s → getD s at 0 ≡ 24 → 24 ≤ getD s (at + 1) 0 → stepAt left (drop at s) ≡ Step.Passed 2
+    byte-passed h is least = number _ 2 (two-bytes h is least)
+
+    pub two-passed : at + 2 < length s → getD s at 0 ≡ 25 → 1 ≤ getD s (at + 1) 0 → stepAt left (drop at s) ≡ Step.Passed 3
+    two-passed h is least = number _ 3 (three-bytes h is least)
+
+    pub string-passed : at < length s → 64 ≤ getD s at 0 → getD s at 0 < 128 → getD s at 0 % 32 < 24 → getD s at 0 % 32 ≤ length s - at - 1
+        → stepAt left (drop at s) ≡ Step.Passed (1 + getD s at 0 % 32)
+    unfolding stepAt stepFrom stepOf pick
+    string-passed h lo hi low room =
+        let first = getD s at 0 in
+        rw
+        (one-byte h low, length-drop at s, ne-eqb (first / 32) 7 (λ e. omega arith), lt-leb 4 (first / 32) (omega arith), le-leb 2 (first / 32) (omega arith), le-leb (first % 32) (length s - at - 1) room)
+
+    pub array-opened : at < length s → 128 ≤ getD s at 0 → getD s at 0 < 152 → (left ≡ 0 → ⊥) → stepAt left (drop at s) ≡ Step.Opened 1 (getD s at 0 - 128) false
+    unfolding stepAt stepFrom stepOf opens pick
+    array-opened h lo hi may = rw (array-head h lo hi, ne-eqb left 0 may)

@@ -1,0 +1,105 @@
+-- `cbor::item::common_at` meets its contract.
+-- Assumes nothing.
+use native.Mathlib.Omega.{arith}
+use Rattle.cbor.specs.Item.{CommonIs}
+use Rattle.cbor.proofs.Common.{small-passed, string-passed, array-opened}
+use borrow.Author.Needs.{needs}
+use Rattle.cbor.proofs.item.common_at.Statement.{statement}
+use Rattle.cbor.proofs.item.common_at.Tie as tie
+use Rattle.cbor.proofs.item.common_at.Reads as reads
+use Rattle.cbor.proofs.item.common_at.Lts as lts
+use Rattle.cbor.proofs.item.common_number.Reads as common-number-reads
+
+-- src/item.rt:104:9
+returns : tie.Need-returns
+unfolding CommonIs
+returns c = tt
+
+-- src/item.rt:106:17
+shared-slice-read-first : tie.Need-shared-slice-read-first
+shared-slice-read-first c = search needs
+
+-- src/item.rt:108:9
+returns-2 : tie.Need-returns-2
+unfolding CommonIs
+returns-2 c = small-passed (c .before .before .before .before .args .s .now) (c .before .before .before .before .args .at) (c .before .before .before .before .args .left) (omega arith) (c .if2 .taken)
+
+-- src/item.rt:110:16
+sub-rest : tie.Need-sub-rest
+sub-rest c = search needs
+
+-- src/item.rt:110:16
+sub-rest-2 : tie.Need-sub-rest-2
+sub-rest-2 c = search needs
+
+-- src/item.rt:113:13
+common-number-requires : tie.Need-common-number-requires
+common-number-requires c κs = search needs
+
+-- src/item.rt:113:13
+returns-3 : tie.Need-returns-3
+unfolding CommonIs
+returns-3 c = c .common-number .ensures (c .before .before .before .before .before .before .before .args .left)
+
+-- src/item.rt:115:20
+cast-info : tie.Need-cast-info
+cast-info c = search needs
+
+-- src/item.rt:118:39
+add-t15 : tie.Need-add-t15
+add-t15 c = search needs
+
+-- src/item.rt:118:17
+returns-4 : tie.Need-returns-4
+unfolding CommonIs
+returns-4 c = string-passed (c .before .before .before .before .before .before .before .before .args .s .now) (c .before .before .before .before .before .before .before .before .args .at) (c .before .before .before .before .before .before .before .before .args .left) (omega arith) (c .before .before .if4 .left) (c .before .before .before .if3 .taken) (c .before .if5 .taken) (c .if6 .taken)
+
+-- src/item.rt:121:9
+returns-5 : tie.Need-returns-5
+unfolding CommonIs
+returns-5 c = tt
+
+-- src/item.rt:121:9
+returns-6 : tie.Need-returns-6
+unfolding CommonIs
+returns-6 c = tt
+
+-- src/item.rt:125:35
+cast-t18 : tie.Need-cast-t18
+cast-t18 c = search needs
+
+-- src/item.rt:125:13
+returns-7 : tie.Need-returns-7
+unfolding CommonIs
+returns-7 c = array-opened (c .before .before .before .before .before .before .before .args .s .now) (c .before .before .before .before .before .before .before .args .at) (c .before .before .before .before .before .before .before .args .left) (omega arith) (c .before .before .if3 .left) (c .before .if7 .taken) (c .if8 .taken)
+
+-- src/item.rt:100:1
+returns-8 : tie.Need-returns-8
+unfolding CommonIs
+returns-8 c = tt
+
+-- src/item.rt:100:1
+returns-9 : tie.Need-returns-9
+unfolding CommonIs
+returns-9 c = tt
+
+pub common-at-spec : {M : Type 1} → statement M
+common-at-spec =
+    tie.close
+    (tie.spec
+    returns
+    shared-slice-read-first
+    returns-2
+    sub-rest
+    sub-rest-2
+    common-number-requires
+    returns-3
+    cast-info
+    add-t15
+    returns-4
+    returns-5
+    returns-6
+    cast-t18
+    returns-7
+    returns-8
+    returns-9)
