@@ -7,7 +7,7 @@ use Rattle.message.specs.declared.Message.the-variants as M
 use Rattle.message.specs.declared.Extra.{Extra}
 use Rattle.contents.specs.declared.fields.Session.{Session}
 
-unfoldable pub kindOf : Message → ℕ
+abbrev pub kindOf : Message → ℕ
 kindOf M.Noop = 0
 kindOf (M.Discovery session initiator objective) = 1
 kindOf (M.Response session initiator ttl targets extra) = 2

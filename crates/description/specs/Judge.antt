@@ -110,7 +110,7 @@ okParts source list (D.Flood s i t) = okFlood source list i
 okParts source list (D.Invalid s v) = okItem source v
 
 -- whether the kind has a list
-unfoldable pub hasList : Description → Bool
+abbrev pub hasList : Description → Bool
 hasList D.Noop = false
 hasList (D.Discovery s i o) = false
 hasList (D.Response s i t d o) = true

@@ -29,7 +29,7 @@ spread-told message s =
 
 -- by the message that was read
 told-by : (message : List ℕ) (m : Message) (s : Spread) → roleOf m ≡ Role.Spreads s → toldBy message (Reading.Read m) ≡ spread-told message s
-unfolding roleOf toldBy numberIn countIn kindOf sessionOf initiatorOf objectiveOf pick
+unfolding roleOf toldBy numberIn countIn sessionOf initiatorOf objectiveOf pick
 told-by message (M.Discovery session i o) s e = let same : spreadOf false session i o ≡ s = cc in rw (← same) refl
 told-by message (M.Flood session i ttl o series) s e = let same : spreadOf true session i o ≡ s = cc in rw (← same) refl
 told-by message M.Noop s e = absurd (let z : _≡_ {A = ℕ} 0 1 = cc in omega arith)

@@ -16,7 +16,7 @@ use Rattle.host.specs.declared.call.Answer as A
 use Rattle.host.specs.Table.{numbersIn, bytesWith}
 
 -- the verdicts in the rules' order, from 1
-unfoldable pub verdictNumber : Verdict → ℕ
+abbrev pub verdictNumber : Verdict → ℕ
 verdictNumber Own = 1
 verdictNumber Answer = 2
 verdictNumber Duplicate = 3

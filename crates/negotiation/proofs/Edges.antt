@@ -56,5 +56,5 @@ pub session :
     ∷ Refused 20 ∷ Refused 1 ∷ [])
     × (negotiated (answered Fresh messages) ≡ 2)
     × (step (Open 7 0 Us) ending Us ≡ Refused 20)
-unfolding pick bigEndian widthOf leastOf initialOf argOf headJudged headFrom headBy headOf headAt opens stepOf itemFrom stepAt itemsOf next run enough firstItem nothingAt tokenOf tokenFrom tokenAt itemsIn upTo tailsOf leastTail greatestTail goesOn isUtf8 badText longName objectiveIn exchangeOf exchanged exchangeAt waitAt optionAt endAt byKind judged shaped framed examined placeless readOf kindOf moveOf freshStep lowerStep turnStep stateStep stepFrom step after answered isKind tookNegotiate negotiated
+unfolding pick bigEndian widthOf leastOf initialOf argOf headJudged headFrom headBy headOf headAt opens stepOf itemFrom stepAt itemsOf next run enough firstItem nothingAt tokenOf tokenFrom tokenAt itemsIn upTo tailsOf leastTail greatestTail goesOn isUtf8 badText longName objectiveIn exchangeOf exchanged exchangeAt waitAt optionAt endAt byKind judged shaped framed examined placeless readOf moveOf freshStep lowerStep turnStep stateStep stepFrom step after answered isKind tookNegotiate negotiated
 session = (refl, refl, refl)

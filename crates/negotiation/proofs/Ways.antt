@@ -32,7 +32,7 @@ Judged sender m state (Moved next) = Allowed sender m state next
 
 -- ---- what a step leads to is allowed
 fresh-judged : (sender : Side) (m : Message) → Judged sender m Fresh (freshStep (moveOf m) sender)
-unfolding moveOf freshStep kindOf sessionOf objectiveOf
+unfolding moveOf freshStep sessionOf objectiveOf
 fresh-judged sender M.Noop = refl
 fresh-judged sender (M.Discovery session initiator objective) = refl
 fresh-judged sender (M.Response session initiator ttl targets extra) = refl
@@ -56,7 +56,7 @@ module _ (turn : Side) (session count : ℕ) (some : 1 ≤ count) where
 
   lower-judged : (named : ℕ) (objective : Objective) → named ≡ session
       → Judged turn (M.Negotiate named objective) (Open session count turn) (lowerStep session count turn (objective .count))
-  unfolding lowerStep kindOf sessionOf objectiveOf
+  unfolding lowerStep sessionOf objectiveOf
   lower-judged named objective same =
       pick-case J (eqb (objective .count) 0) (λ _. refl)
       (λ e.
@@ -71,7 +71,7 @@ module _ (turn : Side) (session count : ℕ) (some : 1 ≤ count) where
       J = Judged turn (M.Negotiate named objective) (Open session count turn)
 
   turn-judged : (m : Message) → Judged turn m (Open session count turn) (turnStep session count turn (moveOf m))
-  unfolding moveOf turnStep kindOf sessionOf objectiveOf
+  unfolding moveOf turnStep sessionOf objectiveOf
   turn-judged M.Noop = refl
   turn-judged (M.Discovery named initiator objective) = refl
   turn-judged (M.Response named initiator ttl targets extra) = refl
@@ -133,7 +133,7 @@ moveBy kind session extra =
     Other)))
 
 move-by : (m : Message) → moveOf m ≡ moveBy (kindOf m) (sessionOf m) (objectiveOf m)
-unfolding moveOf moveBy counted held kindOf sessionOf objectiveOf pick
+unfolding moveOf moveBy counted held sessionOf objectiveOf pick
 move-by M.Noop = refl
 move-by (M.Discovery session initiator objective) = refl
 move-by (M.Response session initiator ttl targets extra) = refl

@@ -268,7 +268,7 @@ module _ (source : List ℕ) (b : Bytes source) where
 
   -- Those that the judge passes say something, and their values are items.
   pub described-exactly : (list : List ℕ) (d : Description) → okDescribed source list d ≡ true ↔ (PartsSay source list d × ValuedMsg (msgOf source list d))
-  unfolding okDescribed okList hasList okParts okDiscovery okResponse okFlood msgOf objOf pick
+  unfolding okDescribed okList okParts okDiscovery okResponse okFlood msgOf objOf pick
   described-exactly list D.Noop = retold (and-exactly (list-exactly list) always) (λ h. (h .0, tt)) (λ h. (h .0, tt))
   described-exactly list (D.Discovery s i o) =
       retold (and-exactly (list-exactly list) (and-exactly (inside-exactly source i) (entry-exactly (entryOf o))))

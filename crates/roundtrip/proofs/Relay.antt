@@ -156,7 +156,7 @@ initiator-held {s} {e = e} {from = from} i =
 
 -- the two readings
 relays : {s l : List ℕ} {m m′ : Message} {o : Objective} {msg : Msg Value} → Lowers m o → Describes s m msg → Describes l m′ (lowerMsg msg) → Relays s m o l m′
-unfolding lowerMsg lowerObj withCount kindOf sessionOf initiatorOf
+unfolding lowerMsg lowerObj withCount sessionOf initiatorOf
 relays Lowers.discovery (Describes.discovery k n i o) (Describes.discovery {o = o′} k′ n′ i′ j) =
     record {
       kind = refl;
@@ -191,7 +191,7 @@ neither (inr e) f g = g e
 
 -- The objective whose count a relay lowers, by the fields of what was read.
 pub lowers-by : (m : Message) (o : Objective) → (kindOf m ≡ 1) ⊎ (kindOf m ≡ 9) → objectiveOf m ≡ Extra.With o → Lowers m o
-unfolding kindOf objectiveOf
+unfolding objectiveOf
 lowers-by (M.Discovery session i o′) o k e = let same : o′ ≡ o = cc in subst (Lowers (M.Discovery session i o′)) same Lowers.discovery
 lowers-by (M.Flood session i ttl o′ series) o k e = let same : o′ ≡ o = cc in subst (Lowers (M.Flood session i ttl o′ series)) same Lowers.flood
 lowers-by M.Noop o k e = absurd (neither k (λ e. omega arith) (λ e. omega arith))

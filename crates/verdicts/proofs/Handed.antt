@@ -93,7 +93,6 @@ module _ (r : Record) (t : List ℕ) (c : Call) where
   others-up kind v up a b d due = let is = plain-due Hand true v up due in (λ _. subst (HandedUp kind) (sym (is .0)) (hand a b d), λ _. is .1)
 
   due-handed : (m : Message) (v : Verdict) (up : Bool) → Due r t c m v up → up ≡ true ↔ HandedUp (kindOf m) v
-  unfolding kindOf
   due-handed M.Noop v up due = (λ e. absurd (not-both up e (plain-due Noop false v up due .1)), λ h. absurd (kind-known h .0 refl))
   due-handed (M.Discovery session i o) v up due =
       (λ e. absurd (not-both up e (discovery-never session i o v up due)), λ h. absurd (kind-known h .1 refl))
@@ -110,7 +109,6 @@ module _ (r : Record) (t : List ℕ) (c : Call) where
   due-handed (M.Invalid session item) v up due = others-up 99 v up (λ e. omega arith) (λ e. omega arith) (λ e. omega arith) due
 
   others-due : (m : Message) (v : Verdict) (up : Bool) → kindOf m ≢ 0 → kindOf m ≢ 1 → kindOf m ≢ 9 → Due r t c m v up → (v ≡ Hand) × (up ≡ true)
-  unfolding kindOf
   others-due M.Noop v up a b d due = absurd (a refl)
   others-due (M.Discovery session i o) v up a b d due = absurd (b refl)
   others-due (M.Response session i ttl targets extra) v up a b d due = plain-due Hand true v up due
