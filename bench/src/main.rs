@@ -6,6 +6,7 @@ mod measure;
 mod messages;
 mod nodes;
 
+use std::env::args;
 use std::hint::black_box;
 use std::process::ExitCode;
 
@@ -19,6 +20,10 @@ use second::{message, writer};
 type Fault = String;
 
 fn main() -> ExitCode {
+    let words: Vec<usize> = args().filter_map(|word| word.parse().ok()).collect();
+    if let [rows, stage, calls] = words[..] {
+        return repeated(rows, stage, calls);
+    }
     println!("ns per call (ratio to the first number of the row), median of {ROUNDS} interleaved rounds, warm;");
     println!("no block or other buffer is cleared before a call.");
     let parts = [
@@ -37,6 +42,19 @@ fn main() -> ExitCode {
         }
     }
     ExitCode::SUCCESS
+}
+
+/// One stage of a node call so many times, for a tool that counts instructions.
+fn repeated(rows: usize, stage: usize, calls: usize) -> ExitCode {
+    let mut stages = nodes::stages(rows);
+    let did = stages
+        .get_mut(stage)
+        .is_some_and(|call| (0..calls).all(|_| call()));
+    if did {
+        ExitCode::SUCCESS
+    } else {
+        ExitCode::FAILURE
+    }
 }
 
 /// Prints a table's name and what its columns are.

@@ -4,28 +4,43 @@ use Prim.Native.Nat.{ℕ, zero, suc, _+_, _*_, _/_, _%_, _^_, _≤_, _<_}
 use mathlib.Core.Path.{_≡_, refl, ap, _∙_}
 use mathlib.Core.Logic.{_≢_, _⊎_, inl, inr}
 use mathlib.Core.List.{List}
-use native.Mathlib.Numerals.{add-one}
 use native.Mathlib.Decide.{ℕ-discrete, decLt}
 use native.Mathlib.Omega.{arith}
 use lib.ListN.{length, getD, set, replicate, length-set, length-replicate}
 use lib.Seq.{getD-set-same, getD-set-other}
 use Rattle.host.specs.Table.{numberAt, loadedUpTo, numbersIn, putNumber, savedUpTo, bytesWith}
 
--- ---- the loops
+-- ---- the loops, which pass four numbers a turn
 
-pub load-turn : (i x : ℕ) (b t₀ t : List ℕ) → length t ≡ 256 → t ≡ loadedUpTo i b t₀ → x ≡ numberAt b i
-    → (length (set t i x) ≡ 256) × (set t i x ≡ loadedUpTo (i + 1) b t₀)
+module _ (i : ℕ) where
+  one : i + 1 ≡ suc i
+  one = omega arith
+
+  two : i + 2 ≡ suc (suc i)
+  two = omega arith
+
+  three : i + 3 ≡ suc (suc (suc i))
+  three = omega arith
+
+  four : i + 4 ≡ suc (suc (suc (suc i)))
+  four = omega arith
+
+pub load-turn : (i x₀ x₁ x₂ x₃ : ℕ) (b t₀ t : List ℕ) → t ≡ loadedUpTo i b t₀ → x₀ ≡ numberAt b i → x₁ ≡ numberAt b (i + 1) → x₂ ≡ numberAt b (i + 2)
+    → x₃ ≡ numberAt b (i + 3) → set (set (set (set t i x₀) (i + 1) x₁) (i + 2) x₂) (i + 3) x₃ ≡ loadedUpTo (i + 4) b t₀
 unfolding loadedUpTo
-load-turn i x b t₀ t l e q = (length-set t i x ∙ l, rw (add-one, q, ← e) refl)
+load-turn i x₀ x₁ x₂ x₃ b t₀ t e q₀ q₁ q₂ q₃ = rw (e, q₀, q₁, q₂, q₃, four i, three i, two i, one i) refl
 
 length-put : (i x : ℕ) (b : List ℕ) → length (putNumber i x b) ≡ length b
 unfolding putNumber
 length-put i x b = simp length-set
 
-pub save-turn : (i : ℕ) (t b₀ b b′ : List ℕ) → length b ≡ 2048 → b ≡ savedUpTo i t b₀ → b′ ≡ putNumber i (getD t i 0) b
-    → (length b′ ≡ 2048) × (b′ ≡ savedUpTo (i + 1) t b₀)
+pub save-turn : (i : ℕ) (t b₀ b b₁ b₂ b₃ b₄ : List ℕ) → b ≡ savedUpTo i t b₀ → b₁ ≡ putNumber i (getD t i 0) b → b₂ ≡ putNumber (i + 1) (getD t (i + 1) 0) b₁
+    → b₃ ≡ putNumber (i + 2) (getD t (i + 2) 0) b₂ → b₄ ≡ putNumber (i + 3) (getD t (i + 3) 0) b₃ → b₄ ≡ savedUpTo (i + 4) t b₀
 unfolding savedUpTo
-save-turn i t b₀ b b′ l e q = (ap length q ∙ (length-put i (getD t i 0) b ∙ l), q ∙ rw (add-one, ← e) refl)
+save-turn i t b₀ b b₁ b₂ b₃ b₄ e q₁ q₂ q₃ q₄ = rw (q₄, q₃, q₂, q₁, e, four i, three i, two i, one i) refl
+
+pub length-step : (n x : ℕ) (b b′ : List ℕ) → b′ ≡ putNumber n x b → length b ≡ 2048 → length b′ ≡ 2048
+length-step n x b b′ q l = ap length q ∙ (length-put n x b ∙ l)
 
 -- ---- what was loaded
 

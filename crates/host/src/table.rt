@@ -34,7 +34,7 @@ fn number_at(bytes: &[u8], i: usize) -> u64
     )
 }
 
-// The table's numbers, from its bytes.
+// The table's numbers, from its bytes; four to a turn, which is faster than one.
 pub(crate) fn load(bytes: &[u8], table: &mut [u64])
     requires { ⌜ length (now bytes) ≡ 2048 ⌝ ∗ ⌜ length (now table) ≡ 256 ⌝ }
     ensures { λ r. ⌜ now (table .exit) ≡ loadedUpTo 256 (now (bytes .entry)) (now (table .entry)) ⌝ }
@@ -42,7 +42,10 @@ pub(crate) fn load(bytes: &[u8], table: &mut [u64])
     let mut i: usize = 0;
     while i < 256 {
         table[i] = number_at(bytes, i);
-        i += 1;
+        table[i + 1] = number_at(bytes, i + 1);
+        table[i + 2] = number_at(bytes, i + 2);
+        table[i + 3] = number_at(bytes, i + 3);
+        i += 4;
     }
 }
 
@@ -62,7 +65,7 @@ fn put_number(bytes: &mut [u8], i: usize, x: u64)
     bytes[at + 7] = (x % 256) as u8;
 }
 
-// The table's bytes, from its numbers.
+// The table's bytes, from its numbers; four to a turn.
 pub(crate) fn save(table: &[u64], bytes: &mut [u8])
     requires { ⌜ length (now table) ≡ 256 ⌝ ∗ ⌜ length (now bytes) ≡ 2048 ⌝ }
     ensures { λ r. ⌜ now (bytes .exit) ≡ savedUpTo 256 (now (table .entry)) (now (bytes .entry)) ⌝ }
@@ -70,6 +73,9 @@ pub(crate) fn save(table: &[u64], bytes: &mut [u8])
     let mut i: usize = 0;
     while i < 256 {
         put_number(bytes, i, table[i]);
-        i += 1;
+        put_number(bytes, i + 1, table[i + 1]);
+        put_number(bytes, i + 2, table[i + 2]);
+        put_number(bytes, i + 3, table[i + 3]);
+        i += 4;
     }
 }
