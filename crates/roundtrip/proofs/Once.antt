@@ -463,7 +463,7 @@ exchange-spelt k s o = simp (append-assoc, append-nil)
 
 -- the pieces of a message spell it
 pieces-spelt : (m : Msg (List ℕ)) → spells (pieces m) ≡ encodeMsg m
-unfolding spells spell itemsOf rest encodeMsg opening encodeObj
+unfolding spells spell itemsOf kindOf rest encodeMsg opening encodeObj
 pieces-spelt Msg.noop = simp append-nil
 pieces-spelt (Msg.discovery s i o) = simp (append-assoc, append-nil)
 pieces-spelt (Msg.response s i t x o) = rw (targets-spelt x (extra o), extra-spelt o) (simp append-assoc)
@@ -492,6 +492,7 @@ data Told : ℕ → Msg (List ℕ) → Type 0 where
 
 -- every message has its kind, and its number is small
 told : (m : Msg (List ℕ)) → Told (kindOf m) m × Small (kindOf m)
+unfolding kindOf
 told Msg.noop = (Told.noop, lit< tt)
 told (Msg.discovery s i o) = (Told.discovery, lit< tt)
 told (Msg.response s i t x o) = (Told.response, lit< tt)
