@@ -1,10 +1,10 @@
 -- The bounds of a token and of an item's size, and how the code's answers meet the definitions.
 -- Assumes nothing.
 use mathlib.Core.Path.{_≡_, refl, sym, ap, _∙_, subst}
-use mathlib.Core.List.{List, [], _∷_}
+use mathlib.Core.List.{List, []}
 use mathlib.Core.Bool.{Bool, true, false}
 use Prim.Native.Nat.{ℕ, _+_, _-_, _≤_, _<_, zero-le}
-use native.Mathlib.Nat.{le-refl, zero-add}
+use native.Mathlib.Nat.{le-refl}
 use native.Mathlib.Omega.{arith}
 use lib.ListN.{length, take, drop, length-drop}
 use lib.Seq.{drop-drop}
@@ -14,15 +14,12 @@ use Rattle.base.specs.Pick.{pick}
 use Rattle.base.proofs.Picks.{pick-case, both}
 use Rattle.base.proofs.Parts.{rest-is, drop-past}
 use Rattle.cbor.specs.declared.head.HeadRead.{HeadRead}
-use Rattle.cbor.specs.declared.item.Common.{Common}
 use Rattle.cbor.specs.declared.item.ItemRead.{ItemRead}
-use Rattle.cbor.specs.declared.item.Step.{Step}
 use Rattle.cbor.specs.declared.token.Token.{Token}
 use Rattle.cbor.specs.Head.{headAt}
-use Rattle.cbor.specs.Item.{CommonIs, firstItem, run, enough, next, stepAt, stepFrom}
+use Rattle.cbor.specs.Item.{firstItem, run, enough, next, stepAt, stepFrom}
 use Rattle.cbor.specs.Token.{nothingAt, tokenOf, tokenFrom, tokenAt, TokenIs, sizeFrom, sizeAt, SizeIs}
 use Rattle.cbor.proofs.Bounds.{HeadOk, head-ok}
-use Rattle.cbor.proofs.Runs.{runs, runs-end, runs-close, runs-step}
 use Rattle.cbor.proofs.Within.{item-within}
 
 abbrev Bounds : ℕ → ℕ → Token → Type 0
@@ -135,22 +132,6 @@ size-le s at = rw (length-drop at s) at (size-within (drop at s) (firstItem 0 (d
 first-of-nothing : firstItem 0 [] ≡ ItemRead.Refused 2 0
 unfolding firstItem run enough next stepAt stepFrom headAt
 first-of-nothing = refl
-
-first-of-leaf : (s : List ℕ) (len : ℕ) → stepAt 8 s ≡ Step.Passed len → firstItem 0 s ≡ ItemRead.Ends len
-unfolding firstItem next
-first-of-leaf s len e =
-    runs-step 8 0 0 s []
-    ∙ ap (next (runs 8) 0 s (0 ∷ [])) e
-    ∙ ap (λ (at : ℕ). runs 8 at (drop len s) (0 ∷ [])) (zero-add len)
-    ∙ runs-close 8 len (drop len s) []
-    ∙ runs-end 8 len (drop len s)
-
--- an item that is one head with its string
-pub size-leaf : (s : List ℕ) (at len : ℕ) (x : Common) → CommonIs 8 (drop at s) x → x ≡ Common.Passed len → SizeIs s at len
-unfolding sizeAt sizeFrom CommonIs
-size-leaf s at len x c e =
-    let ends : firstItem 0 (drop at s) ≡ ItemRead.Ends len = first-of-leaf (drop at s) len (subst (CommonIs 8 (drop at s)) e c) in
-    record { is = sym (ap sizeFrom ends); within = rw (length-drop at s) at (size-within (drop at s) (ItemRead.Ends len) ends) }
 
 pub size-none : (s : List ℕ) (at : ℕ) → length s < at → SizeIs s at 0
 unfolding sizeAt sizeFrom

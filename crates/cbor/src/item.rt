@@ -97,7 +97,7 @@ fn left_under(levels: usize) -> usize
 }
 
 // The head at `at`, where so many levels may open, told by its first byte or two, so that most turns of the walk are short.
-pub(crate) fn common_at(left: usize, s: &[u8], at: usize) -> Common
+fn common_at(left: usize, s: &[u8], at: usize) -> Common
     ensures { λ r. ⌜ CommonIs left (drop at (now (s .entry))) r ⌝ }
 {
     if s.len() <= at {

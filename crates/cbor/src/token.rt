@@ -5,7 +5,6 @@ ghost use Rattle.cbor.specs.Token.{nothingAt, tokenOf, TokenIs, SizeIs, 
 use crate::head;
 use crate::head::HeadRead;
 use crate::item;
-use crate::item::Common;
 use crate::item::ItemRead;
 
 // The head at `at`: its major type and argument, where what it heads begins, and where the next head stands (after a
@@ -142,11 +141,6 @@ pub fn size_at(s: &[u8], at: usize) -> usize
 {
     if s.len() < at {
         return 0;
-    }
-    // Most values are one head with its string.
-    let common = item::common_at(item::MOST_LEVELS, s, at);
-    if let Common::Passed(len) = common {
-        return len;
     }
     let read = item::first(0, &s[at..]);
     match read {
