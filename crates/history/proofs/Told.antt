@@ -12,7 +12,7 @@ use Rattle.options.specs.declared.objective.Objective.{Objective}
 use Rattle.message.specs.declared.Message.{Message}
 use Rattle.message.specs.declared.Message.the-variants as M
 use Rattle.message.specs.declared.Reading.{Reading}
-use Rattle.contents.specs.Fields.{kindOf, sessionOf, initiatorOf, objectiveOf}
+use Rattle.contents.specs.Fields.{sessionOf, initiatorOf, objectiveOf}
 use Rattle.roundtrip.specs.Lower.{Lowers}
 use Rattle.roundtrip.proofs.Relay.{lowered-reads}
 use Rattle.node.specs.declared.role.Spread.{Spread}

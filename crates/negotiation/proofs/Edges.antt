@@ -13,7 +13,6 @@ use Rattle.options.specs.Text.{badText}
 use Rattle.options.specs.Objective.{longName, objectiveIn}
 use Rattle.message.specs.Shape.{exchangeOf, exchanged, exchangeAt, waitAt, optionAt, endAt}
 use Rattle.message.specs.Read.{byKind, judged, shaped, framed, examined, placeless, readOf}
-use Rattle.contents.specs.Fields.{kindOf}
 use Rattle.negotiation.specs.declared.Side.the-variants.{Us, Them}
 use Rattle.negotiation.specs.declared.State.the-variants.{Fresh, Open, Closed}
 use Rattle.negotiation.specs.declared.Stepped.{Stepped}

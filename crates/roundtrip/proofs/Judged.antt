@@ -34,7 +34,7 @@ use Rattle.description.specs.declared.Ending.the-variants as E
 use Rattle.description.specs.declared.Description.{Description}
 use Rattle.description.specs.declared.Description.the-variants as D
 use Rattle.description.specs.Describe.{placeRow, pairRow, entryRow, upTo, entryOf, objOf, placeAt, entryAt, rowPair, pairsOf, extraOf, msgOf}
-use Rattle.description.specs.Judge.{okDiscovery, okResponse, okFlood, okParts, hasList, okList, okDescribed, alone, whole, inside, okValue, okItem, okEntry, okPlace, blank, okNoneOr, allFrom, okEach, okRow, okRows, okPair, okPairs, okExtra, okEnding}
+use Rattle.description.specs.Judge.{okDiscovery, okResponse, okFlood, okParts, okList, okDescribed, alone, whole, inside, okValue, okItem, okEntry, okPlace, blank, okNoneOr, allFrom, okEach, okRow, okRows, okPair, okPairs, okExtra, okEnding}
 use Rattle.roundtrip.specs.Says.{Inside, EntrySays, PlaceSays, Blank, PairSays, Rows, ExtraSays, EndingSays, PartsSay}
 use Rattle.roundtrip.proofs.Script.{Each, Valued}
 use Rattle.roundtrip.proofs.Once.{ValuedObj, ValuedPair, ValuedMsg}
