@@ -11,7 +11,8 @@ use Rattle.options.specs.declared.pair.PairRead.{PairRead}
 use Rattle.options.specs.Locator.{locatorAt, locatorNumbers}
 use Rattle.options.specs.Pair.{pairAt}
 use Rattle.base.proofs.Parts.{drop-past}
-use Rattle.describe.specs.Rows.{rowsFrom, locatorRowFrom, locatorRow, pairCells, pairRowFrom, pairRow}
+use Rattle.description.specs.Describe.{placeRow, pairRow}
+use Rattle.describe.specs.Rows.{rowsFrom, locatorStoredFrom, locatorStored, pairCells, pairStoredFrom, pairStored}
 
 -- what is left of the rows is the whole
 pub record Filling (next : ℕ → ℕ) (row : ℕ → ℕ → List ℕ → List ℕ) (n at₀ : ℕ) (list₀ : List ℕ) (i at : ℕ) (list : List ℕ) : Type 0 where
@@ -36,22 +37,22 @@ module _ (next : ℕ → ℕ) (row : ℕ → ℕ → List ℕ → List ℕ) (n a
       let s : n - i ≡ suc (n - (i + 1)) = omega arith in
       record { within = omega arith; same-length = rw g (k ∙ f .same-length); same = rw (e, g) (rw s at (f .same)) }
 
-locator-from-length : (i : ℕ) (list : List ℕ) (x : LocatorRead) → length (locatorRowFrom i list x) ≡ length list
-unfolding locatorRowFrom
+locator-from-length : (i : ℕ) (list : List ℕ) (x : LocatorRead) → length (locatorStoredFrom i list x) ≡ length list
+unfolding locatorStoredFrom
 locator-from-length i list (LocatorRead.Bad place) = refl
-locator-from-length i list (LocatorRead.Got l size bad) = length-sets list (5 * i) (locatorNumbers l)
+locator-from-length i list (LocatorRead.Got l size bad) = length-sets list (placeRow * i) (locatorNumbers l)
 
-pub locator-length : (s : List ℕ) (at i : ℕ) (list : List ℕ) → length (locatorRow s at i list) ≡ length list
-unfolding locatorRow
+pub locator-length : (s : List ℕ) (at i : ℕ) (list : List ℕ) → length (locatorStored s at i list) ≡ length list
+unfolding locatorStored
 locator-length s at i list = locator-from-length i list (locatorAt s at)
 
-pair-from-length : (i : ℕ) (list : List ℕ) (x : PairRead) → length (pairRowFrom i list x) ≡ length list
-unfolding pairRowFrom
+pair-from-length : (i : ℕ) (list : List ℕ) (x : PairRead) → length (pairStoredFrom i list x) ≡ length list
+unfolding pairStoredFrom
 pair-from-length i list (PairRead.Bad place) = refl
-pair-from-length i list (PairRead.Got o tag size bad long) = length-sets list (12 * i) (pairCells o tag)
+pair-from-length i list (PairRead.Got o tag size bad long) = length-sets list (pairRow * i) (pairCells o tag)
 
-pub pair-length : (s : List ℕ) (at i : ℕ) (list : List ℕ) → length (pairRow s at i list) ≡ length list
-unfolding pairRow
+pub pair-length : (s : List ℕ) (at i : ℕ) (list : List ℕ) → length (pairStored s at i list) ≡ length list
+unfolding pairStored
 pair-length s at i list = pair-from-length i list (pairAt s at)
 
 -- ---- numbers put from `at` on: what is left of them, put from here on, gives the whole

@@ -15,6 +15,7 @@ use Rattle.message.specs.declared.Series.{Series}
 use Rattle.message.specs.declared.Targets.{Targets}
 use Rattle.message.specs.declared.Message.{Message}
 use Rattle.message.specs.declared.Message.the-variants as M
+use Rattle.description.specs.Describe.{placeRow, pairRow}
 use Rattle.describe.specs.declared.rows.Rows.{Rows}
 
 -- n elements from `at` on, each with the place after it and its row, in the rows from i on
@@ -22,30 +23,30 @@ unfoldable pub rowsFrom : (ℕ → ℕ) → (ℕ → ℕ → List ℕ → List �
 rowsFrom next row zero i at list = list
 rowsFrom next row (suc n) i at list = rowsFrom next row n (i + 1) (next at) (row at i list)
 
--- ---- locators: 5 numbers a row
+-- a series in rows of so many numbers; a list that is too short stays as it is
+unfoldable pub seriesEnd : ℕ → Series → List ℕ → ℕ
+seriesEnd size series list = pick (ltb (length list / size) (series .many)) (length list + 1) (size * series .many)
+
+unfoldable pub seriesFilled : ℕ → (ℕ → ℕ) → (ℕ → ℕ → List ℕ → List ℕ) → Series → List ℕ → List ℕ
+seriesFilled size next row series list = pick (ltb (length list / size) (series .many)) list (rowsFrom next row (series .many) 0 (series .at) list)
+
+-- ---- locators
 unfoldable pub locatorNextFrom : ℕ → LocatorRead → ℕ
 locatorNextFrom at (LocatorRead.Bad place) = at
 locatorNextFrom at (LocatorRead.Got l size bad) = at + size
 
-unfoldable pub locatorRowFrom : ℕ → List ℕ → LocatorRead → List ℕ
-locatorRowFrom i list (LocatorRead.Bad place) = list
-locatorRowFrom i list (LocatorRead.Got l size bad) = sets list (5 * i) (locatorNumbers l)
+unfoldable pub locatorStoredFrom : ℕ → List ℕ → LocatorRead → List ℕ
+locatorStoredFrom i list (LocatorRead.Bad place) = list
+locatorStoredFrom i list (LocatorRead.Got l size bad) = sets list (placeRow * i) (locatorNumbers l)
 
 -- the place after the one at `at`, and the list with its numbers in row i
 unfoldable pub locatorNext : List ℕ → ℕ → ℕ
 locatorNext s at = locatorNextFrom at (locatorAt s at)
 
-unfoldable pub locatorRow : List ℕ → ℕ → ℕ → List ℕ → List ℕ
-locatorRow s at i list = locatorRowFrom i list (locatorAt s at)
+unfoldable pub locatorStored : List ℕ → ℕ → ℕ → List ℕ → List ℕ
+locatorStored s at i list = locatorStoredFrom i list (locatorAt s at)
 
--- a list that is too short stays as it is
-unfoldable pub locatorsEnd : Series → List ℕ → ℕ
-locatorsEnd series list = pick (ltb (length list / 5) (series .many)) (length list + 1) (5 * series .many)
-
-unfoldable pub locatorsFilled : List ℕ → Series → List ℕ → List ℕ
-locatorsFilled s series list = pick (ltb (length list / 5) (series .many)) list (rowsFrom (locatorNext s) (locatorRow s) (series .many) 0 (series .at) list)
-
--- ---- pairs: 12 numbers a row
+-- ---- pairs
 -- the place of the count's head is 0 in a row
 unfoldable pub pairCells : Objective → Tag → List ℕ
 pairCells o tag = set (pairNumbers o tag) 4 0
@@ -54,23 +55,16 @@ unfoldable pub pairNextFrom : ℕ → PairRead → ℕ
 pairNextFrom at (PairRead.Bad place) = at
 pairNextFrom at (PairRead.Got o tag size bad long) = at + size
 
-unfoldable pub pairRowFrom : ℕ → List ℕ → PairRead → List ℕ
-pairRowFrom i list (PairRead.Bad place) = list
-pairRowFrom i list (PairRead.Got o tag size bad long) = sets list (12 * i) (pairCells o tag)
+unfoldable pub pairStoredFrom : ℕ → List ℕ → PairRead → List ℕ
+pairStoredFrom i list (PairRead.Bad place) = list
+pairStoredFrom i list (PairRead.Got o tag size bad long) = sets list (pairRow * i) (pairCells o tag)
 
 -- the place after the one at `at`, and the list with its numbers in row i
 unfoldable pub pairNext : List ℕ → ℕ → ℕ
 pairNext s at = pairNextFrom at (pairAt s at)
 
-unfoldable pub pairRow : List ℕ → ℕ → ℕ → List ℕ → List ℕ
-pairRow s at i list = pairRowFrom i list (pairAt s at)
-
--- a list that is too short stays as it is
-unfoldable pub pairsEnd : Series → List ℕ → ℕ
-pairsEnd series list = pick (ltb (length list / 12) (series .many)) (length list + 1) (12 * series .many)
-
-unfoldable pub pairsFilled : List ℕ → Series → List ℕ → List ℕ
-pairsFilled s series list = pick (ltb (length list / 12) (series .many)) list (rowsFrom (pairNext s) (pairRow s) (series .many) 0 (series .at) list)
+unfoldable pub pairStored : List ℕ → ℕ → ℕ → List ℕ → List ℕ
+pairStored s at i list = pairStoredFrom i list (pairAt s at)
 
 -- ---- by the message
 unfoldable pub targetRows : Targets → Rows
@@ -92,13 +86,13 @@ rowsIn (M.Invalid session item) = Rows.Nothing
 
 unfoldable pub endBy : List ℕ → Rows → ℕ
 endBy list Rows.Nothing = 0
-endBy list (Rows.Locators series) = locatorsEnd series list
-endBy list (Rows.Pairs series) = pairsEnd series list
+endBy list (Rows.Locators series) = seriesEnd placeRow series list
+endBy list (Rows.Pairs series) = seriesEnd pairRow series list
 
 unfoldable pub filledBy : List ℕ → List ℕ → Rows → List ℕ
 filledBy s list Rows.Nothing = list
-filledBy s list (Rows.Locators series) = locatorsFilled s series list
-filledBy s list (Rows.Pairs series) = pairsFilled s series list
+filledBy s list (Rows.Locators series) = seriesFilled placeRow (locatorNext s) (locatorStored s) series list
+filledBy s list (Rows.Pairs series) = seriesFilled pairRow (pairNext s) (pairStored s) series list
 
 unfoldable pub rowsEnd : Message → List ℕ → ℕ
 rowsEnd m list = endBy list (rowsIn m)

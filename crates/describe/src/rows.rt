@@ -3,7 +3,8 @@ ghost use mathlib.Core.Path.{_≡_};
 ghost use Prim.Native.Nat.{_+_, _*_, _≤_};
 ghost use lib.ListN.{length};
 ghost use lib.Seq.{sets};
-ghost use Rattle.describe.specs.Rows.{rowsIn, locatorNext, locatorRow, locatorsEnd, locatorsFilled, pairNext, pairRow, pairsEnd, pairsFilled, rowsEnd, rowsFilled};
+ghost use Rattle.describe.specs.Rows.{rowsIn, seriesEnd, seriesFilled, locatorNext, locatorStored, pairNext, pairStored, rowsEnd, rowsFilled};
+ghost use Rattle.description.specs.Describe.{placeRow, pairRow};
 use message::Message;
 use message::Series;
 use message::Targets;
@@ -55,8 +56,8 @@ fn rows_in(m: Message) -> Rows
 }
 
 fn fill_locators(s: &[u8], series: Series, list: &mut [u64]) -> usize
-    ensures { λ r. ⌜ r ≡ locatorsEnd series (now (list .entry)) ⌝ }
-    ensures { λ r. ⌜ now (list .exit) ≡ locatorsFilled (now (s .entry)) series (now (list .entry)) ⌝ }
+    ensures { λ r. ⌜ r ≡ seriesEnd placeRow series (now (list .entry)) ⌝ }
+    ensures { λ r. ⌜ now (list .exit) ≡ seriesFilled placeRow (locatorNext (now (s .entry))) (locatorStored (now (s .entry))) series (now (list .entry)) ⌝ }
 {
     let many = series.many;
     let room = list.len() / 5;
@@ -73,9 +74,9 @@ fn fill_locators(s: &[u8], series: Series, list: &mut [u64]) -> usize
 
 // The locator at `at` in row i; the answer is the place after it.
 fn fill_locator(s: &[u8], at: usize, i: usize, list: &mut [u64]) -> usize
-    requires { ⌜ 5 * i + 5 ≤ length (now list) ⌝ }
+    requires { ⌜ placeRow * i + placeRow ≤ length (now list) ⌝ }
     ensures { λ r. ⌜ r ≡ locatorNext (now (s .entry)) at ⌝ }
-    ensures { λ r. ⌜ now (list .exit) ≡ locatorRow (now (s .entry)) at i (now (list .entry)) ⌝ }
+    ensures { λ r. ⌜ now (list .exit) ≡ locatorStored (now (s .entry)) at i (now (list .entry)) ⌝ }
 {
     let read = locator::read_at(s, at);
     match read {
@@ -93,8 +94,8 @@ fn fill_locator(s: &[u8], at: usize, i: usize, list: &mut [u64]) -> usize
 }
 
 fn fill_pairs(s: &[u8], series: Series, list: &mut [u64]) -> usize
-    ensures { λ r. ⌜ r ≡ pairsEnd series (now (list .entry)) ⌝ }
-    ensures { λ r. ⌜ now (list .exit) ≡ pairsFilled (now (s .entry)) series (now (list .entry)) ⌝ }
+    ensures { λ r. ⌜ r ≡ seriesEnd pairRow series (now (list .entry)) ⌝ }
+    ensures { λ r. ⌜ now (list .exit) ≡ seriesFilled pairRow (pairNext (now (s .entry))) (pairStored (now (s .entry))) series (now (list .entry)) ⌝ }
 {
     let many = series.many;
     let room = list.len() / 12;
@@ -111,9 +112,9 @@ fn fill_pairs(s: &[u8], series: Series, list: &mut [u64]) -> usize
 
 // The pair at `at` in row i, with 0 for the place of the count's head; the answer is the place after it.
 fn fill_pair(s: &[u8], at: usize, i: usize, list: &mut [u64]) -> usize
-    requires { ⌜ 12 * i + 12 ≤ length (now list) ⌝ }
+    requires { ⌜ pairRow * i + pairRow ≤ length (now list) ⌝ }
     ensures { λ r. ⌜ r ≡ pairNext (now (s .entry)) at ⌝ }
-    ensures { λ r. ⌜ now (list .exit) ≡ pairRow (now (s .entry)) at i (now (list .entry)) ⌝ }
+    ensures { λ r. ⌜ now (list .exit) ≡ pairStored (now (s .entry)) at i (now (list .entry)) ⌝ }
 {
     let read = pair::read_at(s, at);
     match read {

@@ -63,9 +63,9 @@ module _ (s : List ℕ) (by : Bytes s) where
 
   -- ---- a list that is lent
   -- of a series of locators
-  locators-lent : {e : ℕ} {series : Series} {ls : List Loc} (list : List ℕ) → SeriesIs s series e (λ xs. LocatorItems xs ls) → R.locatorsEnd series list ≤ length list
-      → Placed (take (R.locatorsEnd series list) (R.locatorsFilled s series list)) ls
-  unfolding R.locatorsEnd R.locatorsFilled
+  locators-lent : {e : ℕ} {series : Series} {ls : List Loc} (list : List ℕ) → SeriesIs s series e (λ xs. LocatorItems xs ls) → R.seriesEnd placeRow series list ≤ length list
+      → Placed (take (R.seriesEnd placeRow series list) (R.seriesFilled placeRow (R.locatorNext s) (R.locatorStored s) series list)) ls
+  unfolding R.seriesEnd R.seriesFilled
   locators-lent {series = series} {ls} list i room =
       let (rows, chain) = locators-rows s by (i .stand) (i .are) in
       let many = i .many ∙ locators-count (i .are) ∙ sym (rows-many chain) in
@@ -73,8 +73,8 @@ module _ (s : List ℕ) (by : Bytes s) where
 
   -- of a series of pairs
   pairs-lent : {e : ℕ} {series : Series} {xs : Items} {ps : List (Pair Value)} (list : List ℕ) → depths xs ≤ mostLevels → StandAll s (series .at) e xs → PairItems xs ps
-      → series .many ≡ length ps → R.pairsEnd series list ≤ length list → Paired (take (R.pairsEnd series list) (R.pairsFilled s series list)) (map (valuedPair valueBytes) ps)
-  unfolding R.pairsEnd R.pairsFilled
+      → series .many ≡ length ps → R.seriesEnd pairRow series list ≤ length list → Paired (take (R.seriesEnd pairRow series list) (R.seriesFilled pairRow (R.pairNext s) (R.pairStored s) series list)) (map (valuedPair valueBytes) ps)
+  unfolding R.seriesEnd R.seriesFilled
   pairs-lent {series = series} {ps = ps} list d a i many room =
       let (rows, chain) = pairs-rows s by d a i in
       subst (λ (l : List ℕ). Paired l (map (valuedPair valueBytes) ps)) (sym (lent chain (series .many) list (ltb (length list / pairRow) (series .many)) (many ∙ pairs-many ps ∙ sym (rows-many chain)) room)) (paired-rows chain)

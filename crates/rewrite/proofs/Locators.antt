@@ -29,7 +29,7 @@ use Rattle.grammar.proofs.Bridge.{split, advances}
 use Rattle.grammar.proofs.Locators.{locator-read}
 use Rattle.description.specs.declared.rows.Place.{Place}
 use Rattle.description.specs.Describe.{placeRow, locOf, placeAt}
-use Rattle.describe.specs.Rows.{locatorNextFrom, locatorRowFrom, locatorNext, locatorRow}
+use Rattle.describe.specs.Rows.{locatorNextFrom, locatorStoredFrom, locatorNext, locatorStored}
 use Rattle.roundtrip.specs.Says.{Inside, PlaceSays}
 use Rattle.rewrite.proofs.Filled.{Tells, Chain}
 
@@ -109,13 +109,13 @@ placeOf list i = placeAt list (placeRow * i)
 module _ (s : List ℕ) (by : Bytes s) where
   -- rows of locators
   abbrev pub Locators : ℕ → List (List ℕ) → List Loc → Type 0
-  Locators = Chain placeRow (locatorNext s) (locatorRow s) (Tells placeOf (locOf s) (PlaceSays s))
+  Locators = Chain placeRow (locatorNext s) (locatorStored s) (Tells placeOf (locOf s) (PlaceSays s))
 
   -- one row
   locator-row : (p : ℕ) {l : Locator} {size bad : ℕ} (i : ℕ) (list : List ℕ) → locatorAt s p ≡ LocatorRead.Got l size bad
-      → locatorRow s p i list ≡ sets list (placeRow * i) (locatorNumbers l)
-  unfolding locatorRow locatorRowFrom
-  locator-row p i list e = ap (locatorRowFrom i list) e
+      → locatorStored s p i list ≡ sets list (placeRow * i) (locatorNumbers l)
+  unfolding locatorStored locatorStoredFrom
+  locator-row p i list e = ap (locatorStoredFrom i list) e
 
   -- and what comes after it
   locator-next : {p e : ℕ} {l : Locator} {bad : ℕ} → p < e → locatorAt s p ≡ LocatorRead.Got l (e - p) bad → locatorNext s p ≡ e

@@ -158,13 +158,13 @@ pub record InOrder (s : List ℕ) (r : Row) : Type 0 where
 module _ (s : List ℕ) (by : Bytes s) where
   -- rows of pairs
   abbrev pub Pairs : ℕ → List (List ℕ) → List (Pair (List ℕ)) → Type 0
-  Pairs = Chain pairRow (R.pairNext s) (R.pairRow s) (Tells rowOf (pairOf s) (InOrder s))
+  Pairs = Chain pairRow (R.pairNext s) (R.pairStored s) (Tells rowOf (pairOf s) (InOrder s))
 
   -- one row
   pair-row : (p : ℕ) {o : Objective} {tag : Tag} {size bad long : ℕ} (i : ℕ) (list : List ℕ) → pairAt s p ≡ PairRead.Got o tag size bad long
-      → R.pairRow s p i list ≡ sets list (pairRow * i) (R.pairCells o tag)
-  unfolding R.pairRow R.pairRowFrom
-  pair-row p i list e = ap (R.pairRowFrom i list) e
+      → R.pairStored s p i list ≡ sets list (pairRow * i) (R.pairCells o tag)
+  unfolding R.pairStored R.pairStoredFrom
+  pair-row p i list e = ap (R.pairStoredFrom i list) e
 
   -- and what comes after it
   pair-next : {p e : ℕ} {o : Objective} {tag : Tag} {bad long : ℕ} → p < e → pairAt s p ≡ PairRead.Got o tag (e - p) bad long → R.pairNext s p ≡ e

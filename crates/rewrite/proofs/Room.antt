@@ -18,6 +18,7 @@ use Rattle.message.specs.declared.Series.{Series}
 use Rattle.message.specs.declared.Reading.{Reading}
 use Rattle.message.specs.Read.{mostBytes, readOf}
 use Rattle.exact.specs.Describes.{SeriesIs, AimIs, Describes}
+use Rattle.description.specs.Describe.{placeRow, pairRow}
 use Rattle.exact.proofs.Exact.{accepted-exactly, accepted-described}
 use Rattle.description.specs.Encoding.{oneMore}
 use Rattle.describe.specs.Rows as R
@@ -91,15 +92,15 @@ fits list size many h k = rw (le-ltb (length list / size) many h) k
 
 module _ {s : List ℕ} (few : length s ≤ mostBytes) (list : List ℕ) (long : mostNumbers ≤ length list) where
   -- of locators
-  locators-fit : {e : ℕ} {series : Series} {ls : List Loc} → SeriesIs s series e (λ xs. LocatorItems xs ls) → R.locatorsEnd series list ≤ length list
-  unfolding R.locatorsEnd
+  locators-fit : {e : ℕ} {series : Series} {ls : List Loc} → SeriesIs s series e (λ xs. LocatorItems xs ls) → R.seriesEnd placeRow series list ≤ length list
+  unfolding R.seriesEnd
   locators-fit {series = series} i =
       let six = locators-six (i .stand .good) (i .are) in
       fits list 5 (series .many) (omega (arith, i .many, i .stand .end, i .stand .within)) (omega (arith, i .many, i .stand .end, i .stand .within))
 
   -- of pairs
-  pairs-fit : {e : ℕ} {series : Series} {ps : List (Pair Value)} → SeriesIs s series e (λ xs. PairItems xs ps) → R.pairsEnd series list ≤ length list
-  unfolding R.pairsEnd
+  pairs-fit : {e : ℕ} {series : Series} {ps : List (Pair Value)} → SeriesIs s series e (λ xs. PairItems xs ps) → R.seriesEnd pairRow series list ≤ length list
+  unfolding R.seriesEnd
   pairs-fit {series = series} i =
       let six = pairs-six (i .are) in
       fits list 12 (series .many) (omega (arith, i .many, i .stand .end, i .stand .within)) (omega (arith, i .many, i .stand .end, i .stand .within))

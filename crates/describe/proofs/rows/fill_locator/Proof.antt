@@ -2,7 +2,7 @@
 -- Assumes nothing.
 use native.Mathlib.Omega.{arith}
 use Rattle.options.proofs.Fits.{locator-within}
-use Rattle.describe.specs.Rows.{locatorNext, locatorNextFrom, locatorRow, locatorRowFrom}
+use Rattle.describe.specs.Rows.{locatorNext, locatorNextFrom, locatorStored, locatorStoredFrom}
 use borrow.Author.Needs.{needs}
 use Rattle.describe.proofs.rows.fill_locator.Statement.{statement}
 use Rattle.describe.proofs.rows.fill_locator.Tie as tie
@@ -46,7 +46,7 @@ add-result c = omega (arith, c .before .before .before .before .before .before .
 
 -- src/rows.rt:75:1
 returns : tie.Need-returns
-unfolding locatorNext locatorNextFrom locatorRow locatorRowFrom
+unfolding locatorNext locatorNextFrom locatorStored locatorStoredFrom
 returns c = (rw (← c .before .before .read-at .ensures, c .enum-told .given .1), rw (← c .before .before .read-at .ensures, c .enum-told .given .1))
 
 -- src/rows.rt:75:1
@@ -55,7 +55,7 @@ same-length c = search needs
 
 -- src/rows.rt:75:1
 returns-2 : tie.Need-returns-2
-unfolding locatorNext locatorNextFrom locatorRow locatorRowFrom
+unfolding locatorNext locatorNextFrom locatorStored locatorStoredFrom
 returns-2 c = (rw (← c .before .before .before .before .before .before .before .before .before .read-at .ensures, c .before .before .before .before .before .before .before .read .given .1), rw (c .before .before .put-numbers .ensures, ← c .before .before .before .before .before .before .before .before .before .read-at .ensures, c .before .before .before .before .before .before .before .read .given .1, ← c .before .before .before .before .before .numbers-of .ensures))
 
 pub fill-locator-spec : {M : Type 1} → statement M

@@ -5,7 +5,7 @@ use native.Mathlib.Omega.{arith}
 use borrow.Author.Needs.{needs}
 use borrow.Author.Tests.{lt-ltb, le-ltb}
 use Rattle.base.specs.Pick.{pick}
-use Rattle.describe.specs.Rows.{locatorNext, locatorRow, locatorsEnd, locatorsFilled}
+use Rattle.describe.specs.Rows.{seriesEnd, seriesFilled, locatorNext, locatorStored}
 use Rattle.describe.proofs.Turns.{Filling, begun, filled, fill-turn, locator-length}
 use Rattle.describe.proofs.rows.fill_locators.Statement.{statement}
 use Rattle.describe.proofs.rows.fill_locators.Tie as tie
@@ -14,7 +14,7 @@ use Rattle.describe.proofs.rows.fill_locators.Lts as lts
 use Rattle.describe.proofs.rows.fill_locator.Reads as fill-locator-reads
 
 abbrev Inv-loop : tie.InvT-loop
-Inv-loop s list₀ many room n at₀ i₀ list at i = Filling (locatorNext s) (locatorRow s) n at₀ list₀ i at list
+Inv-loop s list₀ many room n at₀ i₀ list at i = Filling (locatorNext s) (locatorStored s) n at₀ list₀ i at list
 
 abbrev μ-loop : tie.MeasureT-loop
 μ-loop s list₀ many room n at₀ i₀ list at i = n - i
@@ -25,7 +25,7 @@ add-result c = search needs
 
 -- src/rows.rt:63:9
 returns : tie.Need-returns Inv-loop μ-loop
-unfolding locatorsEnd locatorsFilled pick
+unfolding seriesEnd seriesFilled pick
 returns c = (rw (lt-ltb _ _ (c .if1 .taken)), rw (lt-ltb _ _ (c .if1 .taken)))
 
 -- src/rows.rt:67:5
@@ -58,7 +58,7 @@ same-length c = c .before .loop .inv .same-length
 
 -- src/rows.rt:56:1
 returns-2 : tie.Need-returns-2 Inv-loop μ-loop
-unfolding locatorsEnd locatorsFilled pick
+unfolding seriesEnd seriesFilled pick
 returns-2 c = (rw (le-ltb _ _ (c .before .before .if1 .left)), rw (le-ltb _ _ (c .before .before .if1 .left)) (filled _ _ _ _ _ (c .before .loop .i) (c .before .loop .at) (c .before .loop .list) (c .before .loop .inv) (omega (arith, c .loop-test .left))))
 
 pub fill-locators-spec : {M : Type 1} → statement M

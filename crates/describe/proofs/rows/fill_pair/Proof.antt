@@ -3,7 +3,7 @@
 use native.Mathlib.Omega.{arith}
 use Rattle.options.proofs.Fits.{pair-within}
 use lib.ListN.{length-set}
-use Rattle.describe.specs.Rows.{pairCells, pairNext, pairNextFrom, pairRow, pairRowFrom}
+use Rattle.describe.specs.Rows.{pairCells, pairNext, pairNextFrom, pairStored, pairStoredFrom}
 use borrow.Author.Needs.{needs}
 use Rattle.describe.proofs.rows.fill_pair.Statement.{statement}
 use Rattle.describe.proofs.rows.fill_pair.Tie as tie
@@ -51,7 +51,7 @@ add-result c = omega (arith, c .before .before .before .before .before .before .
 
 -- src/rows.rt:113:1
 returns : tie.Need-returns
-unfolding pairNext pairNextFrom pairRow pairRowFrom pairCells
+unfolding pairNext pairNextFrom pairStored pairStoredFrom pairCells
 returns c = (rw (← c .before .before .read-at .ensures, c .enum-told .given .1), rw (← c .before .before .read-at .ensures, c .enum-told .given .1))
 
 -- src/rows.rt:113:1
@@ -60,7 +60,7 @@ same-length c = search needs
 
 -- src/rows.rt:113:1
 returns-2 : tie.Need-returns-2
-unfolding pairNext pairNextFrom pairRow pairRowFrom pairCells
+unfolding pairNext pairNextFrom pairStored pairStoredFrom pairCells
 returns-2 c = (rw (← c .before .before .before .before .before .before .before .before .before .read-at .ensures, c .before .before .before .before .before .before .before .read .given .1), rw (c .before .before .put-numbers .ensures, ← c .before .before .before .before .before .before .before .before .before .read-at .ensures, c .before .before .before .before .before .before .before .read .given .1, ← c .before .before .before .before .before .numbers-of .ensures))
 
 pub fill-pair-spec : {M : Type 1} → statement M

@@ -5,7 +5,7 @@ use native.Mathlib.Omega.{arith}
 use borrow.Author.Needs.{needs}
 use borrow.Author.Tests.{lt-ltb, le-ltb}
 use Rattle.base.specs.Pick.{pick}
-use Rattle.describe.specs.Rows.{pairNext, pairRow, pairsEnd, pairsFilled}
+use Rattle.describe.specs.Rows.{seriesEnd, seriesFilled, pairNext, pairStored}
 use Rattle.describe.proofs.Turns.{Filling, begun, filled, fill-turn, pair-length}
 use Rattle.describe.proofs.rows.fill_pairs.Statement.{statement}
 use Rattle.describe.proofs.rows.fill_pairs.Tie as tie
@@ -14,7 +14,7 @@ use Rattle.describe.proofs.rows.fill_pairs.Lts as lts
 use Rattle.describe.proofs.rows.fill_pair.Reads as fill-pair-reads
 
 abbrev Inv-loop : tie.InvT-loop
-Inv-loop s list₀ many room n at₀ i₀ list at i = Filling (pairNext s) (pairRow s) n at₀ list₀ i at list
+Inv-loop s list₀ many room n at₀ i₀ list at i = Filling (pairNext s) (pairStored s) n at₀ list₀ i at list
 
 abbrev μ-loop : tie.MeasureT-loop
 μ-loop s list₀ many room n at₀ i₀ list at i = n - i
@@ -25,7 +25,7 @@ add-result c = search needs
 
 -- src/rows.rt:105:9
 returns : tie.Need-returns Inv-loop μ-loop
-unfolding pairsEnd pairsFilled pick
+unfolding seriesEnd seriesFilled pick
 returns c = (rw (lt-ltb _ _ (c .if1 .taken)), rw (lt-ltb _ _ (c .if1 .taken)))
 
 -- src/rows.rt:109:5
@@ -58,7 +58,7 @@ same-length c = c .before .loop .inv .same-length
 
 -- src/rows.rt:98:1
 returns-2 : tie.Need-returns-2 Inv-loop μ-loop
-unfolding pairsEnd pairsFilled pick
+unfolding seriesEnd seriesFilled pick
 returns-2 c = (rw (le-ltb _ _ (c .before .before .if1 .left)), rw (le-ltb _ _ (c .before .before .if1 .left)) (filled _ _ _ _ _ (c .before .loop .i) (c .before .loop .at) (c .before .loop .list) (c .before .loop .inv) (omega (arith, c .loop-test .left))))
 
 pub fill-pairs-spec : {M : Type 1} → statement M
