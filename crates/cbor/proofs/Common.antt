@@ -1,7 +1,8 @@
 -- The heads that most messages are made of, told in place by their first bytes.
 -- Assumes nothing.
-use mathlib.Core.Path.{_≡_, refl, ap, _∙_}
-use mathlib.Core.List.{List}
+use mathlib.Core.Path.{_≡_, refl, sym, ap, _∙_, subst}
+use mathlib.Core.List.{List, _∷_}
+use mathlib.Core.Logic.{_≢_}
 use mathlib.Core.Bool.{Bool, true, false}
 use Prim.Native.Nat.{ℕ, suc, _+_, _-_, _*_, _/_, _%_, _≤_, _<_, zero-le}
 use native.Mathlib.Omega.{arith}
@@ -12,9 +13,10 @@ use borrow.Author.Tests.{lt-ltb, le-ltb, le-leb, lt-leb, ne-eqb}
 use Rattle.base.specs.Pick.{pick}
 use Rattle.base.specs.BigEndian.{bigEndian}
 use Rattle.cbor.specs.declared.head.HeadRead.{HeadRead}
+use Rattle.cbor.specs.declared.item.Common.{Common}
 use Rattle.cbor.specs.declared.item.Step.{Step}
 use Rattle.cbor.specs.Head.{widthOf, leastOf, initialOf, argOf, judged, headFrom, headBy, headOf, headAt}
-use Rattle.cbor.specs.Item.{opens, stepOf, stepFrom, stepAt}
+use Rattle.cbor.specs.Item.{opens, stepOf, stepFrom, stepAt, CommonIs}
 
 -- ---- heads by their first byte and what follows it
 judged-short : (major arg : ℕ) → judged major arg 0 ≡ HeadRead.Head major arg 1
@@ -46,6 +48,25 @@ in-byte s long least = rw (le-ltb (length s) 1 long, one-spells s, le-ltb (getD 
 in-two : (s : List ℕ) → 2 ≤ length s → 1 ≤ getD s 0 0 → headOf 25 s ≡ HeadRead.Head 0 (getD s 0 0 * 256 + getD s 1 0) 3
 unfolding headOf headBy initialOf headFrom argOf judged widthOf leastOf pick
 in-two s long least = rw (le-ltb (length s) 2 long, two-spell s, le-ltb (getD s 0 0 * 256 + getD s 1 0) 256 (omega arith))
+
+-- ---- a map, a tag and a simple value by their one byte
+module _ (first : ℕ) (s : List ℕ) (left : ℕ) where
+  -- a head of one byte, whose major type and argument are known
+  headed : (major arg : ℕ) → first % 32 < 24 → first / 32 ≡ major → first % 32 ≡ arg → headAt (first ∷ s) ≡ HeadRead.Head major arg 1
+  unfolding headAt
+  headed major arg low m a = rw (m, a) at (short first s low)
+
+  pub map-opened : 160 ≤ first → first < 184 → left ≢ 0 → stepAt left (first ∷ s) ≡ Step.Opened 1 (first - 160) true
+  unfolding stepAt stepFrom stepOf opens pick
+  map-opened lo hi may = rw (headed 5 (first - 160) (omega arith) (omega arith) (omega arith), ne-eqb left 0 may)
+
+  pub tag-opened : 192 ≤ first → first < 216 → left ≢ 0 → stepAt left (first ∷ s) ≡ Step.Opened 1 1 false
+  unfolding stepAt stepFrom stepOf opens pick
+  tag-opened lo hi may = rw (headed 6 (first - 192) (omega arith) (omega arith) (omega arith), ne-eqb left 0 may)
+
+  pub simple-passed : 224 ≤ first → first < 248 → stepAt left (first ∷ s) ≡ Step.Passed 1
+  unfolding stepAt stepFrom stepOf pick
+  simple-passed lo hi = rw (headed 7 (first - 224) (omega arith) (omega arith) (omega arith))
 
 module _ (s : List ℕ) (at : ℕ) where
   -- ---- heads in place
@@ -107,6 +128,10 @@ module _ (s : List ℕ) (at : ℕ) where
         rw
         (one-byte h low, length-drop at s, ne-eqb (first / 32) 7 (λ e. omega arith), lt-leb 4 (first / 32) (omega arith), le-leb 2 (first / 32) (omega arith), le-leb (first % 32) (length s - at - 1) room)
 
-    pub array-opened : at < length s → 128 ≤ getD s at 0 → getD s at 0 < 152 → (left ≡ 0 → ⊥) → stepAt left (drop at s) ≡ Step.Opened 1 (getD s at 0 - 128) false
+    pub array-opened : at < length s → 128 ≤ getD s at 0 → getD s at 0 < 152 → left ≢ 0 → stepAt left (drop at s) ≡ Step.Opened 1 (getD s at 0 - 128) false
     unfolding stepAt stepFrom stepOf opens pick
     array-opened h lo hi may = rw (array-head h lo hi, ne-eqb left 0 may)
+
+    -- what holds of a byte and whatever follows it holds in place
+    pub by-byte : (r : Common) → at < length s → ((l : ℕ) (rest : List ℕ) → l ≢ 0 → CommonIs l (getD s at 0 ∷ rest) r) → left ≢ 0 → CommonIs left (drop at s) r
+    by-byte r h f may = subst (λ (z : List ℕ). CommonIs left z r) (sym (drop-cons s at 0 h)) (f left (drop (suc at) s) may)

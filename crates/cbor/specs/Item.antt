@@ -41,15 +41,15 @@ stepFrom left room (HeadRead.Head major arg len) = stepOf left room major arg le
 unfoldable pub stepAt : ℕ → List ℕ → Step
 stepAt left s = stepFrom left (length s) (headAt s)
 
--- what is said of a common head is what `stepAt` gives
-unfoldable pub CommonIs : ℕ → List ℕ → Common → Type 0
-CommonIs left s (Common.Passed len) = stepAt left s ≡ Step.Passed len
-CommonIs left s (Common.Opened n) = stepAt left s ≡ Step.Opened 1 n false
-CommonIs left s Common.Other = Unit {0}
-
 -- n items, or n pairs of items
 unfoldable pub itemsOf : ℕ → Bool → ℕ
 itemsOf n pairs = pick pairs (2 * n) n
+
+-- what is said of a common head is what `stepAt` gives
+unfoldable pub CommonIs : ℕ → List ℕ → Common → Type 0
+CommonIs left s (Common.Passed len) = stepAt left s ≡ Step.Passed len
+CommonIs left s (Common.Opened n) = (m : ℕ) × (pairs : Bool) × (stepAt left s ≡ Step.Opened 1 m pairs) × (n ≡ itemsOf m pairs)
+CommonIs left s Common.Other = Unit {0}
 
 -- where the walk goes on, at a position and with the bytes from there
 unfoldable pub next : (ℕ → List ℕ → List ℕ → ItemRead) → ℕ → List ℕ → List ℕ → Step → ItemRead

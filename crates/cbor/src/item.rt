@@ -1,6 +1,7 @@
 // The first whole item of a slice.
 ghost use mathlib.Core.Path.{_≡_};
-ghost use mathlib.Core.Logic.{_⊎_};
+ghost use mathlib.Core.List.{List, _∷_};
+ghost use mathlib.Core.Logic.{_⊎_, _≢_};
 ghost use Prim.Native.Nat.{ℕ, _+_, _^_, _≤_};
 ghost use lib.ListN.{length, drop};
 ghost use Rattle.cbor.specs.Item.{CommonIs, stepOf, stepAt, itemsOf, leftUnder, firstItem};
@@ -24,8 +25,8 @@ pub enum Step {
     Refused { number: u8, place: usize },
 }
 
-// A head that most messages are made of: passed, `len` bytes with nothing inside; an array of n items opened, a head of one byte;
-// or any other, of which nothing is said.
+// A head that most messages are made of: passed, `len` bytes with nothing inside; an array, a map or a tag opened, a head of one byte that
+// holds n items; or any other, of which nothing is said.
 pub enum Common {
     Passed(usize),
     Opened(u64),
@@ -120,10 +121,36 @@ fn common_at(left: usize, s: &[u8], at: usize) -> Common
         }
         return Common::Other;
     }
-    if first < 152 {
-        if left != 0 {
+    if left != 0 {
+        if first < 152 {
             return Common::Opened((first - 128) as u64);
         }
+        return common_other(first);
+    }
+    Common::Other
+}
+
+// A map, a tag or a simple value in one byte, where a level may open.
+fn common_other(first: u8) -> Common
+    ensures { λ r. ⌜ ((left : ℕ) (s : List ℕ) → left ≢ 0 → CommonIs left (first ∷ s) r) ⌝ }
+{
+    if first < 160 {
+        return Common::Other;
+    }
+    if first < 184 {
+        return Common::Opened(2 * (first - 160) as u64);
+    }
+    if first < 192 {
+        return Common::Other;
+    }
+    if first < 216 {
+        return Common::Opened(1);
+    }
+    if first < 224 {
+        return Common::Other;
+    }
+    if first < 248 {
+        return Common::Passed(1);
     }
     Common::Other
 }

@@ -1,8 +1,11 @@
 -- `cbor::item::common_at` meets its contract.
 -- Assumes nothing.
+use mathlib.Core.Path.{refl}
+use mathlib.Core.Bool.{false}
 use native.Mathlib.Omega.{arith}
-use Rattle.cbor.specs.Item.{CommonIs}
-use Rattle.cbor.proofs.Common.{small-passed, string-passed, array-opened}
+use Rattle.base.specs.Pick.{pick}
+use Rattle.cbor.specs.Item.{CommonIs, itemsOf}
+use Rattle.cbor.proofs.Common.{small-passed, string-passed, array-opened, by-byte}
 use borrow.Author.Needs.{needs}
 use Rattle.cbor.proofs.item.common_at.Statement.{statement}
 use Rattle.cbor.proofs.item.common_at.Tie as tie
@@ -70,15 +73,15 @@ cast-t18 c = search needs
 
 -- src/item.rt:125:13
 returns-7 : tie.Need-returns-7
-unfolding CommonIs
-returns-7 c = array-opened (c .before .before .before .before .before .before .before .args .s .now) (c .before .before .before .before .before .before .before .args .at) (c .before .before .before .before .before .before .before .args .left) (omega arith) (c .before .before .if3 .left) (c .before .if7 .taken) (c .if8 .taken)
+unfolding CommonIs itemsOf pick
+returns-7 c = (_, false, array-opened (c .before .before .before .before .before .before .before .args .s .now) (c .before .before .before .before .before .before .before .args .at) (c .before .before .before .before .before .before .before .args .left) (omega arith) (c .before .before .if3 .left) (c .if8 .taken) (c .before .if7 .taken), refl)
 
--- src/item.rt:100:1
+common-other-requires : tie.Need-common-other-requires
+common-other-requires c κs = search needs
+
 returns-8 : tie.Need-returns-8
-unfolding CommonIs
-returns-8 c = tt
+returns-8 c = by-byte (c .before .before .before .before .before .before .before .before .args .s .now) (c .before .before .before .before .before .before .before .before .args .at) (c .before .before .before .before .before .before .before .before .args .left) _ (omega arith) (c .common-other .ensures) (c .before .before .if7 .taken)
 
--- src/item.rt:100:1
 returns-9 : tie.Need-returns-9
 unfolding CommonIs
 returns-9 c = tt
@@ -101,5 +104,6 @@ common-at-spec =
     returns-6
     cast-t18
     returns-7
+    common-other-requires
     returns-8
     returns-9)

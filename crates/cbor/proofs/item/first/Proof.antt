@@ -1,16 +1,15 @@
 -- `cbor::item::first` meets its contract. `Inv` of `Turn` is the loop's invariant. The measure counts two for each byte left and one for
 -- each open level around the innermost: a turn passes a byte, and opens one level at most, or closes one.
 -- Assumes nothing.
-use mathlib.Core.Path.{_≡_, refl, sym, ap, _∙_, subst}
+use mathlib.Core.Path.{_≡_, sym, ap, _∙_, subst}
 use mathlib.Core.Logic.{inl}
 use mathlib.Core.List.{List}
-use mathlib.Core.Bool.{false}
+use mathlib.Core.Bool.{Bool}
 use Prim.Native.Nat.{ℕ, _+_, _-_, _*_, _^_, _<_}
 use native.Mathlib.Omega.{arith}
 use borrow.Author.Needs.{needs}
 use lib.ListN.{length, drop}
 use Rattle.base.proofs.Parts.{rest-is}
-use Rattle.base.specs.Pick.{pick}
 use Rattle.cbor.specs.declared.item.Common.{Common}
 use Rattle.cbor.specs.declared.item.Step.{Step}
 use Rattle.cbor.specs.Item.{CommonIs, stepAt, itemsOf}
@@ -80,14 +79,9 @@ common-passed : (k : Met) (len : ℕ) → k .common-at .result ≡ Common.Passed
 unfolding CommonIs
 common-passed k len e = common k (Common.Passed len) e
 
-common-opened : (k : Met) (n : ℕ) → k .common-at .result ≡ Common.Opened n → Gives k (Step.Opened 1 n false)
+common-opened : (k : Met) (n : ℕ) → k .common-at .result ≡ Common.Opened n → (m : ℕ) × (pairs : Bool) × Gives k (Step.Opened 1 m pairs) × (n ≡ itemsOf m pairs)
 unfolding CommonIs
 common-opened k n e = common k (Common.Opened n) e
-
--- so many items as an array's head says
-counted : (n : ℕ) → n ≡ itemsOf n false
-unfolding itemsOf pick
-counted n = refl
 
 -- the same after the call of `step_at`
 abbrev Stepped : Type 0
@@ -194,7 +188,8 @@ mul-outer c = search needs
 array-write-outer : tie.Need-array-write-outer Inv-loop μ-loop
 array-write-outer c =
     let k = c .before .before .before in
-    let ok = within k _ (common-opened k _ (c .before .common2 .given .1)) in
+    let (m, pairs, gives, many) = common-opened k _ (c .before .common2 .given .1) in
+    let ok = within k _ gives in
     omega (arith, inv k .within, inv k .most-is, ok, short k)
 
 -- src/item.rt:62:29
@@ -205,14 +200,16 @@ add-depth c = search needs
 loop-less-3 : tie.Need-loop-less-3 Inv-loop μ-loop
 loop-less-3 c =
     let k = c .before .before .before in
-    let ok = within k _ (common-opened k _ (c .before .common2 .given .1)) in
+    let (m, pairs, gives, many) = common-opened k _ (c .before .common2 .given .1) in
+    let ok = within k _ gives in
     omega (arith, inv k .within, inv k .most-is, ok, short k)
 
 -- src/item.rt:45:5
 loop-again-3 : tie.Need-loop-again-3 Inv-loop μ-loop
 loop-again-3 c =
     let k = c .before .before .before in
-    opened (levels k) (bytes k) (most k) (outer k) (depth k) (lacking k) (at k) (inv k) (some k) 1 _ false _ (common-opened k _ (c .before .common2 .given .1)) (short k) (inl (counted _))
+    let (m, pairs, gives, many) = common-opened k _ (c .before .common2 .given .1) in
+    opened (levels k) (bytes k) (most k) (outer k) (depth k) (lacking k) (at k) (inv k) (some k) 1 m pairs _ gives (short k) (inl many)
 
 -- src/item.rt:66:40
 enum-told : tie.Need-enum-told Inv-loop μ-loop
