@@ -135,14 +135,14 @@ fn token_of(at: usize, room: usize, major: u8, arg: u64, len: usize) -> Token
     }
 }
 
-// How many bytes the item at `at` has, or 0 where none is there.
-pub fn size_at(s: &[u8], at: usize) -> usize
-    ensures { λ r. ⌜ SizeIs (now (s .entry)) at r ⌝ }
+// How many bytes the item at `at` has, under so many open levels, or 0 where none is there.
+pub fn size_at(levels: usize, s: &[u8], at: usize) -> usize
+    ensures { λ r. ⌜ SizeIs levels (now (s .entry)) at r ⌝ }
 {
     if s.len() < at {
         return 0;
     }
-    let read = item::first(0, &s[at..]);
+    let read = item::first(levels, &s[at..]);
     match read {
         ItemRead::Refused {
             number: _,

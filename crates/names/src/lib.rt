@@ -62,6 +62,7 @@ fn is_bad_array(s: &[u8]) -> bool
 
 // A UTF-8 text of at most 64 bytes.
 fn is_good(s: &[u8], t: Token) -> bool
+    requires { ⌜ (t .body ≤ t .next) × (t .next ≤ length (now s)) ⌝ }
     ensures { λ r. ⌜ r ≡ goodName (now (s .entry)) t ⌝ }
 {
     if t.major != 3 {
@@ -70,7 +71,9 @@ fn is_good(s: &[u8], t: Token) -> bool
     if MOST_NAME < t.arg {
         return false;
     }
-    utf8::is_utf8_in(s, t.body, t.next)
+    let from = t.body;
+    let to = t.next;
+    utf8::is_utf8(&s[from..to])
 }
 
 // Whether one of the names s is `name`, byte for byte.

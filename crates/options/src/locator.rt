@@ -72,7 +72,9 @@ pub(crate) fn read_in(s: &[u8], base: usize) -> LocatorRead
         return LocatorRead::Bad(base + q.at);
     }
     let locator = locator_of(kind, base + b.body, b.next - b.body, protocol, port);
-    let bad = text_of(s, kind, b, base + b.at);
+    let from = b.body;
+    let to = b.next;
+    let bad = text_of(kind, &s[from..to], base + b.at);
     LocatorRead::Got {
         locator,
         size: q.next,
@@ -176,14 +178,14 @@ fn locator_of(kind: u64, at: usize, len: usize, protocol: u8, port: u32) -> Loca
     }
 }
 
-// The place of a domain name or URI where it isn't UTF-8, else 0.
-fn text_of(s: &[u8], kind: u64, t: Token, place: usize) -> usize
-    ensures { λ r. ⌜ r ≡ textOf (now (s .entry)) kind t place ⌝ }
+// `place` where a domain name or URI isn't UTF-8, else 0.
+fn text_of(kind: u64, text: &[u8], place: usize) -> usize
+    ensures { λ r. ⌜ r ≡ textOf kind (now (text .entry)) place ⌝ }
 {
     if kind < 105 {
         return 0;
     }
-    crate::bad_text(s, t, place)
+    crate::bad_text(text, place)
 }
 
 // A locator as five numbers: 103 to 106, the place and length of its address, domain name or URI, protocol, port.

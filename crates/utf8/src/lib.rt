@@ -1,7 +1,5 @@
 // UTF-8 (RFC 3629).
 ghost use mathlib.Core.Path.{_≡_};
-ghost use Prim.Native.Nat.{_-_};
-ghost use lib.ListN.{take, drop};
 ghost use Rattle.utf8.specs.Utf8.{tailsOf, leastTail, greatestTail, isUtf8};
 
 // Whether `s` is UTF-8.
@@ -38,22 +36,6 @@ pub fn is_utf8(s: &[u8]) -> bool
         }
     }
     due == 0
-}
-
-// Whether the bytes of s from `from` on and before `to` are UTF-8: those of them that there are.
-pub fn is_utf8_in(s: &[u8], from: usize, to: usize) -> bool
-    ensures { λ r. ⌜ r ≡ isUtf8 (take (to - from) (drop from (now (s .entry)))) ⌝ }
-{
-    if to <= from {
-        return true;
-    }
-    if s.len() <= from {
-        return true;
-    }
-    if s.len() < to {
-        return is_utf8(&s[from..]);
-    }
-    is_utf8(&s[from..to])
 }
 
 // How many tails follow the lead byte `b`: none where `b` is no lead byte.

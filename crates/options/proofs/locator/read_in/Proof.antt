@@ -1,16 +1,16 @@
 -- `options::locator::read_in` meets its contract.
 -- Assumes nothing.
-use native.Mathlib.Omega.{arith}
 use Rattle.base.specs.Pick.{pick}
 use Rattle.options.specs.Locator.{locatorIn}
-use borrow.Author.Tests.{lt-ltb, le-ltb, eq-eqb, ne-eqb, not-true, not-false}
+use native.Mathlib.Omega.{arith}
+use borrow.Author.Tests.{lt-ltb, le-ltb, le-leb, lt-leb, eq-eqb, ne-eqb, not-true, not-false}
 use borrow.Author.Needs.{needs}
 use Rattle.options.proofs.locator.read_in.Statement.{statement}
 use Rattle.options.proofs.locator.read_in.Tie as tie
 use Rattle.options.proofs.locator.read_in.Reads as reads
 use Rattle.options.proofs.locator.read_in.Lts as lts
-use Rattle.cbor.proofs.token.items_in.Reads as items-in-reads
 use Rattle.cbor.proofs.token.array_at.Reads as array-at-reads
+use Rattle.cbor.proofs.token.items_in.Reads as items-in-reads
 use Rattle.cbor.proofs.token.number_at.Reads as number-at-reads
 use Rattle.cbor.proofs.token.string_at.Reads as string-at-reads
 use Rattle.cbor.proofs.token.up_to.Reads as up-to-reads
@@ -43,8 +43,8 @@ up-to-requires : tie.Need-up-to-requires
 up-to-requires c κs = search needs
 
 -- src/locator.rt:52:33
-add-t15 : tie.Need-add-t15
-add-t15 c = search needs
+add-t17 : tie.Need-add-t17
+add-t17 c = search needs
 
 -- src/locator.rt:52:9
 returns-2 : tie.Need-returns-2
@@ -53,8 +53,8 @@ returns-2 c =
     rw (← c .before .before .before .before .before .before .array-at .ensures .is, ← c .before .before .before .before .before .items-in .ensures, ne-eqb _ _ (c .before .before .before .before .if1 .left), ← c .before .before .before .number-at .ensures .is, ← c .before .before .up-to .ensures, lt-ltb _ _ (c .before .if2 .taken))
 
 -- src/locator.rt:55:33
-add-t16 : tie.Need-add-t16
-add-t16 c = search needs
+add-t18 : tie.Need-add-t18
+add-t18 c = search needs
 
 -- src/locator.rt:55:9
 returns-3 : tie.Need-returns-3
@@ -77,8 +77,8 @@ address-fits-requires : tie.Need-address-fits-requires
 address-fits-requires c κs = search needs
 
 -- src/locator.rt:62:33
-add-t18 : tie.Need-add-t18
-add-t18 c = search needs
+add-t20 : tie.Need-add-t20
+add-t20 c = search needs
 
 -- src/locator.rt:62:9
 returns-5 : tie.Need-returns-5
@@ -95,8 +95,8 @@ protocol-of-requires : tie.Need-protocol-of-requires
 protocol-of-requires c κs = search needs
 
 -- src/locator.rt:67:33
-add-t19 : tie.Need-add-t19
-add-t19 c = search needs
+add-t21 : tie.Need-add-t21
+add-t21 c = search needs
 
 -- src/locator.rt:67:9
 returns-6 : tie.Need-returns-6
@@ -113,8 +113,8 @@ port-of-requires : tie.Need-port-of-requires
 port-of-requires c κs = search needs
 
 -- src/locator.rt:72:33
-add-t20 : tie.Need-add-t20
-add-t20 c =
+add-t22 : tie.Need-add-t22
+add-t22 c =
     omega (arith, c .before .before .before .number-at3 .ensures, c .before .before .before .before .before .before .number-at2 .ensures, c .before .before .before .before .before .before .before .before .before .string-at .ensures, c .before .before .before .before .before .before .before .before .before .before .before .before .before .before .before .number-at .ensures, c .before .before .before .before .before .before .before .before .before .before .before .before .before .before .before .before .before .before .array-at .ensures, c .before .before .before .before .before .before .before .before .before .before .before .before .before .before .before .before .before .before .before .before .good, c .before .before .before .before .before .before .before .before .before .before .before .before .before .before .before .before .before .before .before .before .pre)
 
 -- src/locator.rt:72:9
@@ -136,12 +136,24 @@ sub-locator-of c = search needs
 locator-of-requires : tie.Need-locator-of-requires
 locator-of-requires c κs = search needs
 
--- src/locator.rt:75:35
+-- src/locator.rt:77:29
+sub-text-of : tie.Need-sub-text-of
+sub-text-of c = search needs
+
+-- src/locator.rt:77:29
+part-text-of-start : tie.Need-part-text-of-start
+part-text-of-start c = search needs
+
+-- src/locator.rt:77:29
+part-text-of-end : tie.Need-part-text-of-end
+part-text-of-end c = search needs
+
+-- src/locator.rt:77:43
 add-text-of : tie.Need-add-text-of
 add-text-of c =
-    omega (arith, c .before .before .before .before .before .before .number-at3 .ensures, c .before .before .before .before .before .before .before .before .before .number-at2 .ensures, c .before .before .before .before .before .before .before .before .before .before .before .before .string-at .ensures, c .before .before .before .before .before .before .before .before .before .before .before .before .before .before .before .before .before .before .number-at .ensures, c .before .before .before .before .before .before .before .before .before .before .before .before .before .before .before .before .before .before .before .before .before .array-at .ensures, c .before .before .before .before .before .before .before .before .before .before .before .before .before .before .before .before .before .before .before .before .before .before .before .good, c .before .before .before .before .before .before .before .before .before .before .before .before .before .before .before .before .before .before .before .before .before .before .before .pre)
+    omega (arith, c .before .before .before .before .before .before .before .number-at3 .ensures, c .before .before .before .before .before .before .before .before .before .before .number-at2 .ensures, c .before .before .before .before .before .before .before .before .before .before .before .before .before .string-at .ensures, c .before .before .before .before .before .before .before .before .before .before .before .before .before .before .before .before .before .before .before .number-at .ensures, c .before .before .before .before .before .before .before .before .before .before .before .before .before .before .before .before .before .before .before .before .before .before .array-at .ensures, c .before .before .before .before .before .before .before .before .before .before .before .before .before .before .before .before .before .before .before .before .before .before .before .before .good, c .before .before .before .before .before .before .before .before .before .before .before .before .before .before .before .before .before .before .before .before .before .before .before .before .pre)
 
--- src/locator.rt:75:9
+-- src/locator.rt:77:9
 text-of-requires : tie.Need-text-of-requires
 text-of-requires c κs = search needs
 
@@ -149,7 +161,7 @@ text-of-requires c κs = search needs
 returns-8 : tie.Need-returns-8
 unfolding locatorIn pick
 returns-8 c =
-    rw (← c .before .before .before .before .before .before .before .before .before .before .before .before .before .before .before .before .before .before .before .before .before .before .array-at .ensures .is, ← c .before .before .before .before .before .before .before .before .before .before .before .before .before .before .before .before .before .before .before .before .before .items-in .ensures, ne-eqb _ _ (c .before .before .before .before .before .before .before .before .before .before .before .before .before .before .before .before .before .before .before .before .if1 .left), ← c .before .before .before .before .before .before .before .before .before .before .before .before .before .before .before .before .before .before .before .number-at .ensures .is, ← c .before .before .before .before .before .before .before .before .before .before .before .before .before .before .before .before .before .before .up-to .ensures, le-ltb _ _ (c .before .before .before .before .before .before .before .before .before .before .before .before .before .before .before .before .before .if2 .left), le-ltb _ _ (c .before .before .before .before .before .before .before .before .before .before .before .before .before .before .before .before .if3 .left), eq-eqb _ _ (c .before .before .before .before .before .before .before .before .before .before .before .before .before .before .if4 .left), ← c .before .before .before .before .before .before .before .before .before .before .before .before .before .string-at .ensures .is, ← c .before .before .before .before .before .before .before .before .before .before .before .before .address-fits .ensures, not-false (c .before .before .before .before .before .before .before .before .before .before .before .before .address-fits .result) (c .before .before .before .before .before .before .before .before .before .before .before .if5 .left), ← c .before .before .before .before .before .before .before .before .before .before .number-at2 .ensures .is, ← c .before .before .before .before .before .before .before .before .before .protocol-of .ensures, ne-eqb _ _ (c .before .before .before .before .before .before .before .before .if6 .left), ← c .before .before .before .before .before .before .before .number-at3 .ensures .is, ← c .before .before .before .before .before .before .port-of .ensures, le-ltb _ _ (c .before .before .before .before .before .if7 .left), ← c .before .before .locator-of .ensures, ← c .text-of .ensures)
+    rw (← c .before .before .before .before .before .before .before .before .before .before .before .before .before .before .before .before .before .before .before .before .before .before .before .array-at .ensures .is, ← c .before .before .before .before .before .before .before .before .before .before .before .before .before .before .before .before .before .before .before .before .before .before .items-in .ensures, ne-eqb _ _ (c .before .before .before .before .before .before .before .before .before .before .before .before .before .before .before .before .before .before .before .before .before .if1 .left), ← c .before .before .before .before .before .before .before .before .before .before .before .before .before .before .before .before .before .before .before .before .number-at .ensures .is, ← c .before .before .before .before .before .before .before .before .before .before .before .before .before .before .before .before .before .before .before .up-to .ensures, le-ltb _ _ (c .before .before .before .before .before .before .before .before .before .before .before .before .before .before .before .before .before .before .if2 .left), le-ltb _ _ (c .before .before .before .before .before .before .before .before .before .before .before .before .before .before .before .before .before .if3 .left), eq-eqb _ _ (c .before .before .before .before .before .before .before .before .before .before .before .before .before .before .before .if4 .left), ← c .before .before .before .before .before .before .before .before .before .before .before .before .before .before .string-at .ensures .is, ← c .before .before .before .before .before .before .before .before .before .before .before .before .before .address-fits .ensures, not-false (c .before .before .before .before .before .before .before .before .before .before .before .before .before .address-fits .result) (c .before .before .before .before .before .before .before .before .before .before .before .before .if5 .left), ← c .before .before .before .before .before .before .before .before .before .before .before .number-at2 .ensures .is, ← c .before .before .before .before .before .before .before .before .before .before .protocol-of .ensures, ne-eqb _ _ (c .before .before .before .before .before .before .before .before .before .if6 .left), ← c .before .before .before .before .before .before .before .before .number-at3 .ensures .is, ← c .before .before .before .before .before .before .before .port-of .ensures, le-ltb _ _ (c .before .before .before .before .before .before .if7 .left), ← c .before .before .before .locator-of .ensures, ← c .text-of .ensures)
 
 pub read-in-spec : {M : Type 1} → statement M
 read-in-spec =
@@ -160,26 +172,29 @@ read-in-spec =
     returns
     number-at-requires
     up-to-requires
-    add-t15
+    add-t17
     returns-2
-    add-t16
+    add-t18
     returns-3
     returns-4
     string-at-requires
     address-fits-requires
-    add-t18
+    add-t20
     returns-5
     number-at-requires-2
     protocol-of-requires
-    add-t19
+    add-t21
     returns-6
     number-at-requires-3
     port-of-requires
-    add-t20
+    add-t22
     returns-7
     add-locator-of
     sub-locator-of
     locator-of-requires
+    sub-text-of
+    part-text-of-start
+    part-text-of-end
     add-text-of
     text-of-requires
     returns-8)
