@@ -48,5 +48,5 @@ pairNext go at bad long (PairRead.Bad place) = PairsRead.Bad place
 pairNext go at bad long (PairRead.Got o t size bad′ long′) = go (at + size) (firstOf bad bad′) (firstOf long long′)
 
 unfoldable pub pairsFrom : List ℕ → ℕ → ℕ → ℕ → ℕ → PairsRead
-pairsFrom s zero at bad long = PairsRead.Ran bad long
+pairsFrom s zero at bad long = PairsRead.Ran at bad long
 pairsFrom s (suc n) at bad long = pairNext (pairsFrom s n) at bad long (pairAt s at)

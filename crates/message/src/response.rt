@@ -12,6 +12,7 @@ use crate::opening::Opening;
 use crate::opening::OpeningRead;
 use crate::sequence;
 use crate::sequence::LocatorsRead;
+use crate::shape::OBJECTIVE_LEVELS;
 use crate::shape::Shape;
 use cbor::token;
 use options::objective;
@@ -120,11 +121,12 @@ fn rest_at(s: &[u8], opening: Opening, targets: Targets, left: u64, at: usize, b
                 targets,
                 extra: Extra::Without,
             },
+            end: at,
             bad,
             long: 0,
         };
     }
-    let read = objective::read_at(s, at);
+    let read = objective::read_at(OBJECTIVE_LEVELS, s, at);
     match read {
         ObjectiveRead::Bad(place) => Shape::Bad(place),
         ObjectiveRead::Got {
@@ -144,6 +146,7 @@ fn rest_at(s: &[u8], opening: Opening, targets: Targets, left: u64, at: usize, b
                     targets,
                     extra: Extra::With(objective),
                 },
+                end: at + size,
                 bad: options::first_of(bad, bad2),
                 long,
             }
