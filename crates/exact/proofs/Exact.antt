@@ -24,11 +24,11 @@ use Rattle.exact.proofs.Answers.{item-once, message-shape, Answer, answ
 -- an answer that is a message
 read-answer : {s : List ℕ} {m : Message} (r : Examined) → Answer s r → placeless r ≡ Reading.Read m → (a : Accepted s) × Describes s m (a .message .msg)
 unfolding placeless
-read-answer {s} {m} (E.Accepted m′) (Answer.read a d) q = let same : m′ ≡ m = cc in (a, subst (λ (m : Message). Describes s m (a .message .msg)) same d)
+read-answer {s} {m} (E.Accepted m′ end) (Answer.read a d) q = let same : m′ ≡ m = cc in (a, subst (λ (m : Message). Describes s m (a .message .msg)) same d)
 read-answer (E.Refused number place) a q = absurd (let z : _≡_ {A = ℕ} 0 1 = cc in omega arith)
 
 -- nothing noted
-judged-good : {m : Message} {bad long : ℕ} → bad ≡ 0 → long ≡ 0 → judged (S.Good m bad long) ≡ E.Accepted m
+judged-good : {m : Message} {end bad long : ℕ} → bad ≡ 0 → long ≡ 0 → judged (S.Good m end bad long) ≡ E.Accepted m end
 unfolding judged pick
 judged-good e e′ = rw (e, e′)
 
