@@ -1,4 +1,4 @@
--- What an answer of `message::read` describes, by the message's bytes s.
+-- What an answer of `reader::read` describes, by the message's bytes s.
 use Prim.Native.Nat.{ℕ, suc, _+_, _-_}
 use mathlib.Core.List.{List, _∷_}
 use mathlib.Core.Path.{_≡_}

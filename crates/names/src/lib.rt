@@ -1,5 +1,7 @@
 // A node's own names: one CBOR array of texts, lent as bytes.
 ghost use mathlib.Core.Path.{_≡_};
+ghost use Prim.Native.Nat.{_≤_};
+ghost use lib.ListN.{length};
 ghost use Rattle.names.specs.Names.{goodName, namesBad, arrayBad, sameBytes, isOwn};
 use cbor::item;
 use cbor::item::ItemRead;
