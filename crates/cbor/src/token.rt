@@ -92,6 +92,18 @@ pub fn number_at(s: &[u8], at: usize) -> Token
     token_at(s, at)
 }
 
+// The token at `at`, told by its first bytes where it is an unsigned number up to 65,535 or null.
+pub fn number_or_null_at(s: &[u8], at: usize) -> Token
+    ensures { λ r. ⌜ TokenIs (now (s .entry)) at r ⌝ }
+{
+    if at < s.len() {
+        if s[at] == 0xF6 {
+            return token_of(at, s.len() - at, 7, 22, 1);
+        }
+    }
+    number_at(s, at)
+}
+
 fn nothing_at(at: usize) -> Token
     ensures { λ r. ⌜ r ≡ nothingAt at ⌝ }
 {

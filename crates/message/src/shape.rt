@@ -109,7 +109,7 @@ fn discovery_at(s: &[u8], n: u64, at: usize) -> Shape
                 message: Message::Discovery {
                     session: session as u32,
                     initiator,
-                    objective,
+                    objective: objective::copied(objective),
                 },
                 end: j.next + size,
                 bad,
@@ -143,7 +143,7 @@ fn exchange_at(s: &[u8], kind: u64, n: u64, at: usize) -> Shape
             long,
         } => {
             return Shape::Good {
-                message: exchange_of(kind, session as u32, objective),
+                message: exchange_of(kind, session as u32, objective::copied(objective)),
                 end: i.next + size,
                 bad,
                 long,

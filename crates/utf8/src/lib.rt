@@ -2,8 +2,22 @@
 ghost use mathlib.Core.Path.{_≡_};
 ghost use Rattle.utf8.specs.Utf8.{tailsOf, leastTail, greatestTail, isUtf8};
 
-// Whether `s` is UTF-8.
+// Whether `s` is UTF-8. Texts are nearly all ASCII, so bytes below 128 are passed over up to the first other one.
 pub fn is_utf8(s: &[u8]) -> bool
+    ensures { λ r. ⌜ r ≡ isUtf8 (now (s .entry)) ⌝ }
+{
+    let mut at: usize = 0;
+    while at < s.len() {
+        if 0x80 <= s[at] {
+            return is_utf8_from(&s[at..]);
+        }
+        at += 1;
+    }
+    true
+}
+
+// The same, for any bytes: `is_utf8` asks it from the first byte on that is not ASCII.
+fn is_utf8_from(s: &[u8]) -> bool
     ensures { λ r. ⌜ r ≡ isUtf8 (now (s .entry)) ⌝ }
 {
     // How many tails are still due, and the range of the next one.

@@ -1,9 +1,9 @@
 -- `message::shape::discovery_at` meets its contract.
 -- Assumes nothing.
-use Rattle.message.specs.Shape.{discoveryAt, discovered}
+use native.Mathlib.Omega.{arith}
 use Rattle.base.specs.Pick.{pick}
 use Rattle.options.proofs.Fits.{objective-within}
-use native.Mathlib.Omega.{arith}
+use Rattle.message.specs.Shape.{discoveryAt, discovered}
 use borrow.Author.Tests.{lt-ltb, le-ltb, le-leb, lt-leb, eq-eqb, ne-eqb, not-true, not-false}
 use borrow.Author.Needs.{needs}
 use Rattle.message.proofs.shape.discovery_at.Statement.{statement}
@@ -14,6 +14,7 @@ use Rattle.cbor.proofs.token.number_at.Reads as number-at-reads
 use Rattle.cbor.proofs.token.string_at.Reads as string-at-reads
 use Rattle.cbor.proofs.token.up_to.Reads as up-to-reads
 use Rattle.message.proofs.opening.is_initiator.Reads as is-initiator-reads
+use Rattle.options.proofs.objective.copied.Reads as copied-reads
 use Rattle.options.proofs.objective.read_at.Reads as read-at-reads
 
 -- src/shape.rt:82:9
@@ -80,16 +81,20 @@ enum-known-read-2 c = search needs
 cast-t18 : tie.Need-cast-t18
 cast-t18 c = search needs
 
+-- src/shape.rt:112:32
+copied-requires : tie.Need-copied-requires
+copied-requires c κs = search needs
+
 -- src/shape.rt:114:22
-add-t20 : tie.Need-add-t20
-add-t20 c =
-    omega (arith, c .before .before .before .before .before .before .before .before .string-at .ensures, c .before .before .before .before .before .before .before .before .before .before .before .before .before .before .good, objective-within 2 (c .before .before .before .before .before .before .before .before .before .before .before .before .before .before .args .s .now) _ (c .before .before .before .before .before .before .before .before .string-at .result .next) _ _ (c .before .before .before .before .read-at .ensures) (c .before .before .read2 .given .1))
+add-t21 : tie.Need-add-t21
+add-t21 c =
+    omega (arith, c .before .before .before .before .before .before .before .before .before .string-at .ensures, c .before .before .before .before .before .before .before .before .before .before .before .before .before .before .before .good, objective-within 2 (c .before .before .before .before .before .before .before .before .before .before .before .before .before .before .before .args .s .now) _ (c .before .before .before .before .before .before .before .before .before .string-at .result .next) _ _ (c .before .before .before .before .before .read-at .ensures) (c .before .before .before .read2 .given .1))
 
 -- src/shape.rt:108:13
 returns-5 : tie.Need-returns-5
 unfolding discoveryAt discovered pick
 returns-5 c =
-    rw (eq-eqb _ _ (c .before .before .before .before .before .before .before .before .before .before .before .before .if1 .left), ← c .before .before .before .before .before .before .before .before .before .before .before .number-at .ensures .is, ← c .before .before .before .before .before .before .before .before .before .before .up-to .ensures, le-ltb _ _ (c .before .before .before .before .before .before .before .before .before .if2 .left), ← c .before .before .before .before .before .before .before .before .string-at .ensures .is, ← c .before .before .before .before .before .before .before .is-initiator .ensures, not-false (c .before .before .before .before .before .before .before .is-initiator .result) (c .before .before .before .before .before .before .if3 .left), ← c .before .before .before .before .read-at .ensures, c .before .before .read2 .given .1)
+    rw (eq-eqb _ _ (c .before .before .before .before .before .before .before .before .before .before .before .before .before .if1 .left), ← c .before .before .before .before .before .before .before .before .before .before .before .before .number-at .ensures .is, ← c .before .before .before .before .before .before .before .before .before .before .before .up-to .ensures, le-ltb _ _ (c .before .before .before .before .before .before .before .before .before .before .if2 .left), ← c .before .before .before .before .before .before .before .before .before .string-at .ensures .is, ← c .before .before .before .before .before .before .before .before .is-initiator .ensures, not-false (c .before .before .before .before .before .before .before .before .is-initiator .result) (c .before .before .before .before .before .before .before .if3 .left), ← c .before .before .before .before .before .read-at .ensures, c .before .before .before .read2 .given .1, c .before .copied .ensures)
 
 pub discovery-at-spec : {M : Type 1} → statement M
 discovery-at-spec =
@@ -109,5 +114,6 @@ discovery-at-spec =
     returns-4
     enum-known-read-2
     cast-t18
-    add-t20
+    copied-requires
+    add-t21
     returns-5)

@@ -13,6 +13,7 @@ use Rattle.message.proofs.shape.exchange_at.Lts as lts
 use Rattle.cbor.proofs.token.number_at.Reads as number-at-reads
 use Rattle.cbor.proofs.token.up_to.Reads as up-to-reads
 use Rattle.message.proofs.shape.exchange_of.Reads as exchange-of-reads
+use Rattle.options.proofs.objective.copied.Reads as copied-reads
 use Rattle.options.proofs.objective.read_at.Reads as read-at-reads
 
 -- src/shape.rt:127:9
@@ -61,20 +62,24 @@ enum-known-read-2 c = search needs
 cast-exchange-of : tie.Need-cast-exchange-of
 cast-exchange-of c = search needs
 
+-- src/shape.rt:146:60
+copied-requires : tie.Need-copied-requires
+copied-requires c κs = search needs
+
 -- src/shape.rt:146:26
 exchange-of-requires : tie.Need-exchange-of-requires
 exchange-of-requires c κs = search needs
 
 -- src/shape.rt:147:22
-add-t17 : tie.Need-add-t17
-add-t17 c =
-    omega (arith, c .before .before .before .before .before .before .before .before .number-at .ensures, c .before .before .before .before .before .before .before .before .before .before .before .good, objective-within 2 (c .before .before .before .before .before .before .before .before .before .before .before .args .s .now) _ (c .before .before .before .before .before .before .before .before .number-at .result .next) _ _ (c .before .before .before .before .before .read-at .ensures) (c .before .before .before .read2 .given .1))
+add-t18 : tie.Need-add-t18
+add-t18 c =
+    omega (arith, c .before .before .before .before .before .before .before .before .before .number-at .ensures, c .before .before .before .before .before .before .before .before .before .before .before .before .good, objective-within 2 (c .before .before .before .before .before .before .before .before .before .before .before .before .args .s .now) _ (c .before .before .before .before .before .before .before .before .before .number-at .result .next) _ _ (c .before .before .before .before .before .before .read-at .ensures) (c .before .before .before .before .read2 .given .1))
 
 -- src/shape.rt:145:13
 returns-4 : tie.Need-returns-4
 unfolding exchangeAt exchanged pick
 returns-4 c =
-    rw (eq-eqb _ _ (c .before .before .before .before .before .before .before .before .before .if1 .left), ← c .before .before .before .before .before .before .before .before .number-at .ensures .is, ← c .before .before .before .before .before .before .before .up-to .ensures, le-ltb _ _ (c .before .before .before .before .before .before .if2 .left), ← c .before .before .before .before .before .read-at .ensures, c .before .before .before .read2 .given .1, ← c .before .exchange-of .ensures)
+    rw (eq-eqb _ _ (c .before .before .before .before .before .before .before .before .before .before .if1 .left), ← c .before .before .before .before .before .before .before .before .before .number-at .ensures .is, ← c .before .before .before .before .before .before .before .before .up-to .ensures, le-ltb _ _ (c .before .before .before .before .before .before .before .if2 .left), ← c .before .before .before .before .before .before .read-at .ensures, c .before .before .before .before .read2 .given .1, ← c .before .before .copied .ensures, ← c .before .exchange-of .ensures)
 
 pub exchange-at-spec : {M : Type 1} → statement M
 exchange-at-spec =
@@ -90,6 +95,7 @@ exchange-at-spec =
     returns-3
     enum-known-read-2
     cast-exchange-of
+    copied-requires
     exchange-of-requires
-    add-t17
+    add-t18
     returns-4)
