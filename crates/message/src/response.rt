@@ -38,12 +38,11 @@ fn targets_at(s: &[u8], opening: Opening, n: u64, at: usize) -> Shape
     ensures { λ r. ⌜ r ≡ targetsAt (now (s .entry)) opening n at ⌝ }
 {
     let o = token::array_at(s, at);
-    if token::items_in(o) == 0 {
-        return located_at(s, opening, n, at);
-    }
-    let x = token::number_at(s, o.next);
-    if token::up_to(100, x) == 100 {
-        return divert_at(s, opening, n - 1, o.arg, at, x.next);
+    if token::items_in(o) != 0 {
+        let x = token::number_at(s, o.next);
+        if token::up_to(100, x) == 100 {
+            return divert_at(s, opening, n - 1, o.arg, at, x.next);
+        }
     }
     located_at(s, opening, n, at)
 }
