@@ -25,7 +25,7 @@ use Rattle.grammar.proofs.Pieces.{is-array, array-at, array-items, number-here,
 use Rattle.grammar.proofs.Texts.{bad-text}
 use Rattle.grammar.proofs.Sizes.{sized-item, item-sized}
 use Rattle.message.specs.Opening.{contentOf}
-use Rattle.message.specs.declared.Outcome.{Outcome}
+use Rattle.options.specs.declared.Outcome.{Outcome}
 use Rattle.message.specs.declared.Message.the-variants as M
 use Rattle.message.specs.declared.shape.Shape.the-variants as S
 use Rattle.message.specs.Shape.{noopAt, waitAt, invalidAt, optionAt, endAt}

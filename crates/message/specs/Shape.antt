@@ -10,7 +10,7 @@ use Rattle.options.specs.declared.objective.Objective.{Objective}
 use Rattle.options.specs.declared.objective.ObjectiveRead.{ObjectiveRead}
 use Rattle.options.specs.Text.{unless, spanOf, contentIn, badText}
 use Rattle.options.specs.Objective.{objectiveAt}
-use Rattle.message.specs.declared.Outcome.{Outcome}
+use Rattle.options.specs.declared.Outcome.{Outcome}
 use Rattle.message.specs.declared.Message.{Message}
 use Rattle.message.specs.declared.Message.the-variants as M
 use Rattle.message.specs.declared.shape.Shape.{Shape}

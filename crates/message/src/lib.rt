@@ -2,6 +2,7 @@
 ghost use mathlib.Core.Path.{_≡_};
 ghost use Rattle.message.specs.Read.{judged, shaped};
 use cbor::token;
+use options::Outcome;
 use options::Span;
 use options::objective::Objective;
 use shape::Shape;
@@ -31,13 +32,6 @@ pub enum Targets {
 pub enum Extra {
     Without,
     With(Objective),
-}
-
-// How a negotiation ends: accepted, declined, or declined with a reason.
-pub enum Outcome {
-    Accept,
-    Decline,
-    Reason(Span),
 }
 
 // A Flood has its first objective beside its pairs, and Invalid an item of 0 bytes where it has none.

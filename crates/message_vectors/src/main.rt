@@ -2,10 +2,10 @@
 // message's length in two bytes and the message.
 use message::Extra;
 use message::Message;
-use message::Outcome;
 use message::Reading;
 use message::Series;
 use message::Targets;
+use options::Outcome;
 use options::Span;
 use options::locator::Locator;
 use options::locator::LocatorRead;

@@ -14,6 +14,13 @@ pub struct Span {
     pub len: usize,
 }
 
+// How a negotiation ends (RFC 8990, sections 2.9.3 and 2.9.4): accepted, declined, or declined with a reason.
+pub enum Outcome {
+    Accept,
+    Decline,
+    Reason(Span),
+}
+
 // `place` where a text isn't UTF-8, else 0.
 pub fn bad_text(text: &[u8], place: usize) -> usize
     ensures { λ r. ⌜ r ≡ badText (now (text .entry)) place ⌝ }

@@ -18,7 +18,7 @@ use Rattle.grammar.proofs.Pairs.{pairLevels}
 use Rattle.message.specs.declared.Series.{Series}
 use Rattle.message.specs.declared.Targets.{Targets}
 use Rattle.message.specs.declared.Extra.{Extra}
-use Rattle.message.specs.declared.Outcome.{Outcome}
+use Rattle.options.specs.declared.Outcome.{Outcome}
 use Rattle.message.specs.declared.Message.{Message}
 use Rattle.exact.specs.Describes.{SeriesIs, AimIs, ExtraIs, OutcomeIs, Describes}
 use Rattle.exact.proofs.Described.{locators-count, pairs-count}
@@ -27,7 +27,7 @@ use Rattle.description.specs.Describe.{placeRow, pairRow, locOf, placeAt, rowLo
 use Rattle.describe.specs.Describe as D
 use Rattle.describe.specs.Rows as R
 use Rattle.roundtrip.specs.Plain.{valueBytes, plain}
-use Rattle.roundtrip.specs.Says.{PlaceSays, PairSays, Rows, ExtraSays, EndingSays, Says}
+use Rattle.roundtrip.specs.Says.{PlaceSays, PairSays, Rows, ExtraSays, OutcomeSays, Says}
 use Rattle.roundtrip.proofs.Encodes.{pairs-many}
 use Rattle.roundtrip.proofs.Places.{past-item, stands-whole, opened-place}
 use Rattle.rewrite.specs.Lent.{rowsLent}
@@ -97,8 +97,8 @@ module _ (s : List ℕ) (by : Bytes s) where
 
   -- how a negotiation ends; a reason is the end of the message
   ending-says : {outcome : Outcome} {ending : Ending} (session : ℕ) → OutcomeIs s outcome ending → encodeMsg (Msg.end session ending) ≡ s
-      → EndingSays s (D.endingOf outcome) × (endOf s (D.endingOf outcome) ≡ ending)
-  unfolding D.endingOf endOf encodeMsg encodeEnding string
+      → OutcomeSays s outcome × (endOf s outcome ≡ ending)
+  unfolding endOf encodeMsg encodeEnding string
   ending-says session OutcomeIs.accept e = (tt, refl)
   ending-says session OutcomeIs.decline e = (tt, refl)
   ending-says session (OutcomeIs.reason {content = content} q) e =

@@ -19,7 +19,7 @@ use Rattle.options.specs.Text.{spanOf, badText, firstOf, held}
 use Rattle.options.specs.Objective.{longName, objectiveOf, objectiveIn}
 use Rattle.options.specs.Pair.{isEmpty, pairTagged, pairTail, pairLed, pairIn}
 use Rattle.message.specs.declared.Message.the-variants as M
-use Rattle.message.specs.declared.Outcome.{Outcome}
+use Rattle.options.specs.declared.Outcome.{Outcome}
 use Rattle.message.specs.declared.Reading.{Reading}
 use Rattle.message.specs.Opening.{isInitiator, openingAt}
 use Rattle.message.specs.Sequence.{pairNext, pairsFrom}
