@@ -16,7 +16,7 @@ use Rattle.describe.specs.Describe.{descriptionOf}
 use Rattle.describe.specs.Rows.{rowsEnd}
 use Rattle.roundtrip.specs.Plain.{plain}
 use Rattle.roundtrip.specs.Says.{Says}
-use Rattle.roundtrip.proofs.Read.{read-encoded}
+use Rattle.roundtrip.proofs.Read.{accepted-bytes, read-encoded}
 use Rattle.roundtrip.proofs.Write.{read-written, refused-19}
 use Rattle.rewrite.specs.Lent.{rowsLent}
 use Rattle.rewrite.proofs.ByKind.{kind-says}
@@ -24,9 +24,10 @@ use Rattle.rewrite.proofs.ByKind.{kind-says}
 -- for readers
 
 -- The description of a message that was read says that message, with the rows in a list that has room for them.
-pub described-says : (s list : List ℕ) (m : Message) → Bytes s → readOf s ≡ Reading.Read m → rowsEnd m list ≤ length list → (a : Accepted s)
+pub described-says : (s list : List ℕ) (m : Message) → readOf s ≡ Reading.Read m → rowsEnd m list ≤ length list → (a : Accepted s)
     → Says s (rowsLent s m list) (descriptionOf m) (plain (a .message .msg))
-described-says s list m b q room a =
+described-says s list m q room a =
+    let b = accepted-bytes s a in
     kind-says s b list (accepted-described s m b q a) (a .message .is) (a .message .good) (a .message .shallow) (a .message .bytes) (read-encoded s a) room
 
 -- So what was read, described and written again is the same bytes, where the output has room for them.
@@ -34,11 +35,11 @@ pub described-written : (s list out : List ℕ) (m : Message) → Bytes s → re
     → (writeAnswer s (rowsLent s m list) (descriptionOf m) out ≡ Written.Length (length s)) × (writeOut s (rowsLent s m list) (descriptionOf m) out ≡ s ++ drop (length s) out)
 described-written s list out m b q room =
     let a = accepted-exactly s b .0 (m, q) in
-    read-written s s (rowsLent s m list) (descriptionOf m) out b a (described-says s list m b q room a)
+    read-written s s (rowsLent s m list) (descriptionOf m) out b a (described-says s list m q room a)
 
 -- And 19 is answered where it hasn't.
 pub described-short : (s list out : List ℕ) (m : Message) → Bytes s → readOf s ≡ Reading.Read m → rowsEnd m list ≤ length list → length out < length s
     → writeAnswer s (rowsLent s m list) (descriptionOf m) out ≡ Written.Refused 19
 described-short s list out m b q room short =
     let a = accepted-exactly s b .0 (m, q) in
-    refused-19 s (rowsLent s m list) (descriptionOf m) out b .1 (s, a, described-says s list m b q room a, short)
+    refused-19 s (rowsLent s m list) (descriptionOf m) out b .1 (s, a, described-says s list m q room a, short)
