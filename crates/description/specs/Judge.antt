@@ -44,7 +44,7 @@ okEntry source o = pick (inside source (o .name)) (okItem source (o .value)) fal
 unfoldable pub okPlace : List ℕ → Place → Bool
 okPlace source p = pick (ltb (p .kind) 103) false (pick (ltb 106 (p .kind)) false (inside source (p .content)))
 
--- five zeros, where the first is one
+-- the four numbers after a kind of 0 are 0 too
 unfoldable pub blank : Place → Bool
 blank p =
     pick (eqb (p .content .at) 0) (pick (eqb (p .content .len) 0) (pick (eqb (p .protocol) 0) (eqb (p .port) 0) false) false) false
@@ -52,7 +52,7 @@ blank p =
 unfoldable pub okNoneOr : List ℕ → Place → Bool
 okNoneOr source p = pick (eqb (p .kind) 0) (blank p) (okPlace source p)
 
--- p of i, i + 1, .., n of them
+-- n numbers from i on, each of which passes
 unfoldable pub allFrom : (ℕ → Bool) → ℕ → ℕ → Bool
 allFrom p zero i = true
 allFrom p (suc n) i = pick (p i) (allFrom p n (suc i)) false

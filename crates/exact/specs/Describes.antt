@@ -64,7 +64,8 @@ pub data OutcomeIs (s : List ℕ) : Outcome → Ending → Type 0 where
   decline : OutcomeIs s Outcome.Decline Ending.decline
   reason : {span : Span} {content : List ℕ} → Before (length s) content span → OutcomeIs s (Outcome.Reason span) (Ending.reason content)
 
--- the numbers are the message's, and each part stands right after the one before it, from the message's start on
+-- the numbers are the message's; where an answer has places, each part stands right after the one before it, from the message's start on, and a reason
+-- stands at the message's end
 pub data Describes (s : List ℕ) : Message → Msg Value → Type 0 where
   noop : Describes s M.Noop Msg.noop
   discovery : {session p q r : ℕ} {i : Span} {from : List ℕ} {o : Objective} {obj : Obj Value}

@@ -56,9 +56,10 @@ unfoldable pub tagNumbers : Tag → List ℕ
 tagNumbers Tag.Empty = replicate 5 0
 tagNumbers (Tag.At l) = locatorNumbers l
 
--- a pair's twelve numbers: its objective's, then its tag's
+-- the first five numbers of a list
 abbrev pub five : List ℕ → List ℕ
 five t = getD t 0 0 ∷ getD t 1 0 ∷ getD t 2 0 ∷ getD t 3 0 ∷ getD t 4 0 ∷ []
 
+-- a pair's twelve numbers: its objective's, then its tag's
 unfoldable pub pairNumbers : Objective → Tag → List ℕ
 pairNumbers o tag = objectiveNumbers o ++ five (tagNumbers tag)
