@@ -24,7 +24,7 @@ use Rattle.exact.specs.Rows.{Fits, Row}
 use Rattle.exact.proofs.Whole.{fills}
 use Rattle.exact.proofs.Shaped.{shaped-case, unknown-there, unknown-complete}
 use Rattle.exact.proofs.Answers.{item-once, stands, walked, examined-one, judged-number, message-shape, Answer, answer}
-use Rattle.exact.proofs.Exact.{accepted-exactly}
+use Rattle.exact.proofs.Exact.{accepted-exactly, accepted-bytes}
 
 -- ---- the row's refusal is given
 -- a bad text
@@ -99,8 +99,9 @@ accepted-or-refused s b = by (readOf s) refl
     by (Reading.Read m) e = inl (accepted-exactly s b .0 (m, e))
 
 -- Accepted bytes have no row.
-pub accepted-not-refused : (s : List ℕ) (n : ℕ) → Bytes s → Accepted s → Row s n → ⊥
-accepted-not-refused s n b a row =
+pub accepted-not-refused : (s : List ℕ) (n : ℕ) → Accepted s → Row s n → ⊥
+accepted-not-refused s n a row =
+    let b = accepted-bytes s a in
     let (m, e) = accepted-exactly s b .1 a in
     let f = row-given s n b row in
     let z : _≡_ {A = ℕ} 0 1 = cc in

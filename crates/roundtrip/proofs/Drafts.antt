@@ -25,7 +25,7 @@ use Rattle.description.specs.declared.Description.{Description}
 use Rattle.description.specs.declared.Description.the-variants as D
 use Rattle.description.specs.Encoding.{string, numberOrNull, reached, fixed, encodeLoc, encodeObj, maybeObj, locOrEmpty, encodePair, encodeTargets, encodeEnding, opening, exchange, encodeMsg}
 use Rattle.description.specs.Describe.{placeRow, pairRow, entryRow, entryOf, objOf, locOf, placeAt, entryAt, rowLoc, locsOf, targetsOf, extraOf, locOrNone, rowPair, pairsOf, endOf, msgOf}
-use Rattle.roundtrip.proofs.Bytes.{bytes-append, bytes-more, bytes-none, bytes-of}
+use Rattle.exact.proofs.Bytes.{bytes-append, bytes-more, bytes-none, bytes-of}
 use Rattle.roundtrip.proofs.Script.{info-least}
 use Rattle.roundtrip.proofs.Judged.{bytes-held, up-to-exactly}
 

@@ -31,14 +31,14 @@ use Rattle.contents.specs.Fields.{kindOf, sessionOf, initiatorOf, objectiveOf}
 use Rattle.message.specs.Read.{mostBytes, readOf}
 use Rattle.exact.specs.Accepted.{Accepted}
 use Rattle.exact.specs.Describes.{InitiatorIs, Describes}
-use Rattle.exact.proofs.Exact.{accepted-exactly, accepted-described}
+use Rattle.exact.proofs.Exact.{accepted-exactly, accepted-bytes, accepted-described}
 use Rattle.description.specs.Encoding.{encodeMsg}
 use Rattle.writer.specs.declared.Written.{Written}
 use Rattle.writer.specs.Write.{lowered, passes, passAnswer, passOut, okLower, lowerAnswer, lowerOut}
 use Rattle.roundtrip.specs.Plain.{plain}
 use Rattle.roundtrip.specs.Lower.{withCount, lowerObj, lowerMsg, Lowers, loweredBy, Relays}
 use Rattle.roundtrip.proofs.Hand.{handed}
-use Rattle.roundtrip.proofs.Read.{accepted-bytes, read-encoded}
+use Rattle.roundtrip.proofs.Read.{read-encoded}
 use Rattle.roundtrip.proofs.Counts.{Hole, hole}
 
 -- ---- texts and names
@@ -180,7 +180,7 @@ relays Lowers.flood (Describes.flood k n i t s a o) (Describes.flood {o = o′} 
 count-hole : (s : List ℕ) (m : Message) (o : Objective) → readOf s ≡ Reading.Read m → Lowers m o → (a : Accepted s)
     → Hole s (o .«count_at») (o .value .at) (o .count) (a .message .msg)
 count-hole s m o q low a =
-    hole low (accepted-described s m (accepted-bytes s a) q a) (a .message .is) (a .message .good) (a .message .shallow) (a .message .bytes)
+    hole low (accepted-described s m q a) (a .message .is) (a .message .good) (a .message .shallow) (a .message .bytes)
 
 -- a number that is neither
 neither : {n : ℕ} → (n ≡ 1) ⊎ (n ≡ 9) → (n ≡ 1 → ⊥) → (n ≡ 9 → ⊥) → ⊥
@@ -217,7 +217,7 @@ lowered-reads s m o b q low =
     let (a′, same) = lowered-accepts s m o q low a in
     let l = accepted-bytes (loweredBy s o) a′ in
     let (m′, q′) = accepted-exactly (loweredBy s o) l .1 a′ in
-    (m′, q′, relays low (accepted-described s m b q a) (subst (Describes (loweredBy s o) m′) same (accepted-described (loweredBy s o) m′ l q′ a′)))
+    (m′, q′, relays low (accepted-described s m q a) (subst (Describes (loweredBy s o) m′) same (accepted-described (loweredBy s o) m′ q′ a′)))
 
 -- It isn't longer.
 pub lowered-shorter : (s : List ℕ) (m : Message) (o : Objective) → Bytes s → readOf s ≡ Reading.Read m → Lowers m o → length (loweredBy s o) ≤ length s
