@@ -18,7 +18,7 @@ use Rattle.cbor.specs.declared.token.Token.{Token}
 use Rattle.cbor.specs.Tree.{Item}
 use Rattle.cbor.specs.Token.{tokenAt}
 use Rattle.cbor.proofs.Tokens.{token-is}
-use Rattle.options.specs.Text.{contentIn, badText}
+use Rattle.options.specs.Text.{badText}
 use Rattle.options.specs.Locator.{isNull, addressFits, protocolOf, portOf, locatorOf, textOf}
 use Rattle.syntax.specs.Message.{Loc, orNull}
 use Rattle.grammar.specs.Cddl.{uint, null, array, Protocol, Port, OrNull, LocatorItem}

@@ -28,7 +28,7 @@ use Rattle.verdicts.proofs.Rows.{table-good}
 
 -- ---- a link bit at or above the count
 
-high-bit : (wide n mask : ℕ) → mask < 2 ^ wide → 2 ^ n ≤ mask → (j : ℕ) × (n ≤ j) × (isUp mask j ≡ true)
+pub high-bit : (wide n mask : ℕ) → mask < 2 ^ wide → 2 ^ n ≤ mask → (j : ℕ) × (n ≤ j) × (isUp mask j ≡ true)
 high-bit zero n mask h l = let some : 0 < 2 ^ n = pow-pos n in absurd (omega arith)
 high-bit (suc wide) n mask h l = go (true-or-false (isUp mask wide)) (decLt wide n) (λ small. high-bit wide n mask small l)
   where
@@ -40,12 +40,12 @@ high-bit (suc wide) n mask h l = go (true-or-false (isUp mask wide)) (decLt wide
 
 -- ---- tests
 
-either : (a b : Bool) → (a ≡ true) ⊎ (b ≡ true) → (a || b) ≡ true
+pub either : (a b : Bool) → (a ≡ true) ⊎ (b ≡ true) → (a || b) ≡ true
 either true b h = refl
 either false b (inl e) = absurd (not-both false e refl)
 either false b (inr e) = e
 
-record-test : (r : Record) → recordBad r ≡ true ↔ BadRecord r
+pub record-test : (r : Record) → recordBad r ≡ true ↔ BadRecord r
 unfolding recordBad linksBad
 record-test r = (λ e. there (or-true (eqb n 0 || ltb 8 n || leb (2 ^ n) mask) (ltb (2 ^ 63) (r .tally)) e), back)
   where

@@ -2,7 +2,7 @@
 -- Assumes nothing.
 use Rattle.base.specs.Pick.{pick}
 use Rattle.reader.specs.Walk.{walkedBy, walkedFirst}
-use borrow.Author.Tests.{lt-ltb, le-ltb, le-leb, lt-leb, eq-eqb, ne-eqb, not-true, not-false}
+use borrow.Author.Tests.{eq-eqb, ne-eqb}
 use borrow.Author.Needs.{needs}
 use Rattle.reader.proofs.walk.Statement.{statement}
 use Rattle.reader.proofs.walk.Tie as tie

@@ -4,7 +4,7 @@ use Rattle.message.specs.Response.{restAt, restOf}
 use Rattle.base.specs.Pick.{pick}
 use Rattle.options.proofs.Fits.{objective-within}
 use native.Mathlib.Omega.{arith}
-use borrow.Author.Tests.{lt-ltb, le-ltb, le-leb, lt-leb, eq-eqb, ne-eqb, not-true, not-false}
+use borrow.Author.Tests.{eq-eqb, ne-eqb}
 use borrow.Author.Needs.{needs}
 use Rattle.message.proofs.response.rest_at.Statement.{statement}
 use Rattle.message.proofs.response.rest_at.Tie as tie

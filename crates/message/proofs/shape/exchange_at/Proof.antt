@@ -4,7 +4,7 @@ use native.Mathlib.Omega.{arith}
 use Rattle.base.specs.Pick.{pick}
 use Rattle.options.proofs.Fits.{objective-within}
 use Rattle.message.specs.Shape.{exchangeAt, exchanged}
-use borrow.Author.Tests.{lt-ltb, le-ltb, le-leb, lt-leb, eq-eqb, ne-eqb, not-true, not-false}
+use borrow.Author.Tests.{lt-ltb, le-ltb, eq-eqb, ne-eqb}
 use borrow.Author.Needs.{needs}
 use Rattle.message.proofs.shape.exchange_at.Statement.{statement}
 use Rattle.message.proofs.shape.exchange_at.Tie as tie

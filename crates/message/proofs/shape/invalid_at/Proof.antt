@@ -2,7 +2,7 @@
 -- Assumes nothing.
 use Rattle.message.specs.Shape.{invalidAt}
 use Rattle.base.specs.Pick.{pick}
-use borrow.Author.Tests.{lt-ltb, le-ltb, le-leb, lt-leb, eq-eqb, ne-eqb, not-true, not-false}
+use borrow.Author.Tests.{lt-ltb, le-ltb, eq-eqb, ne-eqb}
 use borrow.Author.Needs.{needs}
 use Rattle.message.proofs.shape.invalid_at.Statement.{statement}
 use Rattle.message.proofs.shape.invalid_at.Tie as tie

@@ -3,7 +3,7 @@
 use Rattle.base.specs.Pick.{pick}
 use Rattle.options.specs.Locator.{textOf, locatorIn}
 use native.Mathlib.Omega.{arith}
-use borrow.Author.Tests.{lt-ltb, le-ltb, le-leb, lt-leb, eq-eqb, ne-eqb, not-true, not-false}
+use borrow.Author.Tests.{lt-ltb, le-ltb, eq-eqb, ne-eqb, not-true, not-false}
 use borrow.Author.Needs.{needs}
 use Rattle.options.proofs.locator.read_in.Statement.{statement}
 use Rattle.options.proofs.locator.read_in.Tie as tie
