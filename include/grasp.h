@@ -249,7 +249,7 @@ uint8_t grasp_read(const uint8_t *bytes, size_t len, uint64_t fields[GRASP_FIELD
  */
 size_t grasp_locator(const uint8_t *bytes, size_t len, size_t at, uint64_t fields[GRASP_LOCATOR_FIELDS]);
 
-/* The same for a Flood's pairs. At other places the levels of a value count from the value on. */
+/* The same for a Flood's pairs. A value has no more levels than a Flood leaves it, at other places too. */
 size_t grasp_pair(const uint8_t *bytes, size_t len, size_t at, uint64_t fields[GRASP_PAIR_FIELDS]);
 
 /* Some bytes of a message. */

@@ -198,13 +198,14 @@ pub fn elements(bytes: &[u8], message: &Message) -> Vec<Span> {
 
 /// The locator that stands at this place, by its shape alone, and the place after it.
 pub fn locator_at(bytes: &[u8], at: usize) -> Option<(Locator, usize)> {
-    let item = Item::inside(bytes, at, 1).ok()?;
+    let item = Item::at(bytes, at).ok()?;
     Some((shape::locator(&item)?, item.span.end()))
 }
 
-/// The same for a Flood's pair; its value may have as many levels as a message.
+/// The same for a Flood's pair, which has as many levels as a message leaves it.
 pub fn pair_at(bytes: &[u8], at: usize) -> Option<(Pair, usize)> {
-    let item = Item::inside(bytes, at, 2).ok()?;
+    cbor::item(1, bytes.get(at..)?).ok()?;
+    let item = Item::at(bytes, at).ok()?;
     Some((shape::pair(&item)?, item.span.end()))
 }
 

@@ -10,7 +10,7 @@ use Rattle.options.specs.Pair.{objectiveNumbers}
 use Rattle.message.specs.declared.Series.{Series}
 use Rattle.message.specs.declared.Targets.{Targets}
 use Rattle.message.specs.declared.Extra.{Extra}
-use Rattle.message.specs.declared.Outcome.{Outcome}
+use Rattle.options.specs.declared.Outcome.{Outcome}
 use Rattle.message.specs.declared.Message.{Message}
 use Rattle.message.specs.declared.Message.the-variants as M
 

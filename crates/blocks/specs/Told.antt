@@ -9,7 +9,7 @@ use Rattle.options.specs.declared.Span.{Span}
 use Rattle.options.specs.Text.{unless, spanOf}
 use Rattle.description.specs.declared.Goal.{Goal}
 use Rattle.description.specs.declared.Extra.{Extra}
-use Rattle.description.specs.declared.Ending.{Ending}
+use Rattle.options.specs.declared.Outcome.{Outcome}
 use Rattle.description.specs.declared.Description.{Description}
 use Rattle.description.specs.declared.Description.the-variants as D
 use Rattle.blocks.specs.declared.told.Narrow.{Narrow}
@@ -68,11 +68,11 @@ toldResponse f numbers n =
 -- an End: accept (1), decline (2), decline with a reason (3)
 unfoldable pub toldEnd : List ℕ → Narrow → Told
 toldEnd f n =
-    pick (eqb (getD f 16 0) 3) (Says (D.End (n .session) (Ending.Reason (spanOf (getD f 17 0) (getD f 18 0)))))
+    pick (eqb (getD f 16 0) 3) (Says (D.End (n .session) (Outcome.Reason (spanOf (getD f 17 0) (getD f 18 0)))))
     (unless (eqb (getD f 17 0) 0) Nothing
     (unless (eqb (getD f 18 0) 0) Nothing
-    (pick (eqb (getD f 16 0) 1) (Says (D.End (n .session) Ending.Accept))
-    (pick (eqb (getD f 16 0) 2) (Says (D.End (n .session) Ending.Decline)) Nothing))))
+    (pick (eqb (getD f 16 0) 1) (Says (D.End (n .session) Outcome.Accept))
+    (pick (eqb (getD f 16 0) 2) (Says (D.End (n .session) Outcome.Decline)) Nothing))))
 
 -- a Flood: pairs (3), as many as the list has rows
 unfoldable pub toldFlood : List ℕ → ℕ → Narrow → Told

@@ -3,9 +3,9 @@ ghost use mathlib.Core.Path.{_≡_};
 ghost use Rattle.blocks.specs.Block.{openedBlock, withObjective, withExtra, withSpan, withSeries, targetsBlock, outcomeBlock, blockOf};
 use message::Extra;
 use message::Message;
-use message::Outcome;
 use message::Series;
 use message::Targets;
+use options::Outcome;
 use options::Span;
 use options::objective::Objective;
 

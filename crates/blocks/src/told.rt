@@ -3,9 +3,9 @@ ghost use mathlib.Core.Path.{_≡_};
 ghost use Rattle.options.specs.Text.{spanOf};
 ghost use Rattle.blocks.specs.Told.{allowedIn, fieldFits, allFit, isBlank, goalOf, responseBy, toldResponse, toldEnd, toldFlood, toldObjective, byKind, toldBy};
 use description::Description;
-use description::Ending;
 use description::Extra;
 use description::Goal;
+use options::Outcome;
 use options::Span;
 
 // What a block says: nothing that could be written, or a description.
@@ -227,7 +227,7 @@ fn told_end(fields: &[u64; 19], n: Narrow) -> Told
     if fields[16] == 3 {
         return Told::Says(Description::End {
             session,
-            ending: Ending::Reason(reason),
+            outcome: Outcome::Reason(reason),
         });
     }
     if fields[17] != 0 {
@@ -239,13 +239,13 @@ fn told_end(fields: &[u64; 19], n: Narrow) -> Told
     if fields[16] == 1 {
         return Told::Says(Description::End {
             session,
-            ending: Ending::Accept,
+            outcome: Outcome::Accept,
         });
     }
     if fields[16] == 2 {
         return Told::Says(Description::End {
             session,
-            ending: Ending::Decline,
+            outcome: Outcome::Decline,
         });
     }
     Told::Nothing

@@ -80,6 +80,12 @@ module _ (s : List ℕ) (at : ℕ) where
   pub one-byte : at < length s → getD s at 0 % 32 < 24 → headAt (drop at s) ≡ HeadRead.Head (getD s at 0 / 32) (getD s at 0 % 32) 1
   one-byte h low = in-place h ∙ short (getD s at 0) (drop (suc at) s) low
 
+  pub null-head : at < length s → getD s at 0 ≡ 0xF6 → headAt (drop at s) ≡ HeadRead.Head 7 22 1
+  null-head h is =
+      let major : getD s at 0 / 32 ≡ 7 = omega arith in
+      let arg : getD s at 0 % 32 ≡ 22 = omega arith in
+      rw (major, arg) at (one-byte h (omega arith))
+
   pub small-head : at < length s → getD s at 0 < 24 → headAt (drop at s) ≡ HeadRead.Head 0 (getD s at 0) 1
   small-head h low =
       let major : getD s at 0 / 32 ≡ 0 = omega arith in

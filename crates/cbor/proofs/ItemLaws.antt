@@ -19,8 +19,6 @@ use Rattle.cbor.proofs.Exact.{item-exact}
 use Rattle.cbor.proofs.Unique.{unique}
 use Rattle.cbor.proofs.Refuses.{refusal-sound, refusal-complete}
 
--- for readers
-
 -- an item's encoding, whatever follows it
 in-front : (levels : ℕ) (s t : List ℕ) (e : ℕ) → ItemIs (leftUnder levels) s e → firstItem levels (s ++ t) ≡ ItemRead.Ends e
 in-front levels s t e i =
@@ -51,6 +49,8 @@ first-stays left number place s t other f =
       fault = fault-stays _ number (f .rest) t other (f .fault);
       at = f .at ∙ rw (ne-eqb number 2 other);
     }
+
+-- for readers
 
 -- An item is accepted exactly if the bytes up to its end are the encoding of one without fault, of no more levels than may open.
 pub accepted-exactly : (levels : ℕ) (s : List ℕ) (e : ℕ) → Bytes s → firstItem levels s ≡ ItemRead.Ends e ↔ ItemIs (leftUnder levels) s e

@@ -16,7 +16,6 @@ use Rattle.cbor.proofs.Stores.{length-shortest, not-stored, stored}
 
 -- for readers
 
--- for readers
 -- what is written is read
 pub head-reads-back : (major arg : ℕ) (rest : List ℕ) → major < 7 → arg < 2 ^ 64
     → headAt (head major arg ++ rest) ≡ HeadRead.Head major arg (length (head major arg))

@@ -120,26 +120,26 @@ unfolding tokenAt
 token-shifted s by at = rw (drop-drop at by s) (shifted-from by at (length (drop (by + at) s)) (headAt (drop (by + at) s)))
 
 -- ---- an item passed over
-size-within : (s : List ℕ) (x : ItemRead) → firstItem 0 s ≡ x → sizeFrom x ≤ length s
+size-within : (levels : ℕ) (s : List ℕ) (x : ItemRead) → firstItem levels s ≡ x → sizeFrom x ≤ length s
 unfolding sizeFrom
-size-within s (ItemRead.Refused number place) e = zero-le
-size-within s (ItemRead.Ends end) e = item-within 0 s end e
+size-within levels s (ItemRead.Refused number place) e = zero-le
+size-within levels s (ItemRead.Ends end) e = item-within levels s end e
 
-pub size-le : (s : List ℕ) (at : ℕ) → sizeAt s at ≤ length s - at
+pub size-le : (levels : ℕ) (s : List ℕ) (at : ℕ) → sizeAt levels s at ≤ length s - at
 unfolding sizeAt
-size-le s at = rw (length-drop at s) at (size-within (drop at s) (firstItem 0 (drop at s)) refl)
+size-le levels s at = rw (length-drop at s) at (size-within levels (drop at s) (firstItem levels (drop at s)) refl)
 
-first-of-nothing : firstItem 0 [] ≡ ItemRead.Refused 2 0
+first-of-nothing : (levels : ℕ) → firstItem levels [] ≡ ItemRead.Refused 2 0
 unfolding firstItem run enough next stepAt stepFrom headAt
-first-of-nothing = refl
+first-of-nothing levels = refl
 
-pub size-none : (s : List ℕ) (at : ℕ) → length s < at → SizeIs s at 0
+pub size-none : (levels : ℕ) (s : List ℕ) (at : ℕ) → length s < at → SizeIs levels s at 0
 unfolding sizeAt sizeFrom
-size-none s at h =
-    record { is = sym (ap (λ (l : List ℕ). sizeFrom (firstItem 0 l)) (drop-past s at (omega arith)) ∙ ap sizeFrom first-of-nothing); within = zero-le }
+size-none levels s at h =
+    record { is = sym (ap (λ (l : List ℕ). sizeFrom (firstItem levels l)) (drop-past s at (omega arith)) ∙ ap sizeFrom (first-of-nothing levels)); within = zero-le }
 
-pub size-found : (s : List ℕ) (at : ℕ) (x y : ItemRead) → y ≡ firstItem 0 (take (length s - at) (drop at s)) → y ≡ x → SizeIs s at (sizeFrom x)
+pub size-found : (levels : ℕ) (s : List ℕ) (at : ℕ) (x y : ItemRead) → y ≡ firstItem levels (take (length s - at) (drop at s)) → y ≡ x → SizeIs levels s at (sizeFrom x)
 unfolding sizeAt
-size-found s at x y e q =
-    let same : x ≡ firstItem 0 (drop at s) = sym q ∙ e ∙ ap (firstItem 0) (rest-is at s) in
-    record { is = ap sizeFrom same; within = rw (length-drop at s) at (size-within (drop at s) x (sym same)) }
+size-found levels s at x y e q =
+    let same : x ≡ firstItem levels (drop at s) = sym q ∙ e ∙ ap (firstItem levels) (rest-is at s) in
+    record { is = ap sizeFrom same; within = rw (length-drop at s) at (size-within levels (drop at s) x (sym same)) }

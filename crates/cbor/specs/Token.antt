@@ -41,12 +41,12 @@ unfoldable pub sizeFrom : ItemRead → ℕ
 sizeFrom (ItemRead.Refused number place) = 0
 sizeFrom (ItemRead.Ends end) = end
 
--- how many bytes the item at a place has, 0 where none is there
-unfoldable pub sizeAt : List ℕ → ℕ → ℕ
-sizeAt s at = sizeFrom (firstItem 0 (drop at s))
+-- how many bytes the item at a place has, under so many open levels, 0 where none is there
+unfoldable pub sizeAt : ℕ → List ℕ → ℕ → ℕ
+sizeAt levels s at = sizeFrom (firstItem levels (drop at s))
 
-pub record SizeIs (s : List ℕ) (at size : ℕ) : Type 0 where
-  pub is : size ≡ sizeAt s at
+pub record SizeIs (levels : ℕ) (s : List ℕ) (at size : ℕ) : Type 0 where
+  pub is : size ≡ sizeAt levels s at
   pub within : size ≤ length s - at
 
 -- how many items an array has, 0 for what is no array

@@ -92,6 +92,18 @@ pub fn number_at(s: &[u8], at: usize) -> Token
     token_at(s, at)
 }
 
+// The token at `at`, told by its first bytes where it is an unsigned number up to 65,535 or null.
+pub fn number_or_null_at(s: &[u8], at: usize) -> Token
+    ensures { λ r. ⌜ TokenIs (now (s .entry)) at r ⌝ }
+{
+    if at < s.len() {
+        if s[at] == 0xF6 {
+            return token_of(at, s.len() - at, 7, 22, 1);
+        }
+    }
+    number_at(s, at)
+}
+
 fn nothing_at(at: usize) -> Token
     ensures { λ r. ⌜ r ≡ nothingAt at ⌝ }
 {
@@ -135,14 +147,14 @@ fn token_of(at: usize, room: usize, major: u8, arg: u64, len: usize) -> Token
     }
 }
 
-// How many bytes the item at `at` has, or 0 where none is there.
-pub fn size_at(s: &[u8], at: usize) -> usize
-    ensures { λ r. ⌜ SizeIs (now (s .entry)) at r ⌝ }
+// How many bytes the item at `at` has, under so many open levels, or 0 where none is there.
+pub fn size_at(levels: usize, s: &[u8], at: usize) -> usize
+    ensures { λ r. ⌜ SizeIs levels (now (s .entry)) at r ⌝ }
 {
     if s.len() < at {
         return 0;
     }
-    let read = item::first(0, &s[at..]);
+    let read = item::first(levels, &s[at..]);
     match read {
         ItemRead::Refused {
             number: _,

@@ -14,7 +14,7 @@ pub struct Line {
 pub fn line_of(s: &[u8]) -> Line
     ensures { λ r. ⌜ r ≡ lineOf (now (s .entry)) ⌝ }
 {
-    let reading = message::read(s);
+    let reading = reader::read(s);
     match reading {
         Reading::Refused(number) => refused_line(number),
         Reading::Read(message) => kind_line(fields::kind_of(message)),

@@ -3,13 +3,11 @@ use mathlib.Core.Bool.{Bool, true, false}
 use Rattle.options.specs.declared.objective.Objective.{Objective}
 use Rattle.message.specs.declared.Targets.{Targets}
 use Rattle.message.specs.declared.Extra.{Extra}
-use Rattle.message.specs.declared.Outcome.{Outcome}
 use Rattle.message.specs.declared.Message.{Message}
 use Rattle.message.specs.declared.Message.the-variants as M
 use Rattle.description.specs.declared.Goal.{Goal}
 use Rattle.description.specs.declared.Extra.the-variants as X
 use Rattle.description.specs.declared.Extra.{Extra as Said}
-use Rattle.description.specs.declared.Ending.{Ending}
 use Rattle.description.specs.declared.Description.{Description}
 use Rattle.description.specs.declared.Description.the-variants as D
 
@@ -19,11 +17,6 @@ goalOf o = record { name = o .name; flags = o .flags; count = o .count; value = 
 unfoldable pub extraOf : Extra → Said
 extraOf Extra.Without = X.Without
 extraOf (Extra.With o) = X.With (goalOf o)
-
-unfoldable pub endingOf : Outcome → Ending
-endingOf Outcome.Accept = Ending.Accept
-endingOf Outcome.Decline = Ending.Decline
-endingOf (Outcome.Reason reason) = Ending.Reason reason
 
 unfoldable pub isDivert : Targets → Bool
 isDivert (Targets.Locators series) = false
@@ -36,7 +29,7 @@ descriptionOf (M.Response session initiator ttl targets extra) = D.Response sess
 descriptionOf (M.RequestNegotiation session o) = D.RequestNegotiation session (goalOf o)
 descriptionOf (M.RequestSynchronization session o) = D.RequestSynchronization session (goalOf o)
 descriptionOf (M.Negotiate session o) = D.Negotiate session (goalOf o)
-descriptionOf (M.End session outcome) = D.End session (endingOf outcome)
+descriptionOf (M.End session outcome) = D.End session outcome
 descriptionOf (M.Wait session time) = D.Wait session time
 descriptionOf (M.Synch session o) = D.Synch session (goalOf o)
 descriptionOf (M.Flood session initiator ttl first pairs) = D.Flood session initiator ttl

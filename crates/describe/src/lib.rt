@@ -1,12 +1,10 @@
 // A message that was read, as a description for the writer: its numbers and spans, and its locators or pairs as rows of a list.
 ghost use mathlib.Core.Path.{_≡_};
-ghost use Rattle.describe.specs.Describe.{goalOf, extraOf, endingOf, isDivert, descriptionOf};
+ghost use Rattle.describe.specs.Describe.{goalOf, extraOf, isDivert, descriptionOf};
 use description::Description;
-use description::Ending;
 use description::Extra;
 use description::Goal;
 use message::Message;
-use message::Outcome;
 use message::Targets;
 use options::objective::Objective;
 
@@ -54,10 +52,7 @@ pub fn description_of(m: Message) -> Description
             session,
             objective: goal_of(objective),
         },
-        Message::End { session, outcome } => Description::End {
-            session,
-            ending: ending_of(outcome),
-        },
+        Message::End { session, outcome } => Description::End { session, outcome },
         Message::Wait { session, time } => Description::Wait { session, time },
         Message::Synch { session, objective } => Description::Synch {
             session,
@@ -97,16 +92,6 @@ fn extra_of(extra: message::Extra) -> Extra
     match extra {
         message::Extra::Without => Extra::Without,
         message::Extra::With(objective) => Extra::With(goal_of(objective)),
-    }
-}
-
-fn ending_of(outcome: Outcome) -> Ending
-    ensures { λ r. ⌜ r ≡ endingOf outcome ⌝ }
-{
-    match outcome {
-        Outcome::Accept => Ending::Accept,
-        Outcome::Decline => Ending::Decline,
-        Outcome::Reason(reason) => Ending::Reason(reason),
     }
 }
 

@@ -15,8 +15,8 @@ use Rattle.description.specs.declared.rows.Entry.{Entry}
 use Rattle.description.specs.declared.rows.Place.{Place}
 use Rattle.description.specs.declared.Extra.{Extra}
 use Rattle.description.specs.declared.Extra.the-variants as X
-use Rattle.description.specs.declared.Ending.{Ending}
-use Rattle.description.specs.declared.Ending.the-variants as E
+use Rattle.options.specs.declared.Outcome.{Outcome}
+use Rattle.options.specs.declared.Outcome.the-variants as E
 use Rattle.description.specs.declared.Description.{Description}
 use Rattle.description.specs.declared.Description.the-variants as D
 
@@ -94,7 +94,7 @@ rowPair source list i = (objOf source (entryAt list (pairRow * i)), locOrNone so
 unfoldable pub pairsOf : List ℕ → List ℕ → List (Pair (List ℕ))
 pairsOf source list = upTo (rowPair source list) (length list / pairRow)
 
-unfoldable pub endOf : List ℕ → Ending → Syntax.Ending
+unfoldable pub endOf : List ℕ → Outcome → Syntax.Ending
 endOf source E.Accept = Syntax.Ending.accept
 endOf source E.Decline = Syntax.Ending.decline
 endOf source (E.Reason t) = Syntax.Ending.reason (held source t)

@@ -14,8 +14,8 @@ use Rattle.description.specs.declared.rows.Entry.{Entry}
 use Rattle.description.specs.declared.rows.Place.{Place}
 use Rattle.description.specs.declared.Extra.{Extra}
 use Rattle.description.specs.declared.Extra.the-variants as X
-use Rattle.description.specs.declared.Ending.{Ending}
-use Rattle.description.specs.declared.Ending.the-variants as E
+use Rattle.options.specs.declared.Outcome.{Outcome}
+use Rattle.options.specs.declared.Outcome.the-variants as E
 use Rattle.description.specs.declared.Description.{Description}
 use Rattle.description.specs.declared.Description.the-variants as D
 use Rattle.description.specs.Describe.{placeRow, pairRow, entryRow, entryOf, placeAt, entryAt}
@@ -44,7 +44,7 @@ okEntry source o = pick (inside source (o .name)) (okItem source (o .value)) fal
 unfoldable pub okPlace : List ℕ → Place → Bool
 okPlace source p = pick (ltb (p .kind) 103) false (pick (ltb 106 (p .kind)) false (inside source (p .content)))
 
--- five zeros, where the first is one
+-- the four numbers after a kind of 0 are 0 too
 unfoldable pub blank : Place → Bool
 blank p =
     pick (eqb (p .content .at) 0) (pick (eqb (p .content .len) 0) (pick (eqb (p .protocol) 0) (eqb (p .port) 0) false) false) false
@@ -52,7 +52,7 @@ blank p =
 unfoldable pub okNoneOr : List ℕ → Place → Bool
 okNoneOr source p = pick (eqb (p .kind) 0) (blank p) (okPlace source p)
 
--- p of i, i + 1, .., n of them
+-- n numbers from i on, each of which passes
 unfoldable pub allFrom : (ℕ → Bool) → ℕ → ℕ → Bool
 allFrom p zero i = true
 allFrom p (suc n) i = pick (p i) (allFrom p n (suc i)) false
@@ -81,10 +81,10 @@ unfoldable pub okExtra : List ℕ → Extra → Bool
 okExtra source X.Without = true
 okExtra source (X.With o) = okEntry source (entryOf o)
 
-unfoldable pub okEnding : List ℕ → Ending → Bool
-okEnding source E.Accept = true
-okEnding source E.Decline = true
-okEnding source (E.Reason t) = inside source t
+unfoldable pub okOutcome : List ℕ → Outcome → Bool
+okOutcome source E.Accept = true
+okOutcome source E.Decline = true
+okOutcome source (E.Reason t) = inside source t
 
 unfoldable pub okDiscovery : List ℕ → Span → Entry → Bool
 okDiscovery source i o = pick (inside source i) (okEntry source o) false
@@ -103,7 +103,7 @@ okParts source list (D.Response s i t d o) = okResponse source list i o
 okParts source list (D.RequestNegotiation s o) = okEntry source (entryOf o)
 okParts source list (D.RequestSynchronization s o) = okEntry source (entryOf o)
 okParts source list (D.Negotiate s o) = okEntry source (entryOf o)
-okParts source list (D.End s e) = okEnding source e
+okParts source list (D.End s e) = okOutcome source e
 okParts source list (D.Wait s t) = true
 okParts source list (D.Synch s o) = okEntry source (entryOf o)
 okParts source list (D.Flood s i t) = okFlood source list i

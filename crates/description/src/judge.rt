@@ -4,9 +4,8 @@ ghost use Prim.Native.Nat.{_+_, _*_, _≤_};
 ghost use lib.ListN.{length};
 ghost use Rattle.options.specs.Text.{held};
 ghost use Rattle.description.specs.Describe.{placeRow, pairRow, entryOf};
-ghost use Rattle.description.specs.Judge.{whole, inside, okValue, okItem, okEntry, okPlace, blank, okNoneOr, okRow, okRows, okPair, okPairs, okExtra, okEnding, okDiscovery, okResponse, okFlood, okParts, hasList, okList, okDescribed};
+ghost use Rattle.description.specs.Judge.{whole, inside, okValue, okItem, okEntry, okPlace, blank, okNoneOr, okRow, okRows, okPair, okPairs, okExtra, okOutcome, okDiscovery, okResponse, okFlood, okParts, hasList, okList, okDescribed};
 use crate::Description;
-use crate::Ending;
 use crate::Extra;
 use crate::Goal;
 use crate::rows;
@@ -18,6 +17,7 @@ use crate::rows::Place;
 use crate::spans;
 use cbor::item;
 use cbor::item::ItemRead;
+use options::Outcome;
 use options::Span;
 
 // Whether the description speaks of a message: a list only where the kind has one, and all its parts in order.
@@ -75,7 +75,7 @@ fn ok_parts(source: &[u8], list: &[u64], m: Description) -> bool
         Description::RequestNegotiation { objective, .. } => ok_goal(source, objective),
         Description::RequestSynchronization { objective, .. } => ok_goal(source, objective),
         Description::Negotiate { objective, .. } => ok_goal(source, objective),
-        Description::End { ending, .. } => ok_ending(source, ending),
+        Description::End { outcome, .. } => ok_outcome(source, outcome),
         Description::Wait { .. } => true,
         Description::Synch { objective, .. } => ok_goal(source, objective),
         Description::Flood { initiator, .. } => ok_flood(source, list, initiator),
@@ -113,13 +113,13 @@ fn ok_extra(source: &[u8], extra: Extra) -> bool
     }
 }
 
-fn ok_ending(source: &[u8], ending: Ending) -> bool
-    ensures { λ r. ⌜ r ≡ okEnding (now (source .entry)) ending ⌝ }
+fn ok_outcome(source: &[u8], outcome: Outcome) -> bool
+    ensures { λ r. ⌜ r ≡ okOutcome (now (source .entry)) outcome ⌝ }
 {
-    match ending {
-        Ending::Accept => true,
-        Ending::Decline => true,
-        Ending::Reason(text) => is_inside(source, text),
+    match outcome {
+        Outcome::Accept => true,
+        Outcome::Decline => true,
+        Outcome::Reason(text) => is_inside(source, text),
     }
 }
 

@@ -1,5 +1,6 @@
 // What is to be written: a message described by numbers and by spans of a source, its locators or pairs as rows of a list; and which descriptions
 // speak of a message.
+use options::Outcome;
 use options::Span;
 
 pub mod counts;
@@ -19,13 +20,6 @@ pub struct Goal {
 pub enum Extra {
     Without,
     With(Goal),
-}
-
-// How a negotiation ends: accepted, declined, or declined with a reason.
-pub enum Ending {
-    Accept,
-    Decline,
-    Reason(Span),
 }
 
 // A message to be written. Spans are bytes of the source. The locators of a Response, or of its divert, and the pairs of a Flood are the rows of
@@ -60,7 +54,7 @@ pub enum Description {
     },
     End {
         session: u32,
-        ending: Ending,
+        outcome: Outcome,
     },
     Wait {
         session: u32,

@@ -10,13 +10,13 @@ use crate::objective;
 use crate::pair;
 use crate::put;
 use description::Description;
-use description::Ending;
 use description::Extra;
 use description::Goal;
 use description::counts;
 use description::rows;
 use description::rows::PAIR_ROW;
 use description::rows::PLACE_ROW;
+use options::Outcome;
 use options::Span;
 
 // The message of a description.
@@ -46,7 +46,7 @@ pub(crate) fn put_message(out: &mut [u8], source: &[u8], list: &[u64], m: Descri
         Description::Negotiate { session, objective } => {
             put_exchange(out, source, 5, session, objective)
         }
-        Description::End { session, ending } => put_end(out, source, session, ending),
+        Description::End { session, outcome } => put_end(out, source, session, outcome),
         Description::Wait { session, time } => put_wait(out, session, time),
         Description::Synch { session, objective } => {
             put_exchange(out, source, 8, session, objective)
@@ -153,13 +153,13 @@ pub(crate) fn put_exchange(out: &mut [u8], source: &[u8], kind: u64, session: u3
     put_goal(out, a, source, o)
 }
 
-pub(crate) fn put_end(out: &mut [u8], source: &[u8], session: u32, ending: Ending) -> usize
-    ensures { λ r. ⌜ Wrote (now (out .entry)) (now (out .exit)) 0 (encodeMsg (Msg.end session (endOf (now (source .entry)) ending))) r ⌝ }
+pub(crate) fn put_end(out: &mut [u8], source: &[u8], session: u32, outcome: Outcome) -> usize
+    ensures { λ r. ⌜ Wrote (now (out .entry)) (now (out .exit)) 0 (encodeMsg (Msg.end session (endOf (now (source .entry)) outcome))) r ⌝ }
 {
-    match ending {
-        Ending::Accept => put_accept(out, session),
-        Ending::Decline => put_decline(out, session),
-        Ending::Reason(text) => put_reason(out, source, session, text),
+    match outcome {
+        Outcome::Accept => put_accept(out, session),
+        Outcome::Decline => put_decline(out, session),
+        Outcome::Reason(text) => put_reason(out, source, session, text),
     }
 }
 

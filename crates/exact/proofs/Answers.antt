@@ -34,8 +34,8 @@ use Rattle.message.specs.Read.{mostBytes, judged, shaped, framed, examined}
 use Rattle.exact.specs.Describes.{Describes}
 use Rattle.exact.specs.Accepted.{IsMessage, Accepted}
 use Rattle.exact.specs.Rows.{Fits, OneItem, UnknownKind}
-use Rattle.exact.proofs.Whole.{ShapeIs}
-use Rattle.exact.proofs.Shaped.{shaped-case, shape-complete}
+use Rattle.exact.proofs.Whole.{WholeIs, fills}
+use Rattle.exact.proofs.Shaped.{shaped-case, unknown-there, shape-complete}
 use Rattle.exact.proofs.Once.{message-one}
 
 -- ---- one item that is the whole
@@ -71,17 +71,18 @@ module _ {s : List ℕ} (one : OneItem s) where
 -- what is read of it, and its description
 pub record MessageShape (s : List ℕ) (msg : Msg Value) : Type 0 where
   pub message : Message
+  pub end : ℕ
   pub bad : ℕ
   pub long : ℕ
-  pub is : examined s ≡ judged (S.Good message bad long)
+  pub is : examined s ≡ judged (S.Good message end bad long)
   pub describes : Describes s message msg
   pub texts : bad ≡ 0 ↔ TextsGood msg
   pub names : long ≡ 0 ↔ NamesGood msg
 
 -- a message's refusals are 11 and 10
-pub judged-number : (m : Message) (bad long : ℕ) {number place : ℕ} → judged (S.Good m bad long) ≡ E.Refused number place → 10 ≤ number
+pub judged-number : (m : Message) (end bad long : ℕ) {number place : ℕ} → judged (S.Good m end bad long) ≡ E.Refused number place → 10 ≤ number
 unfolding judged
-judged-number m bad long {number} {place} =
+judged-number m end bad long {number} {place} =
     pick-case P (eqb bad 0) (λ _. pick-case P (eqb long 0) (λ _ q. absurd (let z : _≡_ {A = ℕ} 0 1 = cc in omega arith)) (λ _ q. let e : 10 ≡ number = cc in omega arith))
     (λ _ q. let e : 11 ≡ number = cc in omega arith)
   where
@@ -93,13 +94,15 @@ pub message-shape : {s : List ℕ} → Bytes s → (i : IsMessage s) → Message
 message-shape {s} b i =
     let one = one-item i in
     let r = shape-complete (stands one) (i .shallow) (i .is) in
-    shaped-case b (walked one) (stands one) (λ (x : Examined). shaped s ≡ x → MessageShape s (i .msg))
-    (λ place u e. absurd (omega (arith, judged-number (r .message) (r .bad) (r .long) (sym (r .is) ∙ e))))
-    (λ place e. absurd (omega (arith, judged-number (r .message) (r .bad) (r .long) (sym (r .is) ∙ e))))
-    (λ m bad long h e.
+    shaped-case b (λ (x : Examined). shaped s ≡ x → MessageShape s (i .msg))
+    (λ place u e. absurd (omega (arith, judged-number (r .message) (r .end) (r .bad) (r .long) (sym (r .is) ∙ e))))
+    (λ place e. absurd (omega (arith, judged-number (r .message) (r .end) (r .bad) (r .long) (sym (r .is) ∙ e))))
+    (λ m end bad long shape e.
+    let h = fills b (walked one) shape in
     let same : h .msg ≡ i .msg = message-one (subst (λ (x : Item). MessageItem x (h .msg)) (item-once (h .item) (i .item) (h .good) (i .good) (h .bytes) (i .bytes)) (h .is)) (i .is) in
     record {
       message = m;
+      end = end;
       bad = bad;
       long = long;
       is = examined-one one ∙ e;
@@ -119,12 +122,12 @@ pub data Answer (s : List ℕ) : Examined → Type 0 where
   shape : {place : ℕ} → OneItem s → Answer s (E.Refused 9 place)
   text : {place : ℕ} (m : IsMessage s) → (TextsGood (m .msg) → ⊥) → Answer s (E.Refused 11 place)
   name : {place : ℕ} (m : IsMessage s) → TextsGood (m .msg) → (NamesGood (m .msg) → ⊥) → Answer s (E.Refused 10 place)
-  read : {m : Message} (a : Accepted s) → Describes s m (a .message .msg) → Answer s (E.Accepted m)
+  read : {m : Message} {end : ℕ} (a : Accepted s) → Describes s m (a .message .msg) → Answer s (E.Accepted m end)
 
 -- the answer by what was noted
-judged-answer : {s : List ℕ} (m : Message) (bad long : ℕ) → length s ≤ mostBytes → ShapeIs s m bad long → Answer s (judged (S.Good m bad long))
+judged-answer : {s : List ℕ} (m : Message) (end bad long : ℕ) → length s ≤ mostBytes → WholeIs s m bad long → Answer s (judged (S.Good m end bad long))
 unfolding judged
-judged-answer {s} m bad long most h =
+judged-answer {s} m end bad long most h =
     let i : IsMessage s = record { item = h .item; msg = h .msg; bytes = h .bytes; most = most; good = h .good; shallow = h .shallow; is = h .is } in
     pick-case (Answer s) (eqb bad 0)
     (λ e.
@@ -144,7 +147,8 @@ module _ {s : List ℕ} (b : Bytes s) where
       let whole : firstItem 0 s ≡ ItemRead.Ends (length s) = e ∙ ap ItemRead.Ends (eqb-true end (length s) t) in
       let i = item-exact 0 s (length s) b whole in
       let one : OneItem s = record { item = i .item; bytes = sym (i .bytes) ∙ take-length s; most = fits .most; good = i .good; shallow = i .shallow } in
-      shaped-case b whole (stands one) (Answer s) (λ place u. Answer.kind one u) (λ place. Answer.shape one) (λ m bad long h. judged-answer m bad long (fits .most) h))
+      shaped-case b (Answer s) (λ place u. Answer.kind one (unknown-there b (stands one) u)) (λ place. Answer.shape one)
+      (λ m end bad long h. judged-answer m end bad long (fits .most) (fills b whole h)))
       (λ t.
       let i = item-exact 0 s end b e in
       Answer.more fits i (omega (arith, i .within, eqb-false end (length s) t)))

@@ -20,7 +20,7 @@ use Rattle.grammar.proofs.Bridge.{split, none-end, stands-once}
 use Rattle.message.specs.declared.Series.{Series}
 use Rattle.message.specs.declared.Targets.{Targets}
 use Rattle.message.specs.declared.Extra.{Extra}
-use Rattle.message.specs.declared.Outcome.{Outcome}
+use Rattle.options.specs.declared.Outcome.{Outcome}
 use Rattle.message.specs.declared.Message.{Message}
 use Rattle.message.specs.declared.Message.the-variants as M
 use Rattle.exact.specs.Describes.{KindIs, NumberIs, InitiatorIs, AimIs, ExtraIs, OutcomeIs, Describes}

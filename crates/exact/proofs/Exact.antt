@@ -17,6 +17,7 @@ use Rattle.message.specs.declared.Reading.{Reading}
 use Rattle.message.specs.Read.{judged, examined, placeless, readOf}
 use Rattle.exact.specs.Describes.{Describes}
 use Rattle.exact.specs.Accepted.{IsMessage, Accepted}
+use Rattle.exact.proofs.Bytes.{bytes-encode}
 use Rattle.exact.proofs.Once.{message-one}
 use Rattle.exact.proofs.Described.{described-once}
 use Rattle.exact.proofs.Answers.{item-once, message-shape, Answer, answer}
@@ -24,11 +25,11 @@ use Rattle.exact.proofs.Answers.{item-once, message-shape, Answer, answ
 -- an answer that is a message
 read-answer : {s : List ℕ} {m : Message} (r : Examined) → Answer s r → placeless r ≡ Reading.Read m → (a : Accepted s) × Describes s m (a .message .msg)
 unfolding placeless
-read-answer {s} {m} (E.Accepted m′) (Answer.read a d) q = let same : m′ ≡ m = cc in (a, subst (λ (m : Message). Describes s m (a .message .msg)) same d)
+read-answer {s} {m} (E.Accepted m′ end) (Answer.read a d) q = let same : m′ ≡ m = cc in (a, subst (λ (m : Message). Describes s m (a .message .msg)) same d)
 read-answer (E.Refused number place) a q = absurd (let z : _≡_ {A = ℕ} 0 1 = cc in omega arith)
 
 -- nothing noted
-judged-good : {m : Message} {bad long : ℕ} → bad ≡ 0 → long ≡ 0 → judged (S.Good m bad long) ≡ E.Accepted m
+judged-good : {m : Message} {end bad long : ℕ} → bad ≡ 0 → long ≡ 0 → judged (S.Good m end bad long) ≡ E.Accepted m end
 unfolding judged pick
 judged-good e e′ = rw (e, e′)
 
@@ -44,6 +45,10 @@ accepted-exactly s b = (
       (h .message, ap placeless (h .is ∙ judged-good (h .texts .1 (a .texts)) (h .names .1 (a .names)))),
 )
 
+-- Accepted bytes are bytes.
+pub accepted-bytes : (s : List ℕ) → Accepted s → Bytes s
+accepted-bytes s a = subst Bytes (a .message .bytes) (bytes-encode (a .message .item) (a .message .good))
+
 -- Bytes are one message only.
 pub message-once : (s : List ℕ) (a b : IsMessage s) → (a .item ≡ b .item) × (a .msg ≡ b .msg)
 message-once s a b =
@@ -51,10 +56,10 @@ message-once s a b =
     (same, message-one (subst (λ (x : Item). MessageItem x (a .msg)) same (a .is)) (b .is))
 
 -- And what is read describes it: its numbers, and where its parts stand.
-pub accepted-described : (s : List ℕ) (m : Message) → Bytes s → readOf s ≡ Reading.Read m → (a : Accepted s) → Describes s m (a .message .msg)
+pub accepted-described : (s : List ℕ) (m : Message) → readOf s ≡ Reading.Read m → (a : Accepted s) → Describes s m (a .message .msg)
 unfolding readOf
-accepted-described s m b q a =
-    let (a′, d) = read-answer (examined s) (answer b) q in
+accepted-described s m q a =
+    let (a′, d) = read-answer (examined s) (answer (accepted-bytes s a)) q in
     subst (Describes s m) (message-once s (a′ .message) (a .message) .1) d
 
 -- So an answer is given exactly if it is the description of accepted bytes: no other place and no other number fits them.
@@ -64,5 +69,5 @@ read-exactly s m b = (
   read-answer (examined s) (answer b),
   λ (a, d).
       let (m′, q) = accepted-exactly s b .1 a in
-      q ∙ ap Reading.Read (described-once (accepted-described s m′ b q a) d),
+      q ∙ ap Reading.Read (described-once (accepted-described s m′ q a) d),
 )

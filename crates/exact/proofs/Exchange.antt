@@ -3,10 +3,10 @@
 use mathlib.Core.Path.{_≡_, refl, sym, subst}
 use mathlib.Core.List.{List, [], _∷_}
 use Prim.Native.Nat.{ℕ, _≤_}
+use native.Mathlib.Omega.{arith}
 use lib.ListN.{length}
 use borrow.Author.Tests.{eqb-true}
 use Rattle.base.specs.Pick.{pick}
-use Rattle.cbor.specs.Item.{mostLevels}
 use Rattle.cbor.specs.Tree.{Item, count, depth}
 use Rattle.options.specs.declared.Span.{Span}
 use Rattle.options.specs.declared.objective.Objective.{Objective}
@@ -19,21 +19,22 @@ use Rattle.grammar.specs.Stands.{StandAll, ObjectiveIs}
 use Rattle.grammar.proofs.Objectives.{objective-sound, objective-complete}
 use Rattle.grammar.proofs.Bridge.{join, last, only}
 use Rattle.message.specs.declared.shape.Shape.{Shape}
+use Rattle.message.specs.Opening.{objectiveLevels}
 use Rattle.message.specs.Shape.{discovered, discoveryAt, exchangeOf, exchanged, exchangeAt}
 use Rattle.exact.specs.Describes.{KindIs, NumberIs, Describes}
 use Rattle.exact.proofs.Noted.{single}
-use Rattle.exact.proofs.Whole.{ShapeOk, past-case, held-case, Reads, taken, skipped, Kinded, kind-is, built}
+use Rattle.exact.proofs.Whole.{partLevels, ShapeOk, past-case, held-case, Reads, taken, skipped, Kinded, kind-is, built}
 use Rattle.exact.proofs.Heads.{NumberHere, number-is-here, InitiatorHere, initiator-is, number-at-most, initiator-at, number-passed, initiator-passed}
 
 -- ---- 1, Discovery
 -- the objective
 discovered-sound : {s : List ℕ} {at p q session : ℕ} {i : Span} → Kinded s 1 4 at → NumberHere s at p session → InitiatorHere s p q i
-    → (x : ObjectiveRead) → objectiveAt s q ≡ x → ShapeOk s (discovered session i x)
-unfolding discovered count textsOf namesOf
+    → (x : ObjectiveRead) → objectiveAt objectiveLevels s q ≡ x → ShapeOk s (discovered session i q x)
+unfolding discovered count depth textsOf namesOf
 discovered-sound k i j (ObjectiveRead.Bad place) e = ShapeOk.bad
 discovered-sound {s} {q = q} k i j (ObjectiveRead.Got o size bad long) e =
-    let x = objective-sound s q o size bad long (j .stands .within) (k .bytes) e in
-    built k _ _ (Msg.discovery _ (j .content) (x .obj)) refl (join (i .stands) (join (j .stands) (last (x .stands))))
+    let x = objective-sound objectiveLevels s q o size bad long (j .stands .within) (k .bytes) e in
+    built k _ _ (Msg.discovery _ (j .content) (x .obj)) refl (join (i .stands) (join (j .stands) (last (x .stands)))) (omega (arith, x .shallow))
     (λ w v. MessageItem.discovery (Number.number (i .low)) (Initiator.initiator (j .size)) (x .is))
     (λ full. Describes.discovery (kind-is k) (number-is-here i) (initiator-is j) (subst (λ (e : ℕ). ObjectiveIs s q e o (x .obj)) full (x .described))) (single (x .texts)) (single (x .names))
 
@@ -50,20 +51,20 @@ discovery-sound {s} {n} {at} k =
     discovered-sound (subst (λ (n : ℕ). Kinded s 1 n at) (eqb-true n 4 four) k) i j _ refl)))
 
 -- an objective that stands is read
-pub objective-reads : {s : List ℕ} {p e : ℕ} {x : Item} {obj : Obj Value} → StandAll s p e (list (x ∷ [])) → depth x ≤ mostLevels → ObjectiveItem x obj
-    → (f : ObjectiveRead → Shape) → ((o : Objective) (size bad long : ℕ) → Reads (f (ObjectiveRead.Got o size bad long))) → Reads (f (objectiveAt s p))
+pub objective-reads : {s : List ℕ} {p e : ℕ} {x : Item} {obj : Obj Value} → StandAll s p e (list (x ∷ [])) → depth x ≤ partLevels → ObjectiveItem x obj
+    → (f : ObjectiveRead → Shape) → ((o : Objective) (size bad long : ℕ) → Reads (f (ObjectiveRead.Got o size bad long))) → Reads (f (objectiveAt objectiveLevels s p))
 objective-reads {s} a d i f reads =
-    let (o, bad, long, same) = objective-complete (only a) d i in
+    let (o, bad, long, same) = objective-complete objectiveLevels (only a) d i in
     subst (λ (r : ObjectiveRead). Reads (f r)) (sym same) (reads o _ bad long)
 
 -- a Discovery is read
 pub discovery-complete : {s : List ℕ} {at e session : ℕ} {x y z : Item} {from : List ℕ} {obj : Obj Value} → StandAll s at e (list (x ∷ y ∷ z ∷ []))
-    → Number x session → Initiator y from → ObjectiveItem z obj → depth z ≤ mostLevels → Reads (discoveryAt s 4 at)
+    → Number x session → Initiator y from → ObjectiveItem z obj → depth z ≤ partLevels → Reads (discoveryAt s 4 at)
 unfolding discoveryAt discovered
 discovery-complete a i j o d =
     let (e, c) = number-passed a i in
     let (e′, c′) = initiator-passed c j in
-    taken _ refl (skipped _ e (taken _ e′ (objective-reads c′ d o (discovered _ _) (λ _ _ _ _. Reads.reads))))
+    taken _ refl (skipped _ e (taken _ e′ (objective-reads c′ d o (discovered _ _ _) (λ _ _ _ _. Reads.reads))))
 
 -- ---- 3, 4, 5 and 8
 -- a kind that has a session and an objective
@@ -77,12 +78,12 @@ record Exchange (kind : ℕ) : Type 0 where
 
 -- the objective
 exchanged-sound : {s : List ℕ} {kind at p session : ℕ} → Exchange kind → Kinded s kind 3 at → NumberHere s at p session
-    → (x : ObjectiveRead) → objectiveAt s p ≡ x → ShapeOk s (exchanged kind session x)
-unfolding exchanged count
+    → (x : ObjectiveRead) → objectiveAt objectiveLevels s p ≡ x → ShapeOk s (exchanged kind session p x)
+unfolding exchanged count depth
 exchanged-sound c k i (ObjectiveRead.Bad place) e = ShapeOk.bad
 exchanged-sound {s} {kind} {at} {p} {session} c k i (ObjectiveRead.Got o size bad long) e =
-    let x = objective-sound s p o size bad long (i .stands .within) (k .bytes) e in
-    built k _ _ (c .msg session (x .obj)) refl (join (i .stands) (last (x .stands)))
+    let x = objective-sound objectiveLevels s p o size bad long (i .stands .within) (k .bytes) e in
+    built k _ _ (c .msg session (x .obj)) refl (join (i .stands) (last (x .stands))) (omega (arith, x .shallow))
     (λ w v. c .item w v session _ _ (x .obj) (Number.number (i .low)) (x .is))
     (λ full. c .tells s at p session o (x .obj) (kind-is k) (number-is-here i) (subst (λ (e : ℕ). ObjectiveIs s p e o (x .obj)) full (x .described)))
     (rw (c .texts) (single (x .texts))) (rw (c .names) (single (x .names)))
@@ -149,8 +150,8 @@ synch-sound =
 
 -- such a message is read, whatever the kind
 pub exchange-complete : {s : List ℕ} (kind : ℕ) {at e session : ℕ} {x y : Item} {obj : Obj Value} → StandAll s at e (list (x ∷ y ∷ []))
-    → Number x session → ObjectiveItem y obj → depth y ≤ mostLevels → Reads (exchangeAt s kind 3 at)
+    → Number x session → ObjectiveItem y obj → depth y ≤ partLevels → Reads (exchangeAt s kind 3 at)
 unfolding exchangeAt exchanged
 exchange-complete kind a i o d =
     let (e, c) = number-passed a i in
-    taken _ refl (skipped _ e (objective-reads c d o (exchanged kind _) (λ _ _ _ _. Reads.reads)))
+    taken _ refl (skipped _ e (objective-reads c d o (exchanged kind _ _) (λ _ _ _ _. Reads.reads)))

@@ -9,7 +9,6 @@ use lib.ListN.{length}
 use borrow.Author.Tests.{ltb-false, le-ltb}
 use Rattle.base.specs.BigEndian.{Bytes}
 use Rattle.base.specs.Lists.{Every}
-use Rattle.cbor.specs.Item.{mostLevels}
 use Rattle.cbor.specs.Tree.{Item, Items, count, depth, depths}
 use Rattle.options.specs.declared.objective.Objective.{Objective}
 use Rattle.options.specs.declared.pair.Tag.{Tag}
@@ -29,18 +28,18 @@ use Rattle.message.specs.Sequence.{pairNext, pairsFrom}
 use Rattle.message.specs.Flood.{floodedBy, floodedOf, floodedAt, floodBy, floodAt}
 use Rattle.exact.specs.Describes.{Describes}
 use Rattle.exact.proofs.Noted.{single, none-noted, then-noted, more-noted}
-use Rattle.exact.proofs.Whole.{ShapeOk, past-case, Reads, skipped, Kinded, kind-is, built}
+use Rattle.exact.proofs.Whole.{partLevels, ShapeOk, past-case, Reads, skipped, Kinded, kind-is, built}
 use Rattle.exact.proofs.Heads.{number-is-here, initiator-is}
 use Rattle.exact.proofs.Opening.{OpeningHere, OpeningOk, opening-sound, opening-complete}
 
 -- ---- what is read stands there
 -- pairs, and what is noted of them
-record PairsHere (s : List ℕ) (p n bad long bad′ long′ : ℕ) : Type 0 where
+record PairsHere (s : List ℕ) (p n bad long end bad′ long′ : ℕ) : Type 0 where
   items : Items
   pairs : List (Pair Value)
-  end : ℕ
   are : PairItems items pairs
   stand : StandAll s p end items
+  shallow : depths items ≤ partLevels
   counted : n ≡ count items
   texts : bad′ ≡ 0 ↔ (bad ≡ 0) × Every Utf8 (flatMap pairTexts pairs)
   names : long′ ≡ 0 ↔ (long ≡ 0) × Every Short (map pairName pairs)
@@ -48,21 +47,21 @@ record PairsHere (s : List ℕ) (p n bad long bad′ long′ : ℕ) : Type 0 whe
 -- the answer of the loop
 data PairsOk (s : List ℕ) (p n bad long : ℕ) : PairsRead → Type 0 where
   refused : {place : ℕ} → PairsOk s p n bad long (PairsRead.Bad place)
-  ran : {bad′ long′ : ℕ} → PairsHere s p n bad long bad′ long′ → PairsOk s p n bad long (PairsRead.Ran bad′ long′)
+  ran : {end bad′ long′ : ℕ} → PairsHere s p n bad long end bad′ long′ → PairsOk s p n bad long (PairsRead.Ran end bad′ long′)
 
 -- one pair, and then others
 one-more : {s : List ℕ} {p e n bad long bad′ long′ : ℕ} {o : Objective} {t : Tag} {r : PairsRead} → PairStands s p e o t bad′ long′
     → PairsOk s e n (firstOf bad bad′) (firstOf long long′) r → PairsOk s p (suc n) bad long r
-unfolding count flatMap
+unfolding count depth flatMap
 one-more i PairsOk.refused = PairsOk.refused
 one-more i (PairsOk.ran h) =
     PairsOk.ran
     (record {
       items = Items.more (i .item) (h .items);
       pairs = i .pair ∷ h .pairs;
-      end = h .end;
       are = PairItems.more (i .is) (h .are);
       stand = join (i .stands) (h .stand);
+      shallow = omega (arith, i .shallow, h .shallow);
       counted = ap suc (h .counted);
       texts = more-noted Utf8 (pairTexts (i .pair)) (flatMap pairTexts (h .pairs)) (i .texts) (h .texts);
       names = more-noted Short (i .pair .0 .name ∷ []) (map pairName (h .pairs)) (single (i .names)) (h .names);
@@ -80,22 +79,22 @@ module _ {s : List ℕ} (b : Bytes s) where
 
   -- pairs stand one after the other where they are read
   pairs-sound : (n p bad long : ℕ) → p ≤ length s → PairsOk s p n bad long (pairsFrom s n p bad long)
-  unfolding pairsFrom count flatMap
+  unfolding pairsFrom count depth flatMap
   pairs-sound zero p bad long low =
-      PairsOk.ran (record { items = Items.done; pairs = []; end = p; are = PairItems.empty; stand = none low; counted = refl; texts = none-noted; names = none-noted })
+      PairsOk.ran (record { items = Items.done; pairs = []; are = PairItems.empty; stand = none low; shallow = omega arith; counted = refl; texts = none-noted; names = none-noted })
   pairs-sound (suc n) p bad long low = next-sound low (pairs-sound n) _ refl
 
 module _ {s : List ℕ} {n at next : ℕ} (k : Kinded s 9 n at) {opening : Opening} (h : OpeningHere s at next opening) {parts : ℕ} (counted : n ≡ 4 + parts) (some : 1 ≤ parts) where
   -- the first pair and the others are the message
   flooded-by-sound : {e bad long : ℕ} {first : Objective} {t : Tag} → PairStands s next e first t bad long → (x : PairsRead) → PairsOk s e (parts - 1) bad long x
       → ShapeOk s (floodedBy opening first (record { at = next; many = parts }) x)
-  unfolding floodedBy count textsOf namesOf flatMap
+  unfolding floodedBy count depth textsOf namesOf flatMap
   flooded-by-sound i _ PairsOk.refused = ShapeOk.bad
   flooded-by-sound i _ (PairsOk.ran r) =
       let pairs = PairItems.more (i .is) (r .are) in
       let stand = join (i .stands) (r .stand) in
       built k _ _ (Msg.flood _ (h .initiator .content) _ (i .pair ∷ r .pairs)) (omega (arith, r .counted))
-      (join (h .session .stands) (join (h .initiator .stands) (join (h .ttl .stands) stand)))
+      (join (h .session .stands) (join (h .initiator .stands) (join (h .ttl .stands) stand))) (omega (arith, i .shallow, r .shallow))
       (λ w v. MessageItem.flood (Number.number (h .session .low)) (Initiator.initiator (h .initiator .size)) (Number.number (h .ttl .low)) pairs)
       (λ full. Describes.flood (kind-is k) (number-is-here (h .session)) (initiator-is (h .initiator)) (number-is-here (h .ttl))
       (record { items = Items.more (i .item) (r .items); stand = subst (λ (e : ℕ). StandAll s next e (Items.more (i .item) (r .items))) full stand; many = omega (arith, r .counted); are = pairs }) (i .opened) (i .objective))
@@ -124,19 +123,19 @@ flood-sound {n = n} k = past-case _ (λ e. flood-by-sound k (ltb-false n 5 e) _ 
 -- ---- what stands there is read
 -- pairs are read, whatever is noted
 abbrev Run : List ℕ → ℕ → ℕ → ℕ → ℕ → Type 0
-Run s n p bad long = (bad′ : ℕ) × (long′ : ℕ) × (pairsFrom s n p bad long ≡ PairsRead.Ran bad′ long′)
+Run s n p bad long = (end : ℕ) × (bad′ : ℕ) × (long′ : ℕ) × (pairsFrom s n p bad long ≡ PairsRead.Ran end bad′ long′)
 
 -- one pair is passed, and then others
 passed : (s : List ℕ) (p n bad long : ℕ) {size m bad′ long′ : ℕ} {o : Objective} {t : Tag} → pairAt s p ≡ PairRead.Got o t size bad′ long′ → p + size ≡ m
     → Run s n m (firstOf bad bad′) (firstOf long long′) → Run s (suc n) p bad long
 unfolding pairsFrom pairNext
-passed s p n bad long e step (bad″, long″, rest) = (bad″, long″, rw (e, step) rest)
+passed s p n bad long e step (end, bad″, long″, rest) = (end, bad″, long″, rw (e, step) rest)
 
 -- pairs that stand one after the other are read
-pairs-complete : {s : List ℕ} {p e : ℕ} {xs : Items} {ps : List (Pair Value)} → StandAll s p e xs → depths xs ≤ mostLevels → PairItems xs ps
+pairs-complete : {s : List ℕ} {p e : ℕ} {xs : Items} {ps : List (Pair Value)} → StandAll s p e xs → depths xs ≤ partLevels → PairItems xs ps
     → (bad long : ℕ) → Run s (count xs) p bad long
 unfolding count depth pairsFrom
-pairs-complete a d PairItems.empty bad long = (bad, long, refl)
+pairs-complete {p = p} a d PairItems.empty bad long = (p, bad, long, refl)
 pairs-complete {s} {p} a d (PairItems.more {xs = xs} i is) bad long =
     let c = split a in
     let (o, t, bad′, long′, same) = pair-complete (c .first) (omega arith) i in
@@ -146,11 +145,11 @@ pairs-complete {s} {p} a d (PairItems.more {xs = xs} i is) bad long =
 first-passed : (s : List ℕ) (p parts : ℕ) (opening : Opening) {n m size bad long : ℕ} {o : Objective} {t : Tag} → parts - 1 ≡ n → p + size ≡ m
     → pairAt s p ≡ PairRead.Got o t size bad long → Run s n m bad long → Reads (floodedAt s opening parts p)
 unfolding floodedAt floodedOf floodedBy
-first-passed s p parts opening less step e (bad′, long′, rest) = rw (e, less, step, rest) Reads.reads
+first-passed s p parts opening less step e (end, bad′, long′, rest) = rw (e, less, step, rest) Reads.reads
 
 -- after the opening
 flooded-complete : {s : List ℕ} {p e parts : ℕ} {xs : Items} {pair : Pair Value} {ps : List (Pair Value)} (opening : Opening) → StandAll s p e xs
-    → depths xs ≤ mostLevels → parts ≡ count xs → PairItems xs (pair ∷ ps) → Reads (floodedAt s opening parts p)
+    → depths xs ≤ partLevels → parts ≡ count xs → PairItems xs (pair ∷ ps) → Reads (floodedAt s opening parts p)
 unfolding count depth
 flooded-complete {s} {p} {parts = parts} opening a d counted (PairItems.more {xs = xs} i is) =
     let c = split a in
@@ -165,7 +164,7 @@ some-pairs (PairItems.more i is) = omega arith
 -- a Flood is read
 pub flood-complete : {s : List ℕ} {n at e session ttl : ℕ} {x y z : Item} {xs : Items} {from : List ℕ} {pair : Pair Value} {ps : List (Pair Value)}
     → StandAll s at e (Items.more x (Items.more y (Items.more z xs))) → Number x session → Initiator y from → Number z ttl → PairItems xs (pair ∷ ps)
-    → depths xs ≤ mostLevels → n ≡ 4 + count xs → Reads (floodAt s n at)
+    → depths xs ≤ partLevels → n ≡ 4 + count xs → Reads (floodAt s n at)
 unfolding floodAt floodBy
 flood-complete {s} {n} a i j k is d counted =
     let (o, next, same, b) = opening-complete a i j k in

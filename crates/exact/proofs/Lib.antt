@@ -11,7 +11,8 @@ pub mod Plain
 pub mod Exchange
 pub mod Response
 pub mod Flood
--- What they share.
+-- What they share; and the encoding of an item is made of bytes.
+pub mod Bytes
 pub mod Whole
 pub mod Heads
 pub mod Opening

@@ -12,7 +12,6 @@ use lib.Dec.{ltb, eqb, lit≤}
 use borrow.Author.Tests.{ltb-false, eqb-true, eqb-false, ne-eqb, eq-eqb}
 use Rattle.base.specs.Lists.{Every}
 use Rattle.base.proofs.Picks.{pick-case}
-use Rattle.cbor.specs.Item.{mostLevels}
 use Rattle.cbor.specs.Token.{tokenAt, sizeAt, itemsIn, upTo}
 use Rattle.cbor.specs.Tree.{Item, Items, count, depth}
 use Rattle.cbor.proofs.Tokens.{token-is, token-end}
@@ -26,32 +25,32 @@ use Rattle.grammar.proofs.Pieces.{is-array, array-at, array-items, number-here,
 use Rattle.grammar.proofs.Texts.{bad-text}
 use Rattle.grammar.proofs.Sizes.{sized-item, item-sized}
 use Rattle.message.specs.Opening.{contentOf}
-use Rattle.message.specs.declared.Outcome.{Outcome}
+use Rattle.options.specs.declared.Outcome.{Outcome}
 use Rattle.message.specs.declared.Message.the-variants as M
 use Rattle.message.specs.declared.shape.Shape.the-variants as S
 use Rattle.message.specs.Shape.{noopAt, waitAt, invalidAt, optionAt, endAt}
 use Rattle.exact.specs.Describes.{Before, OutcomeIs, Describes}
 use Rattle.exact.proofs.Noted.{clean, single}
-use Rattle.exact.proofs.Whole.{kind-is, ShapeOk, past-case, held-case, Reads, taken, skipped, Kinded, built}
+use Rattle.exact.proofs.Whole.{partLevels, kind-is, ShapeOk, past-case, held-case, Reads, taken, skipped, Kinded, built}
 use Rattle.exact.proofs.Heads.{number-is-here, NumberHere, number-at-most, number-passed, uint-passed, string-passed, array-passed, string-at}
 
 -- ---- 0, Noop
 -- what is read is a Noop
-pub noop-sound : {s : List ℕ} {n at : ℕ} → Kinded s 0 n at → ShapeOk s (noopAt n)
-unfolding noopAt count textsOf namesOf
+pub noop-sound : {s : List ℕ} {n at : ℕ} → Kinded s 0 n at → ShapeOk s (noopAt n at)
+unfolding noopAt count depth textsOf namesOf
 noop-sound {n = n} k =
     held-case _
-    (λ one. built k _ Items.done Msg.noop (eqb-true n 1 one) (no-items (k .lead .within)) (λ w v. MessageItem.noop) (λ _. Describes.noop) (clean tt) (clean tt))
+    (λ one. built k _ Items.done Msg.noop (eqb-true n 1 one) (no-items (k .lead .within)) (omega arith) (λ w v. MessageItem.noop) (λ _. Describes.noop) (clean tt) (clean tt))
 
 -- a Noop is read
-pub noop-complete : Reads (noopAt 1)
+pub noop-complete : (at : ℕ) → Reads (noopAt 1 at)
 unfolding noopAt
-noop-complete = taken _ refl Reads.reads
+noop-complete at = taken _ refl Reads.reads
 
 -- ---- 7, Wait
 -- what is read is a Wait
 pub wait-sound : {s : List ℕ} {n at : ℕ} → Kinded s 7 n at → ShapeOk s (waitAt s n at)
-unfolding waitAt count textsOf namesOf
+unfolding waitAt count depth textsOf namesOf
 wait-sound {n = n} k =
     held-case _
     (λ three. past-case _
@@ -59,7 +58,7 @@ wait-sound {n = n} k =
     (λ e′.
     let i = number-at-most (k .bytes) (k .lead .within) e in
     let t = number-at-most (k .bytes) (i .stands .within) e′ in
-    built k _ _ (Msg.wait _ _) (eqb-true n 3 three) (join (i .stands) (last (t .stands)))
+    built k _ _ (Msg.wait _ _) (eqb-true n 3 three) (join (i .stands) (last (t .stands))) (omega arith)
     (λ w v. MessageItem.wait (Number.number (i .low)) (Number.number (t .low))) (λ _. Describes.wait) (clean tt) (clean tt))))
 
 -- a Wait is read
@@ -73,7 +72,7 @@ wait-complete a i j =
 -- ---- 99, Invalid
 -- what is read is an Invalid
 pub invalid-sound : {s : List ℕ} {n at : ℕ} → Kinded s 99 n at → ShapeOk s (invalidAt s n at)
-unfolding invalidAt count textsOf namesOf
+unfolding invalidAt count depth textsOf namesOf
 invalid-sound {s} {n} {at} k =
     past-case _
     (λ lo. past-case _
@@ -84,12 +83,12 @@ invalid-sound {s} {n} {at} k =
     let few : 2 ≤ n = ltb-false n 2 lo in
     let most : n ≤ 3 = ltb-false 3 n hi in
     pick-case (ShapeOk s) _
-    (λ two. built k _ _ (Msg.invalid _ none) (eqb-true n 2 two) (last (i .stands)) (λ w v. MessageItem.invalid (Number.number (i .low)))
+    (λ two. built k _ _ (Msg.invalid _ none) (eqb-true n 2 two) (last (i .stands)) (omega arith) (λ w v. MessageItem.invalid (Number.number (i .low)))
     (λ full. Describes.invalid (kind-is k) (number-is-here i) (ValueIs.absent refl) (omega arith)) (clean tt) (clean tt))
     (λ more. past-case _
     (λ some-len.
-    let v = sized-item s p (k .bytes) (i .stands .within) (eqb-false (sizeAt s p) 0 some-len) in
-    built k _ _ (Msg.invalid _ (some (v .item))) (omega (arith, eqb-false n 2 more)) (join (i .stands) (last (v .stands)))
+    let v = sized-item 1 s p (k .bytes) (i .stands .within) (eqb-false (sizeAt 1 s p) 0 some-len) in
+    built k _ _ (Msg.invalid _ (some (v .item))) (omega (arith, eqb-false n 2 more)) (join (i .stands) (last (v .stands))) (omega (arith, v .is))
     (λ w v. MessageItem.invalid-with (Number.number (i .low))) (λ full. Describes.invalid (kind-is k) (number-is-here i) (ValueIs.present (v .stands)) full) (clean tt) (clean tt))))))
 
 -- an Invalid without an item is read
@@ -98,22 +97,29 @@ unfolding invalidAt
 invalid-complete a i = let (e, b) = number-passed a i in skipped _ refl (skipped _ refl (skipped _ e (taken _ refl Reads.reads)))
 
 -- an Invalid with an item is read
-pub invalid-with-complete : {s : List ℕ} {at e session : ℕ} {x y : Item} → StandAll s at e (list (x ∷ y ∷ [])) → Number x session → depth y ≤ mostLevels
+pub invalid-with-complete : {s : List ℕ} {at e session : ℕ} {x y : Item} → StandAll s at e (list (x ∷ y ∷ [])) → Number x session → depth y ≤ partLevels
     → Reads (invalidAt s 3 at)
 unfolding invalidAt
 invalid-with-complete {s} {at} {e} {y = y} a i d =
     let (t, b) = number-passed a i in
     let p : ℕ = tokenAt s at .next in
-    skipped _ refl (skipped _ refl (skipped _ t (skipped _ refl (skipped _ (ne-eqb (sizeAt s p) 0 (item-sized (only b) d .1)) Reads.reads))))
+    skipped _ refl (skipped _ refl (skipped _ t (skipped _ refl (skipped _ (ne-eqb (sizeAt 1 s p) 0 (item-sized 1 (only b) d .1)) Reads.reads))))
 
 -- ---- 6, End
+-- an accept or a decline has one level
+ending-depth : {x : Item} {ending : Ending} → EndingItem x ending → depth x ≤ 1
+unfolding depth
+ending-depth EndingItem.accept = omega arith
+ending-depth EndingItem.decline = omega arith
+ending-depth EndingItem.reason = omega arith
+
 module _ {s : List ℕ} {at p session : ℕ} (k : Kinded s 6 3 at) (i : NumberHere s at p session) where
   -- the session and the option are the message
   ended : {e bad : ℕ} {x : Item} {outcome : Outcome} {ending : Ending} → Stands s p e x → EndingItem x ending → (e ≡ length s → OutcomeIs s outcome ending)
-      → bad ≡ 0 ↔ Every Utf8 (endingTexts ending) → ShapeOk s (S.Good (M.End session outcome) bad 0)
-  unfolding count textsOf namesOf
+      → bad ≡ 0 ↔ Every Utf8 (endingTexts ending) → ShapeOk s (S.Good (M.End session outcome) e bad 0)
+  unfolding count depth textsOf namesOf
   ended {e} {x = x} {ending = ending} stands is described texts =
-      built k e _ (Msg.end session ending) refl (join (i .stands) (last stands)) (λ w v. MessageItem.end (Number.number (i .low)) is)
+      built k e _ (Msg.end session ending) refl (join (i .stands) (last stands)) (omega (arith, ending-depth is)) (λ w v. MessageItem.end (Number.number (i .low)) is)
       (λ full. Describes.end (described full)) texts (clean tt)
 
   -- what is read is an accept or a decline
@@ -146,7 +152,7 @@ module _ {s : List ℕ} {at p session : ℕ} (k : Kinded s 6 3 at) (i : NumberHe
       let here : t .at ≡ x .next = token-is s (x .next) t refl .here in
       let place : t .at ≢ 0 = λ z. omega (arith, advances (number .stands)) in
       ended (array-at h array (eqb-true (o .arg) 2 two) (join (lead 102 (omega (arith, eqb-false (upTo 102 x) 101 e))) (last (string .stands)))) EndingItem.reason
-      (λ full. OutcomeIs.reason (subst (λ (q : ℕ). Before q (contentIn s t) (contentOf t)) full (string .held))) (single (bad-text s t (t .at) place)))))))))
+      (λ full. OutcomeIs.reason (subst (λ (q : ℕ). Before q (contentIn s t) (contentOf t)) full (string .held))) (single (bad-text (contentIn s t) (t .at) place)))))))))
 
 -- what is read is an End
 pub end-sound : {s : List ℕ} {n at : ℕ} → Kinded s 6 n at → ShapeOk s (endAt s n at)

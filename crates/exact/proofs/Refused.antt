@@ -21,20 +21,21 @@ use Rattle.message.specs.declared.Reading.{Reading}
 use Rattle.message.specs.Read.{mostBytes, judged, framed, examined, placeless, readOf}
 use Rattle.exact.specs.Accepted.{IsMessage, Accepted}
 use Rattle.exact.specs.Rows.{Fits, Row}
-use Rattle.exact.proofs.Shaped.{shaped-case, unknown-complete}
+use Rattle.exact.proofs.Whole.{fills}
+use Rattle.exact.proofs.Shaped.{shaped-case, unknown-there, unknown-complete}
 use Rattle.exact.proofs.Answers.{item-once, stands, walked, examined-one, judged-number, message-shape, Answer, answer}
-use Rattle.exact.proofs.Exact.{accepted-exactly}
+use Rattle.exact.proofs.Exact.{accepted-exactly, accepted-bytes}
 
 -- ---- the row's refusal is given
 -- a bad text
-judged-bad : (m : Message) (bad long : ℕ) → (bad ≡ 0 → ⊥) → placeless (judged (S.Good m bad long)) ≡ Reading.Refused 11
+judged-bad : (m : Message) (end bad long : ℕ) → (bad ≡ 0 → ⊥) → placeless (judged (S.Good m end bad long)) ≡ Reading.Refused 11
 unfolding judged placeless pick
-judged-bad m bad long e = rw (ne-eqb bad 0 e)
+judged-bad m end bad long e = rw (ne-eqb bad 0 e)
 
 -- a long name
-judged-long : (m : Message) (bad long : ℕ) → bad ≡ 0 → (long ≡ 0 → ⊥) → placeless (judged (S.Good m bad long)) ≡ Reading.Refused 10
+judged-long : (m : Message) (end bad long : ℕ) → bad ≡ 0 → (long ≡ 0 → ⊥) → placeless (judged (S.Good m end bad long)) ≡ Reading.Refused 10
 unfolding judged placeless pick
-judged-long m bad long e e′ = rw (e, ne-eqb long 0 e′)
+judged-long m end bad long e e′ = rw (e, ne-eqb long 0 e′)
 
 -- neither too short nor too long
 examined-fit : {s : List ℕ} → Fits s → examined s ≡ framed s (firstItem 0 s)
@@ -52,10 +53,10 @@ row-given s _ b (Row.more {e} fits i less) =
 row-given s _ b (Row.kind one u) = ap placeless (examined-one one ∙ unknown-complete (stands one) u .1)
 row-given s _ b (Row.shape one known none) =
     ap placeless (examined-one one)
-    ∙ shaped-case b (walked one) (stands one) (λ (r : Examined). placeless r ≡ Reading.Refused 9) (λ place u. absurd (known u)) (λ place. refl)
-    (λ m bad long h. absurd (none (h .msg) (subst (λ (x : Item). MessageItem x (h .msg)) (item-once (h .item) (one .item) (h .good) (one .good) (h .bytes) (one .bytes)) (h .is))))
-row-given s _ b (Row.text i bad) = let h = message-shape b i in ap placeless (h .is) ∙ judged-bad (h .message) (h .bad) (h .long) (λ z. bad (h .texts .0 z))
-row-given s _ b (Row.name i texts long) = let h = message-shape b i in ap placeless (h .is) ∙ judged-long (h .message) (h .bad) (h .long) (h .texts .1 texts) (λ z. long (h .names .0 z))
+    ∙ shaped-case b (λ (r : Examined). placeless r ≡ Reading.Refused 9) (λ place u. absurd (known (unknown-there b (stands one) u))) (λ place. refl)
+    (λ m end bad long shape. let h = fills b (walked one) shape in absurd (none (h .msg) (subst (λ (x : Item). MessageItem x (h .msg)) (item-once (h .item) (one .item) (h .good) (one .good) (h .bytes) (one .bytes)) (h .is))))
+row-given s _ b (Row.text i bad) = let h = message-shape b i in ap placeless (h .is) ∙ judged-bad (h .message) (h .end) (h .bad) (h .long) (λ z. bad (h .texts .0 z))
+row-given s _ b (Row.name i texts long) = let h = message-shape b i in ap placeless (h .is) ∙ judged-long (h .message) (h .end) (h .bad) (h .long) (h .texts .1 texts) (λ z. long (h .names .0 z))
 
 -- ---- a refusal has its row
 -- an answer has one number
@@ -74,7 +75,7 @@ row-of {s} b e (Answer.shape one) =
     (λ msg is.
     let i : IsMessage s = record { item = one .item; msg = msg; bytes = one .bytes; most = one .most; good = one .good; shallow = one .shallow; is = is } in
     let h = message-shape b i in
-    omega (arith, judged-number (h .message) (h .bad) (h .long) (sym (h .is) ∙ e)))
+    omega (arith, judged-number (h .message) (h .end) (h .bad) (h .long) (sym (h .is) ∙ e)))
 row-of b e (Answer.text m bad) = Row.text m bad
 row-of b e (Answer.name m texts long) = Row.name m texts long
 
@@ -87,7 +88,7 @@ refused-exactly s n b = (by (examined s) refl, row-given s n b)
   where
     by : (r : Examined) → examined s ≡ r → placeless r ≡ Reading.Refused n → Row s n
     by (E.Refused number place) e q = let same : number ≡ n = cc in subst (Row s) same (row-of b e (subst (Answer s) e (answer b)))
-    by (E.Accepted m) e q = absurd (let z : _≡_ {A = ℕ} 0 1 = cc in omega arith)
+    by (E.Accepted m end) e q = absurd (let z : _≡_ {A = ℕ} 0 1 = cc in omega arith)
 
 -- Any bytes are accepted or have a row.
 pub accepted-or-refused : (s : List ℕ) → Bytes s → Accepted s ⊎ ((n : ℕ) × Row s n)
@@ -98,8 +99,9 @@ accepted-or-refused s b = by (readOf s) refl
     by (Reading.Read m) e = inl (accepted-exactly s b .0 (m, e))
 
 -- Accepted bytes have no row.
-pub accepted-not-refused : (s : List ℕ) (n : ℕ) → Bytes s → Accepted s → Row s n → ⊥
-accepted-not-refused s n b a row =
+pub accepted-not-refused : (s : List ℕ) (n : ℕ) → Accepted s → Row s n → ⊥
+accepted-not-refused s n a row =
+    let b = accepted-bytes s a in
     let (m, e) = accepted-exactly s b .1 a in
     let f = row-given s n b row in
     let z : _≡_ {A = ℕ} 0 1 = cc in

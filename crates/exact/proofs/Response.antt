@@ -13,7 +13,6 @@ use Rattle.base.specs.Pick.{pick}
 use Rattle.base.specs.Lists.{Every}
 use Rattle.base.proofs.Picks.{pick-case, both}
 use Rattle.cbor.specs.declared.token.Token.{Token}
-use Rattle.cbor.specs.Item.{mostLevels}
 use Rattle.cbor.specs.Token.{tokenAt, itemsIn, upTo}
 use Rattle.cbor.specs.Tree.{Item, Items, count, depth, depths}
 use Rattle.cbor.proofs.Tokens.{token-end}
@@ -24,6 +23,7 @@ use Rattle.syntax.specs.Message.{Loc, Obj, Aim, Msg}
 use Rattle.grammar.specs.Cddl.{uint, joined, Number, Initiator, LocatorItems, OptionalItems, AimItems, MessageItem, Value}
 use Rattle.grammar.specs.Limits.{Utf8, Short, locTexts, optionalNames, aimTexts, textsOf, namesOf}
 use Rattle.grammar.specs.Stands.{Stands, StandAll, ArrayHead, ObjectiveIs}
+use Rattle.grammar.proofs.Depths.{locators-depth}
 use Rattle.grammar.proofs.Objectives.{objective-sound}
 use Rattle.grammar.proofs.Bridge.{token-heading, join, none as no-items, last, split, none-end}
 use Rattle.grammar.proofs.Pieces.{is-array, array-items, array-at, array-head, number-here, number-is}
@@ -33,11 +33,12 @@ use Rattle.message.specs.declared.opening.Opening.{Opening}
 use Rattle.message.specs.declared.opening.OpeningRead.{OpeningRead}
 use Rattle.message.specs.declared.sequence.LocatorsRead.{LocatorsRead}
 use Rattle.message.specs.declared.shape.Shape.the-variants as S
+use Rattle.message.specs.Opening.{objectiveLevels}
 use Rattle.message.specs.Sequence.{locatorsFrom}
 use Rattle.message.specs.Response.{responseOf, restOf, restAt, divertOf, divertAt, locatedOf, locatedAt, targetsAt, responseBy, responseAt}
 use Rattle.exact.specs.Describes.{AimIs, ExtraIs, Describes}
 use Rattle.exact.proofs.Noted.{clean, single, none-noted, first-noted, then-noted, more-noted}
-use Rattle.exact.proofs.Whole.{ShapeOk, past-case, held-case, Reads, taken, skipped, Kinded, kind-is, built}
+use Rattle.exact.proofs.Whole.{partLevels, ShapeOk, past-case, held-case, Reads, taken, skipped, Kinded, kind-is, built}
 use Rattle.exact.proofs.Heads.{number-is-here, initiator-is, uint-passed, array-passed}
 use Rattle.exact.proofs.Exchange.{objective-reads}
 use Rattle.exact.proofs.Opening.{OpeningHere, OpeningOk, opening-sound, opening-complete}
@@ -55,13 +56,19 @@ unfolding count
 count-joined Items.done ys = omega arith
 count-joined (Items.more x xs) ys = ap suc (count-joined xs ys) ∙ omega arith
 
+-- and they are as deep as the deeper ones
+depths-both : (xs ys : Items) → depths xs ≤ partLevels → depths ys ≤ partLevels → depths (joined xs ys) ≤ partLevels
+unfolding depth
+depths-both Items.done ys d e = e
+depths-both (Items.more x xs) ys d e = omega (arith, depths-both xs ys (omega arith) e)
+
 -- ---- what is read stands there
 -- nothing more, or one objective
-record RestHere (s : List ℕ) (p left bad bad′ long : ℕ) (extra : Extra) : Type 0 where
+record RestHere (s : List ℕ) (p left bad end bad′ long : ℕ) (extra : Extra) : Type 0 where
   items : Items
   obj : Option (Obj Value)
-  end : ℕ
   stand : StandAll s p end items
+  shallow : depths items ≤ partLevels
   counted : left ≡ count items
   are : OptionalItems items obj
   is : end ≡ length s → ExtraIs s p extra obj
@@ -70,31 +77,31 @@ record RestHere (s : List ℕ) (p left bad bad′ long : ℕ) (extra : Extra) : 
 
 module _ {s : List ℕ} {n at next : ℕ} (k : Kinded s 2 n at) {opening : Opening} (h : OpeningHere s at next opening) where
   -- the opening and what follows it are the message
-  responded : {e e′ bad long : ℕ} {xs : Items} {aim : Aim} {obj : Option (Obj Value)} {targets : Targets} {extra : Extra} → n ≡ 4 + count xs → StandAll s next e xs → AimItems xs aim obj
+  responded : {e e′ bad long : ℕ} {xs : Items} {aim : Aim} {obj : Option (Obj Value)} {targets : Targets} {extra : Extra} → n ≡ 4 + count xs → StandAll s next e xs → depths xs ≤ partLevels → AimItems xs aim obj
       → AimIs s next e′ targets aim → (e ≡ length s → ExtraIs s e′ extra obj) → bad ≡ 0 ↔ Every Utf8 (aimTexts aim ++ optionalNames obj) → long ≡ 0 ↔ Every Short (optionalNames obj)
-      → ShapeOk s (S.Good (responseOf opening targets extra) bad long)
-  unfolding count textsOf namesOf
-  responded {aim = aim} {obj} counted stand are pointed followed texts names =
+      → ShapeOk s (S.Good (responseOf opening targets extra) e bad long)
+  unfolding count depth textsOf namesOf
+  responded {aim = aim} {obj} counted stand shallow are pointed followed texts names =
       built k _ _ (Msg.response _ (h .initiator .content) _ aim obj) (counted ∙ omega arith)
-      (join (h .session .stands) (join (h .initiator .stands) (join (h .ttl .stands) stand)))
+      (join (h .session .stands) (join (h .initiator .stands) (join (h .ttl .stands) stand))) (omega arith)
       (λ w v. MessageItem.response (Number.number (h .session .low)) (Initiator.initiator (h .initiator .size)) (Number.number (h .ttl .low)) are)
       (λ full. Describes.response (kind-is k) (number-is-here (h .session)) (initiator-is (h .initiator)) (number-is-here (h .ttl)) pointed (followed full)) texts names
 
   -- one objective, and then the end
   rest-of-sound : {targets : Targets} {left p bad : ℕ} → p ≤ length s
-      → ((extra : Extra) (bad′ long : ℕ) → RestHere s p left bad bad′ long extra → ShapeOk s (S.Good (responseOf opening targets extra) bad′ long))
-      → (x : ObjectiveRead) → objectiveAt s p ≡ x → ShapeOk s (restOf s opening targets left p bad x)
-  unfolding restOf count optionalNames
+      → ((extra : Extra) (end bad′ long : ℕ) → RestHere s p left bad end bad′ long extra → ShapeOk s (S.Good (responseOf opening targets extra) end bad′ long))
+      → (x : ObjectiveRead) → objectiveAt objectiveLevels s p ≡ x → ShapeOk s (restOf s opening targets left p bad x)
+  unfolding restOf count depth optionalNames
   rest-of-sound low go (ObjectiveRead.Bad place) e = ShapeOk.bad
   rest-of-sound {left = left} {p} {bad} low go (ObjectiveRead.Got o size bad′ long) e =
-      let x = objective-sound s p o size bad′ long low (k .bytes) e in
+      let x = objective-sound objectiveLevels s p o size bad′ long low (k .bytes) e in
       held-case _
-      (λ one. go (Extra.With o) (firstOf bad bad′) long
+      (λ one. go (Extra.With o) (p + size) (firstOf bad bad′) long
       (record {
         items = Items.more (x .item) Items.done;
         obj = some (x .obj);
-        end = p + size;
         stand = last (x .stands);
+        shallow = omega (arith, x .shallow);
         counted = eqb-true left 1 one;
         are = OptionalItems.with-one (x .is);
         is = λ full. ExtraIs.with-one (subst (λ (e : ℕ). ObjectiveIs s p e o (x .obj)) full (x .described));
@@ -104,17 +111,17 @@ module _ {s : List ℕ} {n at next : ℕ} (k : Kinded s 2 n at) {opening : Openi
 
   -- what follows the locators or the divert
   rest-sound : {targets : Targets} {left p bad : ℕ} → p ≤ length s
-      → ((extra : Extra) (bad′ long : ℕ) → RestHere s p left bad bad′ long extra → ShapeOk s (S.Good (responseOf opening targets extra) bad′ long))
+      → ((extra : Extra) (end bad′ long : ℕ) → RestHere s p left bad end bad′ long extra → ShapeOk s (S.Good (responseOf opening targets extra) end bad′ long))
       → ShapeOk s (restAt s opening targets left p bad)
-  unfolding restAt count optionalNames
+  unfolding restAt count depth optionalNames
   rest-sound {left = left} {p} {bad} low go =
       pick-case (ShapeOk s) _
-      (λ zero. go Extra.Without bad 0
+      (λ zero. go Extra.Without p bad 0
       (record {
         items = Items.done;
         obj = none;
-        end = p;
         stand = no-items low;
+        shallow = omega arith;
         counted = eqb-true left 0 zero;
         are = OptionalItems.without;
         is = ExtraIs.without;
@@ -124,15 +131,15 @@ module _ {s : List ℕ} {n at next : ℕ} (k : Kinded s 2 n at) {opening : Openi
       (λ _. rest-of-sound low go _ refl)
 
   -- locators, and what follows them
-  located-finish : {many p′ left bad bad′ long : ℕ} {extra : Extra} {xs : Items} {ls : List Loc} → n ≡ 4 + (count xs + left) → many ≡ count xs → (count xs ≡ 0 → ⊥)
-      → LocatorItems xs ls → StandAll s next p′ xs → bad ≡ 0 ↔ Every Utf8 (flatMap locTexts ls) → RestHere s p′ left bad bad′ long extra
-      → ShapeOk s (S.Good (responseOf opening (Targets.Locators (record { at = next; many = many })) extra) bad′ long)
+  located-finish : {many p′ left bad end bad′ long : ℕ} {extra : Extra} {xs : Items} {ls : List Loc} → n ≡ 4 + (count xs + left) → many ≡ count xs → (count xs ≡ 0 → ⊥)
+      → LocatorItems xs ls → StandAll s next p′ xs → bad ≡ 0 ↔ Every Utf8 (flatMap locTexts ls) → RestHere s p′ left bad end bad′ long extra
+      → ShapeOk s (S.Good (responseOf opening (Targets.Locators (record { at = next; many = many })) extra) end bad′ long)
   unfolding count aimTexts
   located-finish counted many filled LocatorItems.empty stand texts r = absurd (filled refl)
   located-finish counted many filled (LocatorItems.more {x} {l} {xs} {ls} i is) stand texts r =
       let all = Items.more x xs in
       responded (counted ∙ ap (λ (c : ℕ). 4 + c) (ap (λ (c : ℕ). count all + c) (r .counted) ∙ sym (count-joined all (r .items)))) (join-all stand (r .stand))
-      (AimItems.locators (LocatorItems.more i is) (r .are))
+      (depths-both all (r .items) (omega (arith, locators-depth (LocatorItems.more i is))) (r .shallow)) (AimItems.locators (LocatorItems.more i is) (r .are))
       (AimIs.locators refl (record { items = all; stand = stand; many = many; are = LocatorItems.more i is }))
       (r .is) (then-noted Utf8 (flatMap locTexts (l ∷ ls)) (optionalNames (r .obj)) texts (r .texts)) (r .names)
 
@@ -143,7 +150,7 @@ module _ {s : List ℕ} {n at next : ℕ} (k : Kinded s 2 n at) {opening : Openi
   located-of-sound {parts} counted _ (LocatorsOk.ran {left = left} l) =
       past-case _
       (λ more. rest-sound (l .stand .within)
-      (λ extra bad′ long r. located-finish (omega (arith, l .sum)) (omega (arith, l .sum)) (λ z. omega (arith, l .sum, leb-false parts left more)) (l .are) (l .stand) (first-noted (l .texts)) r))
+      (λ extra end bad′ long r. located-finish (omega (arith, l .sum)) (omega (arith, l .sum)) (λ z. omega (arith, l .sum, leb-false parts left more)) (l .are) (l .stand) (first-noted (l .texts)) r))
 
   -- locators first
   located-sound : (parts : ℕ) → n ≡ 4 + parts → ShapeOk s (locatedAt s opening parts next)
@@ -151,13 +158,13 @@ module _ {s : List ℕ} {n at next : ℕ} (k : Kinded s 2 n at) {opening : Openi
   located-sound parts counted = located-of-sound counted _ (locators-sound (k .bytes) parts next 0 (h .ttl .stands .within))
 
   -- a divert, and what follows it
-  divert-finish : {many from p′ q left bad bad′ long w v : ℕ} {extra : Extra} {xs : Items} {ls : List Loc} → n ≡ 5 + left → many ≡ count xs → (count xs ≡ 0 → ⊥)
+  divert-finish : {many from p′ q left bad end bad′ long w v : ℕ} {extra : Extra} {xs : Items} {ls : List Loc} → n ≡ 5 + left → many ≡ count xs → (count xs ≡ 0 → ⊥)
       → LocatorItems xs ls → StandAll s from p′ xs → Stands s next p′ (Item.array w (Items.more (uint v 100) xs)) → ArrayHead s next q (suc many) → Stands s q from (uint v 100) → bad ≡ 0 ↔ Every Utf8 (flatMap locTexts ls)
-      → RestHere s p′ left bad bad′ long extra → ShapeOk s (S.Good (responseOf opening (Targets.Divert (record { at = from; many = many })) extra) bad′ long)
-  unfolding count aimTexts
+      → RestHere s p′ left bad end bad′ long extra → ShapeOk s (S.Good (responseOf opening (Targets.Divert (record { at = from; many = many })) extra) end bad′ long)
+  unfolding count depth aimTexts
   divert-finish counted many filled LocatorItems.empty stand whole head lead texts r = absurd (filled refl)
   divert-finish counted many filled (LocatorItems.more {x} {l} {xs} {ls} i is) stand whole head lead texts r =
-      responded (counted ∙ omega (arith, r .counted)) (join whole (r .stand)) (AimItems.divert (LocatorItems.more i is) (r .are))
+      responded (counted ∙ omega (arith, r .counted)) (join whole (r .stand)) (omega (arith, locators-depth (LocatorItems.more i is), r .shallow)) (AimItems.divert (LocatorItems.more i is) (r .are))
       (AimIs.divert head lead (record { items = Items.more x xs; stand = stand; many = many; are = LocatorItems.more i is }))
       (r .is) (then-noted Utf8 (flatMap locTexts (l ∷ ls)) (optionalNames (r .obj)) texts (r .texts)) (r .names)
 
@@ -172,7 +179,7 @@ module _ {s : List ℕ} {n at next : ℕ} (k : Kinded s 2 n at) {opening : Openi
       (λ zero.
       let same : many ≡ count (l .items) = omega (arith, l .sum, eqb-true over 0 zero) in
       let whole = close e (l .items) same (l .stand) in
-      rest-sound (l .stand .within) (λ extra bad′ long r. divert-finish counted same (λ z. filled (same ∙ z)) (l .are) (l .stand) whole head lead (first-noted (l .texts)) r))
+      rest-sound (l .stand .within) (λ extra end bad′ long r. divert-finish counted same (λ z. filled (same ∙ z)) (l .are) (l .stand) whole head lead (first-noted (l .texts)) r))
 
   -- a divert first
   divert-sound : (left : ℕ) → n ≡ 5 + left → (itemsIn (tokenAt s next) ≡ 0 → ⊥) → upTo 100 (tokenAt s (tokenAt s next .next)) ≡ 100
@@ -224,7 +231,7 @@ split-all (Items.more x xs) ys a =
     (m, join (c .first) first, rest)
 
 -- ys are no deeper than both
-depths-joined : (xs ys : Items) → depths (joined xs ys) ≤ mostLevels → depths ys ≤ mostLevels
+depths-joined : (xs ys : Items) → depths (joined xs ys) ≤ partLevels → depths ys ≤ partLevels
 unfolding depth
 depths-joined Items.done ys d = d
 depths-joined (Items.more x xs) ys d = depths-joined xs ys (omega arith)
@@ -259,7 +266,7 @@ first-led ys a (LocatorItems.more i is) = locator-led a i .1
 
 module _ (s : List ℕ) (opening : Opening) where
   -- what follows the locators or the divert is read
-  rest-complete : {p e left : ℕ} (bad : ℕ) {ys : Items} {obj : Option (Obj Value)} (targets : Targets) → StandAll s p e ys → OptionalItems ys obj → depths ys ≤ mostLevels → left ≡ count ys
+  rest-complete : {p e left : ℕ} (bad : ℕ) {ys : Items} {obj : Option (Obj Value)} (targets : Targets) → StandAll s p e ys → OptionalItems ys obj → depths ys ≤ partLevels → left ≡ count ys
       → Reads (restAt s opening targets left p bad)
   unfolding restAt restOf count depth
   rest-complete bad targets a OptionalItems.without d counted = taken _ (eq-eqb _ _ counted) Reads.reads
@@ -268,7 +275,7 @@ module _ (s : List ℕ) (opening : Opening) where
       (objective-reads a (omega arith) i (restOf s opening targets left p bad) (λ o size bad′ long. taken _ (eq-eqb _ _ counted) Reads.reads))
 
   -- locators are read
-  located-complete : {p e parts : ℕ} {xs ys : Items} {l : Loc} {ls : List Loc} {obj : Option (Obj Value)} → StandAll s p e (joined xs ys) → depths (joined xs ys) ≤ mostLevels
+  located-complete : {p e parts : ℕ} {xs ys : Items} {l : Loc} {ls : List Loc} {obj : Option (Obj Value)} → StandAll s p e (joined xs ys) → depths (joined xs ys) ≤ partLevels
       → parts ≡ count (joined xs ys) → LocatorItems xs (l ∷ ls) → OptionalItems ys obj → Reads (locatedAt s opening parts p)
   unfolding locatedAt locatedOf
   located-complete {p} {parts = parts} {xs} {ys} a d counted is o =
@@ -281,7 +288,7 @@ module _ (s : List ℕ) (opening : Opening) where
 
   -- a divert is read
   divert-complete : {p e w v left : ℕ} {xs ys : Items} {l : Loc} {ls : List Loc} {obj : Option (Obj Value)} → StandAll s p e (Items.more (Item.array w (Items.more (uint v 100) xs)) ys)
-      → depths ys ≤ mostLevels → left ≡ count ys → LocatorItems xs (l ∷ ls) → OptionalItems ys obj
+      → depths ys ≤ partLevels → left ≡ count ys → LocatorItems xs (l ∷ ls) → OptionalItems ys obj
       → Reads (divertAt s opening left (tokenAt s p .arg) p (tokenAt s (tokenAt s p .next) .next))
   unfolding divertAt divertOf locatorsFrom count
   divert-complete {p} {left = left} {xs} a d counted is o =
@@ -295,7 +302,7 @@ module _ (s : List ℕ) (opening : Opening) where
       (subst (λ (r : LocatorsRead). Reads (divertOf s opening left (tokenAt s p .arg - 1) from r)) (sym all) (taken _ refl (rest-complete bad _ (t .rest) o d counted)))
 
   -- what follows the ttl is read
-  targets-complete : {p e parts : ℕ} {xs : Items} {aim : Aim} {obj : Option (Obj Value)} → StandAll s p e xs → depths xs ≤ mostLevels → parts ≡ count xs → AimItems xs aim obj
+  targets-complete : {p e parts : ℕ} {xs : Items} {aim : Aim} {obj : Option (Obj Value)} → StandAll s p e xs → depths xs ≤ partLevels → parts ≡ count xs → AimItems xs aim obj
       → Reads (targetsAt s opening parts p)
   unfolding targetsAt depth count
   targets-complete {p} a d counted (AimItems.locators {ys = ys} is o) =
@@ -312,7 +319,7 @@ module _ (s : List ℕ) (opening : Opening) where
 -- a Response is read
 pub response-complete : {s : List ℕ} {n at e session ttl : ℕ} {x y z : Item} {xs : Items} {from : List ℕ} {aim : Aim} {obj : Option (Obj Value)}
     → StandAll s at e (Items.more x (Items.more y (Items.more z xs))) → Number x session → Initiator y from → Number z ttl → AimItems xs aim obj
-    → depths xs ≤ mostLevels → n ≡ 4 + count xs → Reads (responseAt s n at)
+    → depths xs ≤ partLevels → n ≡ 4 + count xs → Reads (responseAt s n at)
 unfolding responseAt responseBy
 response-complete {s} {n} {at} a i j k is d counted =
     let (o, next, same, b) = opening-complete a i j k in

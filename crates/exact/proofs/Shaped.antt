@@ -1,4 +1,4 @@
--- The eleven kinds together: what `shaped` answers of one item that is the whole of the bytes.
+-- The eleven kinds together: what `shaped` answers of any bytes, and that the walk accepts what it accepts.
 -- Assumes nothing.
 use mathlib.Core.Path.{_≡_, refl, sym, ap, _∙_, subst}
 use mathlib.Core.Logic.{_⊎_, inl, inr, _≢_}
@@ -6,6 +6,7 @@ use mathlib.Core.List.{List, _++_, append-assoc}
 use mathlib.Core.Bool.{true, false}
 use Prim.Native.Nat.{ℕ, suc, _/_, _≤_, _<_, zero-le}
 use native.Mathlib.Decide.{decLt}
+use native.Mathlib.Nat.{zero-add}
 use native.Mathlib.Omega.{arith}
 use lib.ListN.{length, drop}
 use lib.Dec.{ltb, eqb}
@@ -20,6 +21,7 @@ use Rattle.cbor.specs.Head.{headAt}
 use Rattle.cbor.specs.Item.{mostLevels, firstItem}
 use Rattle.cbor.specs.Token.{tokenAt, itemsIn}
 use Rattle.cbor.specs.Tree.{Item, Items, Good, Right, headBytes, count, encode, encodes, depth}
+use Rattle.cbor.proofs.Accepts.{item-accepts}
 use Rattle.cbor.proofs.HeadExact.{head-read}
 use Rattle.cbor.proofs.Tokens.{token-end}
 use Rattle.syntax.specs.Message.{Msg}
@@ -92,6 +94,20 @@ shape-sound {s} {kind} {n} {at} k known =
               ]
         ]
 
+-- ---- a message that was accepted
+-- a refusal is no message
+refused-accepted : {number place end : ℕ} {m : Message} → E.Refused number place ≡ E.Accepted m end → ⊥
+refused-accepted e = let z : _≡_ {A = ℕ} 0 1 = cc in omega arith
+
+-- a message keeps the place where its parts end
+judged-end : (m : Message) (end bad long : ℕ) {m′ : Message} {end′ : ℕ} → judged (S.Good m end bad long) ≡ E.Accepted m′ end′ → end ≡ end′
+unfolding judged
+judged-end m end bad long {m′} {end′} =
+    pick-case P _ (λ _. pick-case P _ (λ _ q. cc) (λ _ q. absurd (refused-accepted q))) (λ _ q. absurd (refused-accepted q))
+  where
+    P : Examined → Type 0
+    P r = r ≡ E.Accepted m′ end′ → end ≡ end′
+
 -- ---- which items a kind can lead
 -- the major type of a head is read of it
 same-major : (m w n m′ w′ n′ : ℕ) (r r′ : List ℕ) → Right m w n → Right m′ w′ n′ → headBytes m w n ++ r ≡ headBytes m′ w′ n′ ++ r′ → m ≡ m′
@@ -122,22 +138,28 @@ array-there {s} {p} {e} {t} x a h four = by x (a .good) (sym (a .is) ∙ h .head
     by (Item.tagged w n x) good is = other 6 w n _ (good .0) (sym (append-assoc (headBytes 6 w n) (encode x) (drop e s)) ∙ is) (λ z. omega arith)
     by (Item.simple w n) good is = other 7 w n _ good is (λ z. omega arith)
 
--- and where an unsigned number leads it, it is that number
-unknown-there : {s : List ℕ} {e : ℕ} {x : Item} → Bytes s → Stands s 0 e x → IsArray x → (itemsIn (tokenAt s 0) ≡ 0 → ⊥) → tokenAt s (tokenAt s 0 .next) .major ≡ 0
-    → 9 < tokenAt s (tokenAt s 0 .next) .arg → tokenAt s (tokenAt s 0 .next) .arg ≢ 99 → UnknownKind x
+-- an array with items, led by an unsigned number that is no kind, as its heads say
+pub record UnknownLead (s : List ℕ) : Type 0 where
+  pub filled : itemsIn (tokenAt s 0) ≡ 0 → ⊥
+  pub number : tokenAt s (tokenAt s 0 .next) .major ≡ 0
+  pub high : 9 < tokenAt s (tokenAt s 0 .next) .arg
+  pub other : tokenAt s (tokenAt s 0 .next) .arg ≢ 99
+
+-- and where an array stands that is so led, it is of no known kind
+unknown-array : {s : List ℕ} {e : ℕ} {x : Item} → Bytes s → Stands s 0 e x → IsArray x → UnknownLead s → UnknownKind x
 unfolding count itemsIn pick
-unknown-there {s} b a (IsArray.array {xs = Items.done}) filled number high other =
+unknown-array {s} b a (IsArray.array {xs = Items.done}) u =
     let t = array-passed (last a) in
-    absurd (filled (rw (t .major, t .arg)))
-unknown-there {s} b a (IsArray.array {w} {xs = Items.more y ys}) filled number high other =
+    absurd (u .filled (rw (t .major, t .arg)))
+unknown-array {s} b a (IsArray.array {w} {xs = Items.more y ys}) u =
     let t = array-passed (last a) in
     let c = split (t .items) in
-    let i = uint-at b (token-end s 0) number in
+    let i = uint-at b (token-end s 0) (u .number) in
     let same = stands-once (i .stands) (c .first) in
-    subst (λ (y : Item). UnknownKind (Item.array w (Items.more y ys))) same (UnknownKind.unknown high other)
+    subst (λ (y : Item). UnknownKind (Item.array w (Items.more y ys))) same (UnknownKind.unknown (u .high) (u .other))
 
--- ---- the answers, of one item x that is the whole
-module _ {s : List ℕ} {x : Item} (b : Bytes s) (walked : firstItem 0 s ≡ ItemRead.Ends (length s)) (stands : Stands s 0 (length s) x) where
+-- ---- the answers
+module _ {s : List ℕ} (b : Bytes s) where
   -- the head of an array, and a kind after it
   heading : (itemsIn (tokenAt s 0) ≡ 0 → ⊥) → Heading s 0 (tokenAt s 0)
   heading filled = token-heading s 0 (tokenAt s 0) b zero-le refl (omega (arith, is-array (tokenAt s 0) filled))
@@ -149,7 +171,6 @@ module _ {s : List ℕ} {x : Item} (b : Bytes s) (walked : firstItem 0 s ≡ Ite
       let i = uint-at b (token-end s 0) number in
       record {
         bytes = b;
-        walked = walked;
         from = tokenAt s 0 .next;
         array-width = h .width;
         width = i .width;
@@ -158,9 +179,9 @@ module _ {s : List ℕ} {x : Item} (b : Bytes s) (walked : firstItem 0 s ≡ Ite
         close = λ e xs counted stand. array-at h (is-array (tokenAt s 0) filled) counted stand;
       }
 
-  -- an unknown kind, a departure, or a message that is described
-  pub shaped-case : (P : Examined → Type 0) → ((place : ℕ) → UnknownKind x → P (E.Refused 8 place)) → ((place : ℕ) → P (E.Refused 9 place))
-      → ((m : Message) (bad long : ℕ) → ShapeIs s m bad long → P (judged (S.Good m bad long))) → P (shaped s)
+  -- an unknown kind that leads, a departure, or a message that is described
+  pub shaped-case : (P : Examined → Type 0) → ((place : ℕ) → UnknownLead s → P (E.Refused 8 place)) → ((place : ℕ) → P (E.Refused 9 place))
+      → ((m : Message) (end bad long : ℕ) → ShapeIs s m end bad long → P (judged (S.Good m end bad long))) → P (shaped s)
   unfolding shaped judged
   shaped-case P unknown departs reads =
       let a = tokenAt s 0 in
@@ -173,14 +194,25 @@ module _ {s : List ℕ} {x : Item} (b : Bytes s) (walked : firstItem 0 s ≡ Ite
       let at-kind = kinded filled number in
       pick-case P _
       (λ e₃. pick-case P _ (λ e₄. shape (shape-sound at-kind (inr (eqb-true (k .arg) 99 e₄))))
-      (λ e₄. unknown _
-      (unknown-there b stands (array-there x stands (heading filled) (is-array a filled)) filled number (ltb-true 9 (k .arg) e₃) (eqb-false (k .arg) 99 e₄))))
+      (λ e₄. unknown _ (record { filled = filled; number = number; high = ltb-true 9 (k .arg) e₃; other = eqb-false (k .arg) 99 e₄ })))
       (λ e₃. shape (shape-sound at-kind (inl (ltb-false 9 (k .arg) e₃)))))
       (λ _. departs _))
     where
       shape : {r : Shape} → ShapeOk s r → P (judged r)
       shape (ShapeOk.bad {place}) = departs place
-      shape (ShapeOk.good {m} {bad} {long} i) = reads m bad long i
+      shape (ShapeOk.good {m} {end} {bad} {long} i) = reads m end bad long i
+
+  -- an item that is so led is of no known kind
+  pub unknown-there : {e : ℕ} {x : Item} → Stands s 0 e x → UnknownLead s → UnknownKind x
+  unknown-there {x = x} stands u = unknown-array b stands (array-there x stands (heading (u .filled)) (is-array (tokenAt s 0) (u .filled))) u
+
+-- the walk accepts a message that its parts make up, and ends where they end
+pub parts-walked : (s : List ℕ) {m : Message} {end : ℕ} → Bytes s → shaped s ≡ E.Accepted m end → firstItem 0 s ≡ ItemRead.Ends end
+parts-walked s {m} {end} b =
+    shaped-case b (λ (x : Examined). x ≡ E.Accepted m end → firstItem 0 s ≡ ItemRead.Ends end) (λ place u q. absurd (refused-accepted q)) (λ place q. absurd (refused-accepted q))
+    (λ m′ end′ bad long h q.
+    let same : end′ ≡ end = judged-end m′ end′ bad long q in
+    ap (firstItem 0) (h .stands .is) ∙ item-accepts 0 (h .item) (drop end′ s) (h .stands .good) (h .shallow) ∙ ap ItemRead.Ends (sym (h .stands .end ∙ zero-add _) ∙ same))
 
 -- an array that a number leads, and what `shaped` reads of it
 record Led (s : List ℕ) (kind : ℕ) (xs : Items) : Type 0 where
@@ -212,18 +244,19 @@ unknown-complete a (UnknownKind.unknown {n = n} high other) = let l = led a in (
 -- a message
 pub record MessageReads (s : List ℕ) : Type 0 where
   pub message : Message
+  pub end : ℕ
   pub bad : ℕ
   pub long : ℕ
-  pub is : shaped s ≡ judged (S.Good message bad long)
+  pub is : shaped s ≡ judged (S.Good message end bad long)
 
 -- as its shape is read
 reads-of : {s : List ℕ} (r : Shape) → shaped s ≡ judged r → Reads r → MessageReads s
-reads-of _ e (Reads.reads {m} {bad} {long}) = record { message = m; bad = bad; long = long; is = e }
+reads-of _ e (Reads.reads {m} {end} {bad} {long}) = record { message = m; end = end; bad = bad; long = long; is = e }
 
 -- each message is read
 pub shape-complete : {s : List ℕ} {x : Item} {msg : Msg Value} → Stands s 0 (length s) x → depth x ≤ mostLevels → MessageItem x msg → MessageReads s
 unfolding byKind pick count depth
-shape-complete a d MessageItem.noop = reads-of _ (led a .is) noop-complete
+shape-complete a d MessageItem.noop = let l = led a in reads-of _ (l .is) (noop-complete (l .at))
 shape-complete a d (MessageItem.discovery i j o) = let l = led a in reads-of _ (l .is) (discovery-complete (l .stand) i j o (omega arith))
 shape-complete a d (MessageItem.response i j t is) = let l = led a in reads-of _ (l .is) (response-complete (l .stand) i j t is (omega arith) (omega arith))
 shape-complete a d (MessageItem.request-negotiation i o) = let l = led a in reads-of _ (l .is) (exchange-complete 3 (l .stand) i o (omega arith))

@@ -1,4 +1,4 @@
--- What every kind's laws share: what is said of a shape, the frame that makes the items of a message the message, and going by a shape's tests.
+-- What every kind's laws share: what is said of a shape, the head that makes the items of a message the message, and going by a shape's tests.
 -- Assumes nothing.
 use mathlib.Core.Path.{_≡_, sym, ap, _∙_, subst}
 use mathlib.Core.Logic.{_↔_}
@@ -12,8 +12,8 @@ use Rattle.base.specs.Pick.{pick}
 use Rattle.base.specs.BigEndian.{Bytes}
 use Rattle.base.proofs.Picks.{pick-case}
 use Rattle.cbor.specs.declared.item.ItemRead.{ItemRead}
-use Rattle.cbor.specs.Item.{mostLevels, firstItem}
-use Rattle.cbor.specs.Tree.{Item, Items, Good, count, depth, encode}
+use Rattle.cbor.specs.Item.{mostLevels, leftUnder, firstItem}
+use Rattle.cbor.specs.Tree.{Item, Items, Good, count, depth, depths, encode}
 use Rattle.cbor.proofs.Exact.{item-exact}
 use Rattle.cbor.proofs.Unique.{unique}
 use Rattle.syntax.specs.Message.{Msg}
@@ -26,22 +26,26 @@ use Rattle.message.specs.declared.shape.Shape.{Shape}
 use Rattle.message.specs.declared.shape.Shape.the-variants as S
 use Rattle.exact.specs.Describes.{KindIs, Describes}
 
--- s is the encoding of a message that m describes, bad is 0 exactly if its texts are UTF-8, and long exactly if its names are short
-pub record ShapeIs (s : List ℕ) (m : Message) (bad long : ℕ) : Type 0 where
+-- how many levels the items of a message have at most
+abbrev pub partLevels : ℕ
+partLevels = leftUnder 1
+
+-- the first bytes of s, up to `end`, are the encoding of a message, which m describes where it is the whole; bad is 0 exactly if its texts are UTF-8, and long
+-- exactly if its names are short
+pub record ShapeIs (s : List ℕ) (m : Message) (end bad long : ℕ) : Type 0 where
   pub item : Item
   pub msg : Msg Value
-  pub bytes : encode item ≡ s
-  pub good : Good item
+  pub stands : Stands s 0 end item
   pub shallow : depth item ≤ mostLevels
   pub is : MessageItem item msg
-  pub describes : Describes s m msg
+  pub describes : end ≡ length s → Describes s m msg
   pub texts : bad ≡ 0 ↔ TextsGood msg
   pub names : long ≡ 0 ↔ NamesGood msg
 
 -- a shape that was read is one of a message
 pub data ShapeOk (s : List ℕ) : Shape → Type 0 where
   bad : {place : ℕ} → ShapeOk s (S.Bad place)
-  good : {m : Message} {bad long : ℕ} → ShapeIs s m bad long → ShapeOk s (S.Good m bad long)
+  good : {m : Message} {end bad long : ℕ} → ShapeIs s m end bad long → ShapeOk s (S.Good m end bad long)
 
 -- what the tests leave
 pub past-case : {s : List ℕ} {t : Bool} (place : ℕ) {x : Shape} → (t ≡ false → ShapeOk s x) → ShapeOk s (pick t (S.Bad place) x)
@@ -52,7 +56,7 @@ held-case {s} {t} place f = pick-case (ShapeOk s) t f (λ _. ShapeOk.bad)
 
 -- a shape that is read, and the tests that lead there
 pub data Reads : Shape → Type 0 where
-  reads : {m : Message} {bad long : ℕ} → Reads (S.Good m bad long)
+  reads : {m : Message} {end bad long : ℕ} → Reads (S.Good m end bad long)
 
 pub taken : {t : Bool} {x : Shape} (y : Shape) → t ≡ true → Reads x → Reads (pick t x y)
 unfolding pick
@@ -72,10 +76,37 @@ whole {s} {e} {x} b w a =
     let full : encode x ≡ s = ap encode same ∙ all in
     (omega (arith, a .end, ap length full), subst (λ (y : Item). depth y ≤ mostLevels) (sym same) (i .shallow), full)
 
+-- s is the encoding of a message that m describes
+pub record WholeIs (s : List ℕ) (m : Message) (bad long : ℕ) : Type 0 where
+  pub item : Item
+  pub msg : Msg Value
+  pub bytes : encode item ≡ s
+  pub good : Good item
+  pub shallow : depth item ≤ mostLevels
+  pub is : MessageItem item msg
+  pub describes : Describes s m msg
+  pub texts : bad ≡ 0 ↔ TextsGood msg
+  pub names : long ≡ 0 ↔ NamesGood msg
+
+-- so it is where the walk took the whole
+pub fills : {s : List ℕ} {m : Message} {end bad long : ℕ} → Bytes s → firstItem 0 s ≡ ItemRead.Ends (length s) → ShapeIs s m end bad long → WholeIs s m bad long
+fills b w h =
+    let (full, _, bytes) = whole b w (h .stands) in
+    record {
+      item = h .item;
+      msg = h .msg;
+      bytes = bytes;
+      good = h .stands .good;
+      shallow = h .shallow;
+      is = h .is;
+      describes = h .describes full;
+      texts = h .texts;
+      names = h .names;
+    }
+
 -- s begins with the head of an array of n items, the first of them a kind; the next stands at `at`
 pub record Kinded (s : List ℕ) (kind n at : ℕ) : Type 0 where
   pub bytes : Bytes s
-  pub walked : firstItem 0 s ≡ ItemRead.Ends (length s)
   pub from : ℕ
   pub array-width : ℕ
   pub width : ℕ
@@ -89,21 +120,18 @@ kind-is {n = n} k = record { many = n; from = k .from; width = k .width; opened 
 
 -- items that stand after the kind are the rest of the message
 pub built : {s : List ℕ} {kind n at : ℕ} {m : Message} {bad long : ℕ} → Kinded s kind n at → (e : ℕ) (xs : Items) (msg : Msg Value)
-    → n ≡ suc (count xs) → StandAll s at e xs → ((w v : ℕ) → MessageItem (Item.array w (Items.more (uint v kind) xs)) msg)
-    → (e ≡ length s → Describes s m msg) → bad ≡ 0 ↔ TextsGood msg → long ≡ 0 ↔ NamesGood msg → ShapeOk s (S.Good m bad long)
-unfolding count
-built {s} {kind} {n} {at} k e xs msg counted stand is describes texts names =
-    let all = k .close e (Items.more (uint (k .width) kind) xs) counted (join (k .lead) stand) in
-    let (end, shallow, full) = whole (k .bytes) (k .walked) all in
+    → n ≡ suc (count xs) → StandAll s at e xs → depths xs ≤ partLevels → ((w v : ℕ) → MessageItem (Item.array w (Items.more (uint v kind) xs)) msg)
+    → (e ≡ length s → Describes s m msg) → bad ≡ 0 ↔ TextsGood msg → long ≡ 0 ↔ NamesGood msg → ShapeOk s (S.Good m e bad long)
+unfolding count depth
+built {s} {kind} {n} {at} k e xs msg counted stand shallow is describes texts names =
     ShapeOk.good
     (record {
       item = Item.array (k .array-width) (Items.more (uint (k .width) kind) xs);
       msg = msg;
-      bytes = full;
-      good = all .good;
-      shallow = shallow;
+      stands = k .close e (Items.more (uint (k .width) kind) xs) counted (join (k .lead) stand);
+      shallow = omega arith;
       is = is (k .array-width) (k .width);
-      describes = describes end;
+      describes = describes;
       texts = texts;
       names = names;
     })

@@ -1,4 +1,4 @@
--- What an answer of `message::read` describes, by the message's bytes s.
+-- What an answer of `reader::read` describes, by the message's bytes s.
 use Prim.Native.Nat.{ℕ, suc, _+_, _-_}
 use mathlib.Core.List.{List, _∷_}
 use mathlib.Core.Path.{_≡_}
@@ -14,7 +14,7 @@ use Rattle.grammar.specs.Stands.{Stands, StandAll, ArrayHead, ValueIs, Objectiv
 use Rattle.message.specs.declared.Series.{Series}
 use Rattle.message.specs.declared.Targets.{Targets}
 use Rattle.message.specs.declared.Extra.{Extra}
-use Rattle.message.specs.declared.Outcome.{Outcome}
+use Rattle.options.specs.declared.Outcome.{Outcome}
 use Rattle.message.specs.declared.Message.{Message}
 use Rattle.message.specs.declared.Message.the-variants as M
 
@@ -64,7 +64,8 @@ pub data OutcomeIs (s : List ℕ) : Outcome → Ending → Type 0 where
   decline : OutcomeIs s Outcome.Decline Ending.decline
   reason : {span : Span} {content : List ℕ} → Before (length s) content span → OutcomeIs s (Outcome.Reason span) (Ending.reason content)
 
--- the numbers are the message's, and each part stands right after the one before it, from the message's start on
+-- the numbers are the message's; where an answer has places, each part stands right after the one before it, from the message's start on, and a reason
+-- stands at the message's end
 pub data Describes (s : List ℕ) : Message → Msg Value → Type 0 where
   noop : Describes s M.Noop Msg.noop
   discovery : {session p q r : ℕ} {i : Span} {from : List ℕ} {o : Objective} {obj : Obj Value}

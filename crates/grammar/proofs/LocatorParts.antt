@@ -18,7 +18,7 @@ use Rattle.cbor.specs.declared.token.Token.{Token}
 use Rattle.cbor.specs.Tree.{Item}
 use Rattle.cbor.specs.Token.{tokenAt}
 use Rattle.cbor.proofs.Tokens.{token-is}
-use Rattle.options.specs.Text.{contentIn, badText}
+use Rattle.options.specs.Text.{badText}
 use Rattle.options.specs.Locator.{isNull, addressFits, protocolOf, portOf, locatorOf, textOf}
 use Rattle.syntax.specs.Message.{Loc, orNull}
 use Rattle.grammar.specs.Cddl.{uint, null, array, Protocol, Port, OrNull, LocatorItem}
@@ -72,9 +72,9 @@ unfolding orNull pick
 uri-port {n = n} (OfKind.given (Port.port h)) = rw (ne-eqb n 65536 (omega arith)) (OrNull.is (Port.port h))
 uri-port (OfKind.missing e) = OrNull.is-null
 
-one-text : (s : List ℕ) (w : Token) (place : ℕ) {a : List ℕ} → contentIn s w ≡ a → (place ≡ 0 → ⊥) → badText s w place ≡ 0 ↔ Every Utf8 (a ∷ [])
-one-text s w place same far =
-    let (there, back) = bad-text s w place far in
+one-text : (text : List ℕ) (place : ℕ) {a : List ℕ} → text ≡ a → (place ≡ 0 → ⊥) → badText text place ≡ 0 ↔ Every Utf8 (a ∷ [])
+one-text text place same far =
+    let (there, back) = bad-text text place far in
     (λ z. (rw (← same) (there z), tt), λ h. back (rw same (h .0)))
 
 -- the answer with such an address, whose bytes stand at `at` of the message
@@ -88,13 +88,13 @@ shape-item m at len size content Address.domain i j = rw content (LocatorItem.do
 shape-item m at len size content Address.uri i j = rw content (LocatorItem.uri (uri-protocol i) (uri-port j))
 
 -- its bad text, which an address of bytes never is
-pub shape-texts : (m : List ℕ) (at len pn qn : ℕ) (s : List ℕ) (w : Token) (place : ℕ) {kind : ℕ} {t : Bool} → contentIn s w ≡ take len (drop at m) → (place ≡ 0 → ⊥)
-    → Address kind t (contentIn s w) → textOf s kind w place ≡ 0 ↔ Every Utf8 (locTexts (locOf m (locatorOf kind at len pn qn)))
+pub shape-texts : (m : List ℕ) (at len pn qn : ℕ) (text : List ℕ) (place : ℕ) {kind : ℕ} {t : Bool} → text ≡ take len (drop at m) → (place ≡ 0 → ⊥)
+    → Address kind t text → textOf kind text place ≡ 0 ↔ Every Utf8 (locTexts (locOf m (locatorOf kind at len pn qn)))
 unfolding locTexts locOf locatorOf textOf pick
-shape-texts m at len pn qn s w place same far (Address.v6 long) = (λ _. tt, λ _. refl)
-shape-texts m at len pn qn s w place same far (Address.v4 long) = (λ _. tt, λ _. refl)
-shape-texts m at len pn qn s w place same far Address.domain = one-text s w place same far
-shape-texts m at len pn qn s w place same far Address.uri = one-text s w place same far
+shape-texts m at len pn qn text place same far (Address.v6 long) = (λ _. tt, λ _. refl)
+shape-texts m at len pn qn text place same far (Address.v4 long) = (λ _. tt, λ _. refl)
+shape-texts m at len pn qn text place same far Address.domain = one-text text place same far
+shape-texts m at len pn qn text place same far Address.uri = one-text text place same far
 
 -- ---- what was read stands there
 -- a protocol or port stands from p to e

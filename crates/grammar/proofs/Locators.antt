@@ -90,7 +90,7 @@ sound m base low by =
     bytes = bytes-drop base m by
 
     got : a .major ≡ 4 → a .arg ≡ 4 → kind ≤ 106 → AddressIs kind b → (protocolOf kind p ≡ 255 → ⊥) → portOf kind q ≤ 65536
-        → P (LocatorRead.Got (locatorOf kind (base + b .body) (b .next - b .body) (protocolOf kind p) (portOf kind q)) (q .next) (textOf s kind b (base + b .at)))
+        → P (LocatorRead.Got (locatorOf kind (base + b .body) (b .next - b .body) (protocolOf kind p) (portOf kind q)) (q .next) (textOf kind (contentIn s b) (base + b .at)))
     got array four hi fits some-protocol some-port =
         let ha = token-heading s 0 a bytes zero-le refl (omega arith) in
         let lead = number-here 106 k bytes (token-end s 0) refl hi in
@@ -108,7 +108,7 @@ sound m base low by =
           stands = lift-first low (array-at ha array four (join (lead .stands) (join (string .stands) (join (protocol .stands) (last (port .stands))))));
           is = shape-item m (base + b .body) (b .next - b .body) size content address (protocol .is) (port .is);
           described = refl;
-          texts = shape-texts m (base + b .body) (b .next - b .body) (protocolOf kind p) (portOf kind q) s b (base + b .at) (sym content) far address;
+          texts = shape-texts m (base + b .body) (b .next - b .body) (protocolOf kind p) (portOf kind q) (contentIn s b) (base + b .at) (sym content) far address;
         }
 
 -- what is read stands there
@@ -121,7 +121,7 @@ locator-sound m base l size bad low by q = subst (Sound m base) q (sound m base 
 accept : (base : ℕ) (s : List ℕ) (a k b p q : Token) (kind pn qn : ℕ) → a ≡ tokenAt s 0 → k ≡ tokenAt s (a .next) → b ≡ tokenAt s (k .next)
     → p ≡ tokenAt s (b .next) → q ≡ tokenAt s (p .next) → upTo 106 k ≡ kind → protocolOf kind p ≡ pn → portOf kind q ≡ qn
     → (itemsIn a ≡ 0 → ⊥) → 103 ≤ kind → kind ≤ 106 → a .arg ≡ 4 → addressFits kind b ≡ true → (pn ≡ 255 → ⊥) → qn ≤ 65536
-    → locatorIn base s ≡ LocatorRead.Got (locatorOf kind (base + b .body) (b .next - b .body) pn qn) (q .next) (textOf s kind b (base + b .at))
+    → locatorIn base s ≡ LocatorRead.Got (locatorOf kind (base + b .body) (b .next - b .body) pn qn) (q .next) (textOf kind (contentIn s b) (base + b .at))
 unfolding locatorIn pick
 accept base s a k b p q kind pn qn ea ek eb ep eq e₁ e₂ e₃ t₁ t₂ t₃ t₄ t₅ t₆ t₇ =
     rw (← ea, ← ek, ← eb, ← ep, ← eq, e₁, e₂, e₃, ne-eqb _ _ t₁, le-ltb _ _ t₂, le-ltb _ _ t₃, eq-eqb _ _ t₄, t₅, ne-eqb _ _ t₆, le-ltb _ _ t₇)
@@ -142,7 +142,7 @@ reads {m} {base} {e} st (Shape.shape {kind = kind} {t} {a} {pn = pn} {qn} addres
     let read =
     accept base s _ _ b (tokenAt s (c₂ .mid)) (tokenAt s (c₃ .mid)) kind pn qn (sym (top .token)) (sym (number-token (c₁ .first))) (sym (string .token)) refl
     (ap (tokenAt s) (sym p-next)) (number-is 106 _ refl hi) is-protocol is-port (array-items _ 3 refl refl) lo hi refl fits some-protocol some-port in
-    (locatorOf kind (base + b .body) (b .next - b .body) pn qn, textOf s kind b (base + b .at), rw q-next at read)
+    (locatorOf kind (base + b .body) (b .next - b .body) pn qn, textOf kind (contentIn s b) (base + b .at), rw q-next at read)
 
 -- an item that is a locator is read
 pub locator-complete : {m : List ℕ} {base e : ℕ} {x : Item} {loc : Loc} → Stands m base e x → LocatorItem x loc

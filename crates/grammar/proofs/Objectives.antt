@@ -1,5 +1,5 @@
--- An objective that is read stands in the message as an item that the CDDL calls this objective (`objective-sound`), and every such item of 8 levels at most
--- is read, wherever it stands (`objective-complete`), and as this objective (`objective-read`).
+-- An objective that is read stands in the message as an item that the CDDL calls this objective (`objective-sound`), and every such item of no more levels than
+-- may open is read, wherever it stands (`objective-complete`), and as this objective (`objective-read`).
 -- Assumes nothing.
 use mathlib.Core.Path.{_≡_, refl, sym, ap₂, _∙_, subst}
 use mathlib.Core.Logic.{_↔_, inr}
@@ -17,14 +17,14 @@ use Rattle.base.specs.BigEndian.{Bytes}
 use Rattle.base.proofs.Picks.{pick-case}
 use Rattle.base.proofs.Parts.{bytes-drop}
 use Rattle.cbor.specs.declared.token.Token.{Token}
-use Rattle.cbor.specs.Item.{mostLevels}
-use Rattle.cbor.specs.Tree.{Item, Items, count, depth}
+use Rattle.cbor.specs.Item.{leftUnder}
+use Rattle.cbor.specs.Tree.{Item, Items, count, depth, depths}
 use Rattle.cbor.specs.Token.{tokenAt, sizeAt, itemsIn, upTo}
 use Rattle.cbor.proofs.Tokens.{token-is, token-end}
 use Rattle.options.specs.declared.objective.Objective.{Objective}
 use Rattle.options.specs.declared.objective.ObjectiveRead.{ObjectiveRead}
 use Rattle.options.specs.Text.{spanOf, contentIn, badText}
-use Rattle.options.specs.Objective.{longName, objectiveIn, objectiveAt}
+use Rattle.options.specs.Objective.{longName, objectiveOf, objectiveIn, objectiveAt}
 use Rattle.syntax.specs.Message.{Obj}
 use Rattle.grammar.specs.Cddl.{uint, text, ObjectiveItem, Value}
 use Rattle.grammar.specs.Limits.{Utf8, Short}
@@ -37,10 +37,11 @@ use Rattle.grammar.proofs.One.{objective-one}
 
 -- the objective o, read from p to e of the message m with a name that is a bad text at `bad` or too long at `long`: the item that stands there, and the
 -- objective that it is
-pub record ObjectiveStands (m : List ℕ) (p e : ℕ) (o : Objective) (bad long : ℕ) : Type 0 where
+pub record ObjectiveStands (levels : ℕ) (m : List ℕ) (p e : ℕ) (o : Objective) (bad long : ℕ) : Type 0 where
   pub item : Item
   pub obj : Obj Value
   pub stands : Stands m p e item
+  pub shallow : depth item ≤ suc (leftUnder levels)
   pub is : ObjectiveItem item obj
   pub described : ObjectiveIs m p e o obj
   pub texts : bad ≡ 0 ↔ Utf8 (obj .name)
@@ -49,26 +50,16 @@ pub record ObjectiveStands (m : List ℕ) (p e : ℕ) (o : Objective) (bad long 
 -- what is answered by the tokens of name, flags and count, with a value of so many bytes
 abbrev answer : ℕ → List ℕ → Token → Token → Token → ℕ → ℕ → ObjectiveRead
 answer base s n f c len size =
-    ObjectiveRead.Got
-    (record {
-      name = spanOf (base + n .body) (n .next - n .body);
-      flags = upTo 15 f;
-      count = upTo 255 c;
-      «count_at» = base + c .at;
-      value = spanOf (base + c .next) len;
-    })
-    size
-    (badText s n (base + n .at))
-    (longName n (base + n .at))
+    ObjectiveRead.Got (objectiveOf base n (upTo 15 f) c (upTo 255 c) len) size (badText (contentIn s n) (base + n .at)) (longName n (base + n .at))
 
 -- ---- sound
-abbrev Sound : List ℕ → ℕ → ObjectiveRead → Type 0
-Sound m base (ObjectiveRead.Bad place) = Unit {0}
-Sound m base (ObjectiveRead.Got o size bad long) = ObjectiveStands m base (base + size) o bad long
+abbrev Sound : ℕ → List ℕ → ℕ → ObjectiveRead → Type 0
+Sound levels m base (ObjectiveRead.Bad place) = Unit {0}
+Sound levels m base (ObjectiveRead.Got o size bad long) = ObjectiveStands levels m base (base + size) o bad long
 
-sound : (m : List ℕ) (base : ℕ) → base ≤ length m → Bytes m → Sound m base (objectiveAt m base)
-unfolding objectiveIn count
-sound m base low by =
+sound : (levels : ℕ) (m : List ℕ) (base : ℕ) → base ≤ length m → Bytes m → Sound levels m base (objectiveAt levels m base)
+unfolding objectiveIn objectiveOf count depth
+sound levels m base low by =
     pick-case P (eqb (itemsIn a) 0) (λ _. tt)
     (λ t₁. pick-case P (eqb (n .major) 3)
     (λ t₂. pick-case P (ltb (a .arg) 3) (λ _. tt)
@@ -80,11 +71,11 @@ sound m base low by =
     let byte : upTo 255 c ≤ 255 = ltb-false 255 (upTo 255 c) t₆ in
     let made = got (is-array a (eqb-false (itemsIn a) 0 t₁)) (eqb-true (n .major) 3 t₂) few byte in
     pick-case P (eqb (a .arg) 3)
-    (λ t₇. made 0 (c .next) none Items.done (omega arith) (eqb-true (a .arg) 3 t₇) refl (no-more (token-end s (f .next))) (ValueIs.absent refl) (λ w u v k. ObjectiveItem.bare few byte))
+    (λ t₇. made 0 (c .next) none Items.done (omega arith) (eqb-true (a .arg) 3 t₇) refl (omega arith) (no-more (token-end s (f .next))) (ValueIs.absent refl) (λ w u v k. ObjectiveItem.bare few byte))
     (λ t₇. pick-case P (eqb len 0) (λ _. tt)
     (λ t₈.
-    let value = sized-item s (c .next) bytes (token-end s (f .next)) (eqb-false len 0 t₈) in
-    made len (c .next + len) (some (value .item)) (Items.more (value .item) Items.done) refl (omega (arith, ltb-false (a .arg) 3 t₃, ltb-false 4 (a .arg) t₄, eqb-false (a .arg) 3 t₇)) refl (last (value .stands))
+    let value = sized-item levels s (c .next) bytes (token-end s (f .next)) (eqb-false len 0 t₈) in
+    made len (c .next + len) (some (value .item)) (Items.more (value .item) Items.done) refl (omega (arith, ltb-false (a .arg) 3 t₃, ltb-false 4 (a .arg) t₄, eqb-false (a .arg) 3 t₇)) refl (omega (arith, value .is)) (last (value .stands))
     (ValueIs.present (subst (λ (e : ℕ). Stands m (base + c .next) e (value .item)) (sym (add-assoc base (c .next) len)) (lift low (value .stands))))
     (λ w u v k. ObjectiveItem.valued few byte))))))))
     (λ _. tt))
@@ -105,22 +96,22 @@ sound m base low by =
     c = tokenAt s (f .next)
 
     len : ℕ
-    len = sizeAt s (c .next)
+    len = sizeAt levels s (c .next)
 
     P : ObjectiveRead → Type 0
-    P = Sound m base
+    P = Sound levels m base
 
     bytes : Bytes s
     bytes = bytes-drop base m by
 
     -- with a value, or with none: the item of so many items xs after the count
     got : a .major ≡ 4 → n .major ≡ 3 → upTo 15 f ≤ 15 → upTo 255 c ≤ 255 → (len size : ℕ) (v : Value) (xs : Items) → size ≡ c .next + len
-        → a .arg ≡ suc (suc (suc (count xs))) → suc (suc (suc (count xs))) ≡ itemsWith v → StandAll s (c .next) size xs → ValueIs m (spanOf (base + c .next) len) v
+        → a .arg ≡ suc (suc (suc (count xs))) → suc (suc (suc (count xs))) ≡ itemsWith v → depths xs ≤ leftUnder levels → StandAll s (c .next) size xs → ValueIs m (spanOf (base + c .next) len) v
         → ((w u i j : ℕ)
         → ObjectiveItem (Item.array w (Items.more (text u (contentIn s n)) (Items.more (uint i (upTo 15 f)) (Items.more (uint j (upTo 255 c)) xs))))
         (record { name = contentIn s n; flags = upTo 15 f; count = upTo 255 c; value = v }))
         → P (answer base s n f c len size)
-    got array is-text few byte len size v xs sum many counted rest value is =
+    got array is-text few byte len size v xs sum many counted low-enough rest value is =
         let ha = token-heading s 0 a bytes zero-le refl (omega arith) in
         let hn = token-heading s (a .next) n bytes (token-end s 0) refl (omega arith) in
         let (name, long) = text-at hn true is-text bytes in
@@ -135,6 +126,7 @@ sound m base low by =
           item = _;
           obj = _;
           stands = lift-first low (array-at ha array many (join (name .stands) (join (flags .stands) (join (number .stands) rest))));
+          shallow = omega arith;
           is = is (ha .width) (name .width) (flags .width) (number .width);
           described =
               record {
@@ -153,41 +145,41 @@ sound m base low by =
                 value = value;
                 ends = omega arith;
               };
-          texts = bad-text s n (base + n .at) far;
+          texts = bad-text (contentIn s n) (base + n .at) far;
           names = long-name n (base + n .at) (contentIn s n) far long;
         }
 
 -- what is read stands there
-pub objective-sound : (m : List ℕ) (base : ℕ) (o : Objective) (size bad long : ℕ) → base ≤ length m → Bytes m
-    → objectiveAt m base ≡ ObjectiveRead.Got o size bad long → ObjectiveStands m base (base + size) o bad long
-objective-sound m base o size bad long low by q = subst (Sound m base) q (sound m base low by)
+pub objective-sound : (levels : ℕ) (m : List ℕ) (base : ℕ) (o : Objective) (size bad long : ℕ) → base ≤ length m → Bytes m
+    → objectiveAt levels m base ≡ ObjectiveRead.Got o size bad long → ObjectiveStands levels m base (base + size) o bad long
+objective-sound levels m base o size bad long low by q = subst (Sound levels m base) q (sound levels m base low by)
 
 -- ---- complete
 -- the reader's tests but for the value, over plain tokens
-unfoldable ending : ℕ → List ℕ → ℕ → Token → Token → Token → ObjectiveRead
-ending base s items n f c =
+unfoldable ending : ℕ → ℕ → List ℕ → ℕ → Token → Token → Token → ObjectiveRead
+ending levels base s items n f c =
     pick (eqb items 3) (answer base s n f c 0 (c .next))
-    (pick (eqb (sizeAt s (c .next)) 0) (ObjectiveRead.Bad (base + c .next)) (answer base s n f c (sizeAt s (c .next)) (c .next + sizeAt s (c .next))))
+    (pick (eqb (sizeAt levels s (c .next)) 0) (ObjectiveRead.Bad (base + c .next)) (answer base s n f c (sizeAt levels s (c .next)) (c .next + sizeAt levels s (c .next))))
 
-accept : (base : ℕ) (s : List ℕ) (a n f c : Token) → a ≡ tokenAt s 0 → n ≡ tokenAt s (a .next) → f ≡ tokenAt s (n .next) → c ≡ tokenAt s (f .next)
-    → (itemsIn a ≡ 0 → ⊥) → n .major ≡ 3 → 3 ≤ a .arg → a .arg ≤ 4 → upTo 15 f ≤ 15 → upTo 255 c ≤ 255 → objectiveIn base s ≡ ending base s (a .arg) n f c
+accept : (levels base : ℕ) (s : List ℕ) (a n f c : Token) → a ≡ tokenAt s 0 → n ≡ tokenAt s (a .next) → f ≡ tokenAt s (n .next) → c ≡ tokenAt s (f .next)
+    → (itemsIn a ≡ 0 → ⊥) → n .major ≡ 3 → 3 ≤ a .arg → a .arg ≤ 4 → upTo 15 f ≤ 15 → upTo 255 c ≤ 255 → objectiveIn levels base s ≡ ending levels base s (a .arg) n f c
 unfolding objectiveIn ending pick
-accept base s a n f c ea en ef ec t₁ t₂ t₃ t₄ t₅ t₆ =
+accept levels base s a n f c ea en ef ec t₁ t₂ t₃ t₄ t₅ t₆ =
     rw (← ea, ← en, ← ef, ← ec, ne-eqb _ _ t₁, eq-eqb _ _ t₂, le-ltb _ _ t₃, le-ltb _ _ t₄, le-ltb _ _ t₅, le-ltb _ _ t₆)
 
 -- the first three items, and what is left
-record Begun (m : List ℕ) (base e : ℕ) (rest : Items) : Type 0 where
+record Begun (levels : ℕ) (m : List ℕ) (base e : ℕ) (rest : Items) : Type 0 where
   n : Token
   f : Token
   c : Token
-  read : objectiveAt m base ≡ ending base (drop base m) (suc (suc (suc (count rest)))) n f c
+  read : objectiveAt levels m base ≡ ending levels base (drop base m) (suc (suc (suc (count rest)))) n f c
   left : StandAll (drop base m) (c .next) (e - base) rest
 
-begun : {m : List ℕ} {base e w u i j flags number : ℕ} {name : List ℕ} {rest : Items}
+begun : (levels : ℕ) {m : List ℕ} {base e w u i j flags number : ℕ} {name : List ℕ} {rest : Items}
     → Stands m base e (Item.array w (Items.more (text u name) (Items.more (uint i flags) (Items.more (uint j number) rest))))
-    → flags ≤ 15 → number ≤ 255 → count rest ≤ 1 → Begun m base e rest
+    → flags ≤ 15 → number ≤ 255 → count rest ≤ 1 → Begun levels m base e rest
 unfolding count
-begun {m} {base} {e} {flags = flags} {number} {name} {rest} st few byte short =
+begun levels {m} {base} {e} {flags = flags} {number} {name} {rest} st few byte short =
     let s : List ℕ = drop base m in
     let top = array-token (sink-first st) in
     let c₁ = split (top .items) in
@@ -202,41 +194,41 @@ begun {m} {base} {e} {flags = flags} {number} {name} {rest} st few byte short =
       f = f;
       c = c;
       read =
-          accept base s _ n f c (sym (top .token)) (sym (string .token)) (sym (number-token (c₂ .first))) (sym (number-token (c₃ .first))) (array-items _ _ refl refl) refl
+          accept levels base s _ n f c (sym (top .token)) (sym (string .token)) (sym (number-token (c₂ .first))) (sym (number-token (c₃ .first))) (array-items _ _ refl refl) refl
           (omega arith) (omega arith) (rw (number-is 15 f refl few) few) (rw (number-is 255 c refl byte) byte);
       left = c₃ .rest;
     }
 
-ends-bare : (base : ℕ) (s : List ℕ) (n f c : Token) {size : ℕ} → size ≡ c .next → ending base s 3 n f c ≡ answer base s n f c 0 size
+ends-bare : (levels base : ℕ) (s : List ℕ) (n f c : Token) {size : ℕ} → size ≡ c .next → ending levels base s 3 n f c ≡ answer base s n f c 0 size
 unfolding ending pick
-ends-bare base s n f c e = rw e
+ends-bare levels base s n f c e = rw e
 
-ends-valued : (base : ℕ) (s : List ℕ) (n f c : Token) {size : ℕ} → (sizeAt s (c .next) ≡ 0 → ⊥) → size ≡ c .next + sizeAt s (c .next)
-    → ending base s 4 n f c ≡ answer base s n f c (sizeAt s (c .next)) size
+ends-valued : (levels base : ℕ) (s : List ℕ) (n f c : Token) {size : ℕ} → (sizeAt levels s (c .next) ≡ 0 → ⊥) → size ≡ c .next + sizeAt levels s (c .next)
+    → ending levels base s 4 n f c ≡ answer base s n f c (sizeAt levels s (c .next)) size
 unfolding ending pick
-ends-valued base s n f c has-value e = rw (ne-eqb _ _ has-value, e)
+ends-valued levels base s n f c has-value e = rw (ne-eqb _ _ has-value, e)
 
 -- an item that is an objective is read
-pub objective-complete : {m : List ℕ} {base e : ℕ} {x : Item} {obj : Obj Value} → Stands m base e x → depth x ≤ mostLevels → ObjectiveItem x obj
-    → (o : Objective) × (bad : ℕ) × (long : ℕ) × (objectiveAt m base ≡ ObjectiveRead.Got o (e - base) bad long)
+pub objective-complete : (levels : ℕ) {m : List ℕ} {base e : ℕ} {x : Item} {obj : Obj Value} → Stands m base e x → depth x ≤ suc (leftUnder levels) → ObjectiveItem x obj
+    → (o : Objective) × (bad : ℕ) × (long : ℕ) × (objectiveAt levels m base ≡ ObjectiveRead.Got o (e - base) bad long)
 unfolding count depth
-objective-complete {m} {base} {e} st d (ObjectiveItem.bare few byte) =
-    let b = begun st few byte (omega arith) in
-    (_, _, _, b .read ∙ ends-bare base (drop base m) (b .n) (b .f) (b .c) (none-end (b .left)))
-objective-complete {m} {base} {e} st d (ObjectiveItem.valued few byte) =
-    let b = begun st few byte (omega arith) in
+objective-complete levels {m} {base} {e} st d (ObjectiveItem.bare few byte) =
+    let b = begun levels st few byte (omega arith) in
+    (_, _, _, b .read ∙ ends-bare levels base (drop base m) (b .n) (b .f) (b .c) (none-end (b .left)))
+objective-complete levels {m} {base} {e} st d (ObjectiveItem.valued few byte) =
+    let b = begun levels st few byte (omega arith) in
     let value = only (b .left) in
-    let (size, has-value) = item-sized value (omega arith) in
-    (_, _, _, b .read ∙ ends-valued base (drop base m) (b .n) (b .f) (b .c) has-value (omega (arith, advances value)))
+    let (size, has-value) = item-sized levels value (omega arith) in
+    (_, _, _, b .read ∙ ends-valued levels base (drop base m) (b .n) (b .f) (b .c) has-value (omega (arith, advances value)))
 
 -- for readers
 -- and as the objective that it is
-pub objective-read : {m : List ℕ} {base e : ℕ} {x : Item} {obj : Obj Value} → Stands m base e x → depth x ≤ mostLevels → ObjectiveItem x obj → Bytes m
-    → (o : Objective) × (bad : ℕ) × (long : ℕ) × (objectiveAt m base ≡ ObjectiveRead.Got o (e - base) bad long) × ObjectiveIs m base e o obj × (bad ≡ 0 ↔ Utf8 (obj .name)) × (long ≡ 0 ↔ Short (obj .name))
-objective-read {m} {base} {e} {x} {obj} st d is by =
-    let (o, bad, long, read) = objective-complete st d is in
+pub objective-read : (levels : ℕ) {m : List ℕ} {base e : ℕ} {x : Item} {obj : Obj Value} → Stands m base e x → depth x ≤ suc (leftUnder levels) → ObjectiveItem x obj → Bytes m
+    → (o : Objective) × (bad : ℕ) × (long : ℕ) × (objectiveAt levels m base ≡ ObjectiveRead.Got o (e - base) bad long) × ObjectiveIs m base e o obj × (bad ≡ 0 ↔ Utf8 (obj .name)) × (long ≡ 0 ↔ Short (obj .name))
+objective-read levels {m} {base} {e} {x} {obj} st d is by =
+    let (o, bad, long, read) = objective-complete levels st d is in
     let ahead = advances st in
-    let i = objective-sound m base o (e - base) bad long (omega (arith, st .within)) by read in
+    let i = objective-sound levels m base o (e - base) bad long (omega (arith, st .within)) by read in
     let same : i .obj ≡ obj = objective-one (rw (stands-once (i .stands) st) at (i .is)) is in
     let sum : base + (e - base) ≡ e = omega arith in
     (o, bad, long, read, rw (same, sum) at (i .described), rw same at (i .texts), rw same at (i .names))

@@ -1,4 +1,4 @@
--- A pair of a Flood that is read stands in the message as an item that the CDDL calls this pair (`pair-sound`), and every such item of 8 levels at most is
+-- A pair of a Flood that is read stands in the message as an item that the CDDL calls this pair (`pair-sound`), and every such item of 7 levels at most is
 -- read, wherever it stands (`pair-complete`), and as this pair (`pair-read`).
 -- Assumes nothing.
 use mathlib.Core.Path.{_≡_, refl, sym, ap, _∙_, subst}
@@ -6,7 +6,7 @@ use mathlib.Core.Logic.{_↔_}
 use mathlib.Core.List.{List, [], _∷_}
 use mathlib.Core.Bool.{Bool, true, false}
 use mathlib.Core.Option.{Option, none, some}
-use Prim.Native.Nat.{ℕ, _+_, _-_, _≤_, zero-le}
+use Prim.Native.Nat.{ℕ, suc, _+_, _-_, _≤_, zero-le}
 use native.Mathlib.Omega.{arith}
 use lib.ListN.{length, drop, length-drop}
 use lib.Seq.{drop-drop}
@@ -18,7 +18,7 @@ use Rattle.base.specs.Lists.{Every}
 use Rattle.base.proofs.Picks.{pick-case}
 use Rattle.base.proofs.Parts.{bytes-drop}
 use Rattle.cbor.specs.declared.token.Token.{Token}
-use Rattle.cbor.specs.Item.{mostLevels}
+use Rattle.cbor.specs.Item.{leftUnder}
 use Rattle.cbor.specs.Tree.{Item, count, depth}
 use Rattle.cbor.specs.Token.{tokenAt, itemsIn}
 use Rattle.options.specs.declared.locator.Locator.{Locator}
@@ -39,9 +39,14 @@ use Rattle.grammar.proofs.Bridge.{split, join, none as no-more, none-en
 use Rattle.grammar.proofs.Pieces.{both-hold, is-array, array-items, array-at, array-head, lift-head}
 use Rattle.grammar.proofs.Texts.{first-zero}
 use Rattle.grammar.proofs.One.{pair-one}
+use Rattle.grammar.proofs.Depths.{locator-depth}
 use Rattle.grammar.proofs.LocatorParts.{Shape, shape-of}
 use Rattle.grammar.proofs.Locators.{locator-sound, locator-complete}
 use Rattle.grammar.proofs.Objectives.{ObjectiveStands, objective-sound, objective-complete}
+
+-- how many levels a pair may have, in a message
+abbrev pub pairLevels : ℕ
+pairLevels = leftUnder 1
 
 -- the pair of o and t, read from p to e of the message m with a bad text at `bad` or a name too long at `long`: the item that stands there, and the pair
 -- that it is
@@ -49,6 +54,7 @@ pub record PairStands (m : List ℕ) (p e : ℕ) (o : Objective) (t : Tag) (bad 
   pub item : Item
   pub pair : Pair Value
   pub stands : Stands m p e item
+  pub shallow : depth item ≤ pairLevels
   pub is : PairItem item pair
   -- where the objective begins, after the array's head, and where it ends
   pub at : ℕ
@@ -78,19 +84,20 @@ module _ (m : List ℕ) (base : ℕ) (low : base ≤ length m) (by : Bytes m) (a
   P = Sound m base
 
   -- the objective is read: now its tag
-  module _ (two : a .arg ≡ 2) (n : ℕ) (o : Objective) (bad long : ℕ) (i : ObjectiveStands m (base + a .next) (base + a .next + n) o bad long) where
+  module _ (two : a .arg ≡ 2) (n : ℕ) (o : Objective) (bad long : ℕ) (i : ObjectiveStands 3 m (base + a .next) (base + a .next + n) o bad long) where
     abbrev at : ℕ
     at = a .next + n
 
-    made : (size : ℕ) (y : Item) (t : Tag) (l : Option Loc) (bad′ : ℕ) → Stands s at size y → ((w : ℕ) → PairItem (array w (i .item ∷ y ∷ [])) (i .obj, l)) → tagOf m t ≡ l
+    made : (size : ℕ) (y : Item) (t : Tag) (l : Option Loc) (bad′ : ℕ) → Stands s at size y → depth y ≤ 1 → ((w : ℕ) → PairItem (array w (i .item ∷ y ∷ [])) (i .obj, l)) → tagOf m t ≡ l
         → bad′ ≡ 0 ↔ (bad ≡ 0) × Every Utf8 (tagTexts l) → P (PairRead.Got o t size bad′ long)
-    unfolding count pairTexts
-    made size y t l bad′ second is tag texts =
+    unfolding count depth pairTexts
+    made size y t l bad′ second flat is tag texts =
         let (there, back) = i .texts in
         record {
           item = _;
           pair = (i .obj, l);
           stands = lift-first low (array-at ha major two (join (sink-sized m base (a .next) n (i .stands)) (last second)));
+          shallow = omega (arith, i .shallow);
           is = is (ha .width);
           at = base + a .next;
           mid = base + a .next + n;
@@ -107,28 +114,28 @@ module _ (m : List ℕ) (base : ℕ) (low : base ≤ length m) (by : Bytes m) (a
     tagged (LocatorRead.Got l size bad′) q =
         let j = locator-sound m (base + at) l size bad′ (omega (arith, i .stands .within)) by q in
         let (there, back) = first-zero bad bad′ in
-        made (at + size) (j .item) (Tag.At l) (some (j .loc)) (firstOf bad bad′) (sink-sized m base at size (j .stands)) (λ w. PairItem.tagged (i .is) (j .is))
+        made (at + size) (j .item) (Tag.At l) (some (j .loc)) (firstOf bad bad′) (sink-sized m base at size (j .stands)) (locator-depth (j .is)) (λ w. PairItem.tagged (i .is) (j .is))
         (ap some (j .described))
         (λ z. let (x, y) = there z in (x, j .texts .0 y), λ h. back (h .0, j .texts .1 (h .1)))
 
     tailed : P (pairTail base s at o bad long)
-    unfolding pairTail tagOf tagTexts count
+    unfolding pairTail tagOf tagTexts count depth
     tailed =
         pick-case P (isEmpty w)
         (λ e. let (four, zero) = empty-is w e in
         let h = token-heading s at w (bytes-drop base m by) (sink-sized m base (a .next) n (i .stands) .within) refl (omega arith) in
-        made (w .next) _ Tag.Empty none bad (array-at h four zero (no-more (h .within))) (λ k. PairItem.untagged (i .is)) refl (λ z. (z, tt), λ z. z .0))
+        made (w .next) _ Tag.Empty none bad (array-at h four zero (no-more (h .within))) (omega arith) (λ k. PairItem.untagged (i .is)) refl (λ z. (z, tt), λ z. z .0))
         (λ _. tagged (locatorIn (base + at) (drop at s)) (ap (locatorIn (base + at)) (sym (drop-drop at base m))))
       where
         w : Token
         w = tokenAt s at
 
-  led : (r : ObjectiveRead) → objectiveAt m (base + a .next) ≡ r → P (pairLed base s (a .arg) (a .next) r)
+  led : (r : ObjectiveRead) → objectiveAt 3 m (base + a .next) ≡ r → P (pairLed base s (a .arg) (a .next) r)
   unfolding pairLed
   led (ObjectiveRead.Bad place) q = tt
   led (ObjectiveRead.Got o n bad long) q =
       pick-case P (eqb (a .arg) 2)
-      (λ e. tailed (eqb-true (a .arg) 2 e) n o bad long (objective-sound m (base + a .next) o n bad long (omega (arith, ha .within, length-drop base m)) by q))
+      (λ e. tailed (eqb-true (a .arg) 2 e) n o bad long (objective-sound 3 m (base + a .next) o n bad long (omega (arith, ha .within, length-drop base m)) by q))
       (λ _. tt)
 
 sound : (m : List ℕ) (base : ℕ) → base ≤ length m → Bytes m → Sound m base (pairAt m base)
@@ -136,8 +143,8 @@ unfolding pairIn
 sound m base low by =
     pick-case (Sound m base) (eqb (itemsIn a) 0) (λ _. tt)
     (λ e. let major : a .major ≡ 4 = is-array a (eqb-false (itemsIn a) 0 e) in
-    led m base low by a (token-heading s₀ 0 a (bytes-drop base m by) zero-le refl (omega arith)) major (objectiveIn (base + a .next) (drop (a .next) s₀))
-    (ap (objectiveIn (base + a .next)) (sym (drop-drop (a .next) base m))))
+    led m base low by a (token-heading s₀ 0 a (bytes-drop base m by) zero-le refl (omega arith)) major (objectiveIn 3 (base + a .next) (drop (a .next) s₀))
+    (ap (objectiveIn 3 (base + a .next)) (sym (drop-drop (a .next) base m))))
   where
     s₀ : List ℕ
     s₀ = drop base m
@@ -153,7 +160,7 @@ pair-sound m base o t size bad long low by q = subst (Sound m base) q (sound m b
 -- ---- complete
 -- the reader's tests, over plain tokens
 accept : (base : ℕ) (s : List ℕ) (a : Token) (r : PairRead) (o : Objective) (size bad long : ℕ) → a ≡ tokenAt s 0 → (itemsIn a ≡ 0 → ⊥) → a .arg ≡ 2
-    → objectiveIn (base + a .next) (drop (a .next) s) ≡ ObjectiveRead.Got o size bad long → pairTail base s (a .next + size) o bad long ≡ r → pairIn base s ≡ r
+    → objectiveIn 3 (base + a .next) (drop (a .next) s) ≡ ObjectiveRead.Got o size bad long → pairTail base s (a .next + size) o bad long ≡ r → pairIn base s ≡ r
 unfolding pairIn pairLed pick
 accept base s a r o size bad long ea t₁ t₂ got tail = rw (← ea, ne-eqb _ _ t₁, got, eq-eqb _ _ t₂) tail
 
@@ -186,14 +193,14 @@ record Begun (m : List ℕ) (base e : ℕ) (y : Item) : Type 0 where
   read : (r : PairRead) → pairTail base (drop base m) mid objective bad long ≡ r → pairAt m base ≡ r
   second : Stands (drop base m) mid (e - base) y
 
-begun : {m : List ℕ} {base e w : ℕ} {x y : Item} {obj : Obj Value} → Stands m base e (array w (x ∷ y ∷ [])) → depth x ≤ mostLevels → ObjectiveItem x obj → Begun m base e y
+begun : {m : List ℕ} {base e w : ℕ} {x y : Item} {obj : Obj Value} → Stands m base e (array w (x ∷ y ∷ [])) → depth x ≤ suc (leftUnder 3) → ObjectiveItem x obj → Begun m base e y
 unfolding count
 begun {m} {base} {e} st d is =
     let s : List ℕ = drop base m in
     let low : base ≤ length m = omega (arith, st .within, advances st) in
     let top = array-token (sink-first st) in
     let c = split (top .items) in
-    let (o, bad, long, got) = objective-complete (lift low (c .first)) d is in
+    let (o, bad, long, got) = objective-complete 3 (lift low (c .first)) d is in
     let size : ℕ = base + c .mid - (base + top .body) in
     let sum : top .body + size ≡ c .mid = omega (arith, advances (c .first)) in
     record {
@@ -202,7 +209,7 @@ begun {m} {base} {e} st d is =
       bad = bad;
       long = long;
       read =
-          λ r tail. accept base s _ r o size bad long (sym (top .token)) (array-items _ 1 refl refl) refl (ap (objectiveIn (base + top .body)) (drop-drop (top .body) base m) ∙ got)
+          λ r tail. accept base s _ r o size bad long (sym (top .token)) (array-items _ 1 refl refl) refl (ap (objectiveIn 3 (base + top .body)) (drop-drop (top .body) base m) ∙ got)
           (ap (λ (k : ℕ). pairTail base s k o bad long) sum ∙ tail);
       second = only (c .rest);
     }
@@ -226,7 +233,7 @@ tagged-read {m} {base} {e} low b is =
     (b .objective, Tag.At l, firstOf (b .bad) bad′, b .long, b .read _ tail)
 
 -- an item that is a pair is read
-pub pair-complete : {m : List ℕ} {base e : ℕ} {x : Item} {pair : Pair Value} → Stands m base e x → depth x ≤ mostLevels → PairItem x pair
+pub pair-complete : {m : List ℕ} {base e : ℕ} {x : Item} {pair : Pair Value} → Stands m base e x → depth x ≤ pairLevels → PairItem x pair
     → (o : Objective) × (t : Tag) × (bad : ℕ) × (long : ℕ) × (pairAt m base ≡ PairRead.Got o t (e - base) bad long)
 unfolding depth
 pair-complete st d (PairItem.untagged is) = untagged-read (begun st (omega arith) is)
@@ -234,7 +241,7 @@ pair-complete st d (PairItem.tagged is loc) = tagged-read (omega (arith, st .wit
 
 -- for readers
 -- and as the pair that it is
-pub pair-read : {m : List ℕ} {base e : ℕ} {x : Item} {pair : Pair Value} → Stands m base e x → depth x ≤ mostLevels → PairItem x pair → Bytes m
+pub pair-read : {m : List ℕ} {base e : ℕ} {x : Item} {pair : Pair Value} → Stands m base e x → depth x ≤ pairLevels → PairItem x pair → Bytes m
     → (o : Objective) × (t : Tag) × (bad : ℕ) × (long : ℕ) × (pairAt m base ≡ PairRead.Got o t (e - base) bad long)
     × (at : ℕ) × (mid : ℕ) × ArrayHead m base at 2 × ObjectiveIs m at mid o (pair .0) × (tagOf m t ≡ pair .1)
     × (bad ≡ 0 ↔ Every Utf8 (pairTexts pair)) × (long ≡ 0 ↔ Short (pair .0 .name))

@@ -9,7 +9,7 @@ use lib.Seq.{drop-drop, length-take-le}
 use Rattle.base.specs.BigEndian.{Bytes}
 use Rattle.base.proofs.Parts.{bytes-drop}
 use Rattle.cbor.specs.declared.item.ItemRead.{ItemRead}
-use Rattle.cbor.specs.Item.{firstItem, mostLevels}
+use Rattle.cbor.specs.Item.{firstItem, leftUnder}
 use Rattle.cbor.specs.Token.{sizeFrom, sizeAt}
 use Rattle.cbor.specs.Tree.{Item, depth, encode}
 use Rattle.cbor.proofs.Exact.{item-exact}
@@ -24,11 +24,11 @@ size-ends (ItemRead.Refused number place) some = absurd (some refl)
 size-ends (ItemRead.Ends end) some = refl
 
 -- where a size is read, an item stands
-pub sized-item : (s : List ℕ) (p : ℕ) → Bytes s → p ≤ length s → (sizeAt s p ≡ 0 → ⊥) → Is s p (p + sizeAt s p) (λ x. depth x ≤ mostLevels)
+pub sized-item : (levels : ℕ) (s : List ℕ) (p : ℕ) → Bytes s → p ≤ length s → (sizeAt levels s p ≡ 0 → ⊥) → Is s p (p + sizeAt levels s p) (λ x. depth x ≤ leftUnder levels)
 unfolding sizeAt
-sized-item s p b low some =
-    let n : ℕ = sizeFrom (firstItem 0 (drop p s)) in
-    let i = item-exact 0 (drop p s) n (bytes-drop p s b) (size-ends (firstItem 0 (drop p s)) some) in
+sized-item levels s p b low some =
+    let n : ℕ = sizeFrom (firstItem levels (drop p s)) in
+    let i = item-exact levels (drop p s) n (bytes-drop p s b) (size-ends (firstItem levels (drop p s)) some) in
     let long : length (encode (i .item)) ≡ n = ap length (sym (i .bytes)) ∙ length-take-le n (drop p s) (i .within) in
     record {
       item = i .item;
@@ -43,9 +43,9 @@ sized-item s p b low some =
     }
 
 -- where an item stands, its size is read
-pub item-sized : {s : List ℕ} {p e : ℕ} {x : Item} → Stands s p e x → depth x ≤ mostLevels → (sizeAt s p ≡ e - p) × (sizeAt s p ≡ 0 → ⊥)
+pub item-sized : (levels : ℕ) {s : List ℕ} {p e : ℕ} {x : Item} → Stands s p e x → depth x ≤ leftUnder levels → (sizeAt levels s p ≡ e - p) × (sizeAt levels s p ≡ 0 → ⊥)
 unfolding sizeAt sizeFrom
-item-sized {s} {p} {e} {x} a d =
-    let size : sizeFrom (firstItem 0 (drop p s)) ≡ length (encode x) =
-    ap (λ (r : List ℕ). sizeFrom (firstItem 0 r)) (a .is) ∙ ap sizeFrom (item-accepts 0 x (drop e s) (a .good) d) in
+item-sized levels {s} {p} {e} {x} a d =
+    let size : sizeFrom (firstItem levels (drop p s)) ≡ length (encode x) =
+    ap (λ (r : List ℕ). sizeFrom (firstItem levels r)) (a .is) ∙ ap sizeFrom (item-accepts levels x (drop e s) (a .good) d) in
     (omega (arith, a .end, size), λ z. omega (arith, size, a .end, advances a))

@@ -13,14 +13,14 @@ use Rattle.base.specs.Pick.{pick}
 use Rattle.base.proofs.Picks.{pick-case}
 use Rattle.cbor.specs.declared.token.Token.{Token}
 use Rattle.utf8.specs.Utf8.{isUtf8}
-use Rattle.options.specs.Text.{contentIn, badText, firstOf}
+use Rattle.options.specs.Text.{badText, firstOf}
 use Rattle.options.specs.Objective.{mostName, longName}
 use Rattle.grammar.specs.Limits.{Utf8, Short}
 
 -- a text's place isn't given exactly where the text is UTF-8
-pub bad-text : (s : List ℕ) (w : Token) (place : ℕ) → (place ≡ 0 → ⊥) → badText s w place ≡ 0 ↔ Utf8 (contentIn s w)
+pub bad-text : (text : List ℕ) (place : ℕ) → (place ≡ 0 → ⊥) → badText text place ≡ 0 ↔ Utf8 text
 unfolding badText
-bad-text s w place some = by (isUtf8 (contentIn s w))
+bad-text text place some = by (isUtf8 text)
   where
     by : (t : Bool) → pick t 0 place ≡ 0 ↔ t ≡ true
     by t = pick-case (λ n. n ≡ 0 ↔ t ≡ true) t (λ e. (λ _. e, λ _. refl)) (λ e. (λ z. absurd (some z), λ f. absurd (let z : _≡_ {A = Bool} false true = sym e ∙ f in let y : _≡_ {A = ℕ} 0 1 = cc in omega arith)))

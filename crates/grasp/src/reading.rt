@@ -12,7 +12,7 @@ pub extern "C" fn grasp_read(bytes: &[u8], fields: &mut [u64; 19]) -> u8
     ensures { λ r. ⌜ r ≡ readNumber (now (bytes .entry)) ⌝ }
     ensures { λ r. ⌜ now (fields .exit) ≡ readBlock (now (bytes .entry)) (now (fields .entry)) ⌝ }
 {
-    let reading = message::read(bytes);
+    let reading = reader::read(bytes);
     match reading {
         Reading::Refused(number) => number,
         Reading::Read(m) => {

@@ -331,7 +331,14 @@ every-pair : {A : Type 0} (R S : A → A → Type 0) → ((x y : A) → R x y �
 every-pair R S f [] h = tt
 every-pair R S f (x ∷ xs) h = (every-imp (R x) (S x) (f x) xs (h .0), every-pair R S f xs (h .1))
 
--- from any table, and a record that has tallied nothing
+-- a fresh record has tallied nothing
+fresh-tally : (address : List ℕ) (port ttl interfaces mask : ℕ) → fresh address port ttl interfaces mask .node .tally ≡ 0
+unfolding fresh
+fresh-tally address port ttl interfaces mask = pick-case (λ (k : Kept). k .node .tally ≡ 0) _ (λ e. refl) (λ e. refl)
+
+-- for readers
+
+-- Demand 3 for one list, from any table and a record that has tallied nothing.
 pub whole : (r : Record) (t : List ℕ) (events : List Event) → r .tally ≡ 0 → Every Fits events → WholeList r t events
 whole r t events none fits =
     let p = pairs events fits r t in
@@ -342,11 +349,6 @@ whole r t events none fits =
       few = λ chosen sub near. few-of (r .interfaces) chosen (every-chosen (Sound (r .interfaces)) sub h) (pairs-chosen Behind sub p) near;
       tally = total events fits r t ∙ ap (λ (z : ℕ). z + copiesOf (relaysOf (steps r t events))) none ∙ omega arith;
     }
-
--- a fresh record has tallied nothing
-fresh-tally : (address : List ℕ) (port ttl interfaces mask : ℕ) → fresh address port ttl interfaces mask .node .tally ≡ 0
-unfolding fresh
-fresh-tally address port ttl interfaces mask = pick-case (λ (k : Kept). k .node .tally ≡ 0) _ (λ e. refl) (λ e. refl)
 
 -- Demand 3, entire.
 pub demand3 : Demand3

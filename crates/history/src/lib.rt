@@ -1,1 +1,1 @@
-// Reading held against RFC 8990: the laws of `message::read`; it has no code of its own.
+// Demand 3 about whole histories: the laws of lists of node calls, link settings and negotiation steps; it has no code of its own.

@@ -104,7 +104,7 @@ pub record Paired (s : List ℕ) (n from bad₀ long₀ left at bad long : ℕ) 
   pub same : pairsFrom s left at bad long ≡ pairsFrom s n from bad₀ long₀
 
 module _ (s : List ℕ) (n from bad₀ long₀ : ℕ) where
-  pub paired-end : (left at bad long : ℕ) → left ≡ 0 → Paired s n from bad₀ long₀ left at bad long → PairsRead.Ran bad long ≡ pairsFrom s n from bad₀ long₀
+  pub paired-end : (left at bad long : ℕ) → left ≡ 0 → Paired s n from bad₀ long₀ left at bad long → PairsRead.Ran at bad long ≡ pairsFrom s n from bad₀ long₀
   unfolding pairsFrom
   paired-end left at bad long e i = rw e at (i .same)
 

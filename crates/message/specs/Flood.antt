@@ -18,7 +18,7 @@ use Rattle.message.specs.Sequence.{pairsFrom}
 
 unfoldable pub floodedBy : Opening → Objective → Series → PairsRead → Shape
 floodedBy o first pairs (PairsRead.Bad place) = Bad place
-floodedBy o first pairs (PairsRead.Ran bad long) = Good (M.Flood (o .session) (o .initiator) (o .ttl) first pairs) bad long
+floodedBy o first pairs (PairsRead.Ran end bad long) = Good (M.Flood (o .session) (o .initiator) (o .ttl) first pairs) end bad long
 
 unfoldable pub floodedOf : List ℕ → Opening → ℕ → ℕ → PairRead → Shape
 floodedOf s opening n at (PairRead.Bad place) = Bad place

@@ -17,6 +17,10 @@ use Rattle.message.specs.declared.opening.OpeningRead.the-variants.{Bad,
 abbrev pub most : ℕ
 most = 4294967295
 
+-- how many levels are open around the value of an objective that stands in the message: the message's and the objective's own
+abbrev pub objectiveLevels : ℕ
+objectiveLevels = 2
+
 -- where a string's bytes stand
 abbrev pub contentOf : Token → Span
 contentOf t = spanOf (t .body) (t .next - t .body)

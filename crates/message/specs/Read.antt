@@ -1,4 +1,4 @@
--- What `read` answers: the message that s is, or the refusal, in the order of the rules: 1, the walk's 2 to 6, 7, 8, 9, 11, 10.
+-- What `reader::read` answers: the message that s is, or the refusal, in the order of the rules: 1, the walk's 2 to 6, 7, 8, 9, 11, 10.
 use Prim.Native.Nat.{ℕ}
 use mathlib.Core.List.{List}
 use lib.ListN.{length}
@@ -23,7 +23,7 @@ mostBytes = 2048
 -- the shape of a known kind
 unfoldable pub byKind : List ℕ → ℕ → ℕ → ℕ → Shape
 byKind s kind n at =
-    pick (eqb kind 0) (noopAt n)
+    pick (eqb kind 0) (noopAt n at)
     (pick (eqb kind 1) (discoveryAt s n at)
     (pick (eqb kind 2) (responseAt s n at)
     (pick (eqb kind 6) (endAt s n at)
@@ -35,9 +35,9 @@ byKind s kind n at =
 -- 9, then 11, then 10
 unfoldable pub judged : Shape → Examined
 judged (Shape.Bad place) = Refused 9 place
-judged (Shape.Good m bad long) = unless (eqb bad 0) (Refused 11 bad) (unless (eqb long 0) (Refused 10 long) (Accepted m))
+judged (Shape.Good m end bad long) = unless (eqb bad 0) (Refused 11 bad) (unless (eqb long 0) (Refused 10 long) (Accepted m end))
 
--- one whole item: 9 for what is no array or has no number first, 8 for an unknown kind, then by the kind
+-- by the message's parts alone: 9 for what is no array or has no number first, 8 for an unknown kind, then by the kind
 unfoldable pub shaped : List ℕ → Examined
 shaped s =
     let a = tokenAt s 0 in
@@ -55,10 +55,10 @@ framed s (ItemRead.Ends end) = unless (eqb end (length s)) (Refused 7 end) (shap
 unfoldable pub examined : List ℕ → Examined
 examined s = pick (eqb (length s) 0) (Refused 1 0) (pick (ltb mostBytes (length s)) (Refused 1 0) (framed s (firstItem 0 s)))
 
--- without the place
+-- without places
 unfoldable pub placeless : Examined → Reading
 placeless (Refused number place) = Reading.Refused number
-placeless (Accepted m) = Reading.Read m
+placeless (Accepted m end) = Reading.Read m
 
 unfoldable pub readOf : List ℕ → Reading
 readOf s = placeless (examined s)

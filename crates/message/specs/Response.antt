@@ -16,7 +16,7 @@ use Rattle.message.specs.declared.opening.OpeningRead.{OpeningRead}
 use Rattle.message.specs.declared.sequence.LocatorsRead.{LocatorsRead}
 use Rattle.message.specs.declared.shape.Shape.{Shape}
 use Rattle.message.specs.declared.shape.Shape.the-variants.{Bad, Good}
-use Rattle.message.specs.Opening.{openingAt}
+use Rattle.message.specs.Opening.{objectiveLevels, openingAt}
 use Rattle.message.specs.Sequence.{locatorsFrom}
 
 -- the Response with this opening
@@ -28,11 +28,11 @@ module _ (s : List ℕ) (opening : Opening) where
   unfoldable pub restOf : Targets → ℕ → ℕ → ℕ → ObjectiveRead → Shape
   restOf targets left at bad (ObjectiveRead.Bad place) = Bad place
   restOf targets left at bad (ObjectiveRead.Got o size bad′ long) =
-      unless (eqb left 1) (Bad (at + size)) (Good (responseOf opening targets (Extra.With o)) (firstOf bad bad′) long)
+      unless (eqb left 1) (Bad (at + size)) (Good (responseOf opening targets (Extra.With o)) (at + size) (firstOf bad bad′) long)
 
   unfoldable pub restAt : Targets → ℕ → ℕ → ℕ → Shape
   restAt targets left at bad =
-      pick (eqb left 0) (Good (responseOf opening targets Extra.Without) bad 0) (restOf targets left at bad (objectiveAt s at))
+      pick (eqb left 0) (Good (responseOf opening targets Extra.Without) at bad 0) (restOf targets left at bad (objectiveAt objectiveLevels s at))
 
   -- a divert of n items at `at`, its locators from `from` on; after it, `left` items of the message
   unfoldable pub divertOf : ℕ → ℕ → ℕ → LocatorsRead → Shape

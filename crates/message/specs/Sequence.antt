@@ -22,11 +22,12 @@ textLed s at =
     let x = tokenAt s (o .next) in
     pick (eqb (itemsIn o) 0) false (eqb (x .major) 3)
 
--- locators, n at most, up to an array that a text leads
+-- what follows a locator that was read
 unfoldable pub locatorNext : (ℕ → ℕ → LocatorsRead) → ℕ → ℕ → LocatorRead → LocatorsRead
 locatorNext go at bad (LocatorRead.Bad place) = LocatorsRead.Bad place
 locatorNext go at bad (LocatorRead.Got l size bad′) = go (at + size) (firstOf bad bad′)
 
+-- locators, n at most, up to an array that a text leads
 unfoldable pub locatorsFrom : List ℕ → ℕ → ℕ → ℕ → LocatorsRead
 locatorsFrom s zero at bad = LocatorsRead.Ran at 0 bad
 locatorsFrom s (suc n) at bad =
@@ -42,11 +43,12 @@ pub record LocatorsAre (s : List ℕ) (n from : ℕ) (r : LocatorsRead) : Type 0
   pub is : r ≡ locatorsFrom s n from 0
   pub within : LocatorsOk (length s) n r
 
--- n pairs
+-- what follows a pair that was read
 unfoldable pub pairNext : (ℕ → ℕ → ℕ → PairsRead) → ℕ → ℕ → ℕ → PairRead → PairsRead
 pairNext go at bad long (PairRead.Bad place) = PairsRead.Bad place
 pairNext go at bad long (PairRead.Got o t size bad′ long′) = go (at + size) (firstOf bad bad′) (firstOf long long′)
 
+-- n pairs
 unfoldable pub pairsFrom : List ℕ → ℕ → ℕ → ℕ → ℕ → PairsRead
-pairsFrom s zero at bad long = PairsRead.Ran bad long
+pairsFrom s zero at bad long = PairsRead.Ran at bad long
 pairsFrom s (suc n) at bad long = pairNext (pairsFrom s n) at bad long (pairAt s at)

@@ -1,5 +1,6 @@
--- The shapes of the kinds but Response and Flood (RFC 8990, section 2.8 and its CDDL): a message s of n items in all, the first after the kind at `at`.
-use Prim.Native.Nat.{ℕ}
+-- The shapes of the kinds but Response and Flood (RFC 8990, section 2.8 and its CDDL): a message s of n items in all, the first
+-- after the kind at `at`. A shape has the place where the message's parts end.
+use Prim.Native.Nat.{ℕ, _+_}
 use mathlib.Core.List.{List}
 use lib.Dec.{ltb, eqb}
 use Rattle.base.specs.Pick.{pick}
@@ -7,23 +8,23 @@ use Rattle.cbor.specs.Token.{tokenAt, sizeAt, itemsIn, upTo}
 use Rattle.options.specs.declared.Span.{Span}
 use Rattle.options.specs.declared.objective.Objective.{Objective}
 use Rattle.options.specs.declared.objective.ObjectiveRead.{ObjectiveRead}
-use Rattle.options.specs.Text.{unless, spanOf, badText}
+use Rattle.options.specs.Text.{unless, spanOf, contentIn, badText}
 use Rattle.options.specs.Objective.{objectiveAt}
-use Rattle.message.specs.declared.Outcome.{Outcome}
+use Rattle.options.specs.declared.Outcome.{Outcome}
 use Rattle.message.specs.declared.Message.{Message}
 use Rattle.message.specs.declared.Message.the-variants as M
 use Rattle.message.specs.declared.shape.Shape.{Shape}
 use Rattle.message.specs.declared.shape.Shape.the-variants.{Bad, Good}
-use Rattle.message.specs.Opening.{most, contentOf, isInitiator}
+use Rattle.message.specs.Opening.{most, objectiveLevels, contentOf, isInitiator}
 
 -- 0: nothing
-unfoldable pub noopAt : ℕ → Shape
-noopAt n = unless (eqb n 1) (Bad 0) (Good M.Noop 0 0)
+unfoldable pub noopAt : ℕ → ℕ → Shape
+noopAt n at = unless (eqb n 1) (Bad 0) (Good M.Noop at 0 0)
 
 -- 1: session, initiator, objective
-unfoldable pub discovered : ℕ → Span → ObjectiveRead → Shape
-discovered session initiator (ObjectiveRead.Bad place) = Bad place
-discovered session initiator (ObjectiveRead.Got o size bad long) = Good (M.Discovery session initiator o) bad long
+unfoldable pub discovered : ℕ → Span → ℕ → ObjectiveRead → Shape
+discovered session initiator at (ObjectiveRead.Bad place) = Bad place
+discovered session initiator at (ObjectiveRead.Got o size bad long) = Good (M.Discovery session initiator o) (at + size) bad long
 
 unfoldable pub discoveryAt : List ℕ → ℕ → ℕ → Shape
 discoveryAt s n at =
@@ -32,7 +33,7 @@ discoveryAt s n at =
     unless (eqb n 4) (Bad 0)
     (pick (ltb most (upTo most i)) (Bad (i .at))
     (unless (isInitiator j) (Bad (j .at))
-    (discovered (upTo most i) (contentOf j) (objectiveAt s (j .next)))))
+    (discovered (upTo most i) (contentOf j) (j .next) (objectiveAt objectiveLevels s (j .next)))))
 
 -- 3, 4, 5 and 8: session, objective
 unfoldable pub exchangeOf : ℕ → ℕ → Objective → Message
@@ -42,16 +43,16 @@ exchangeOf kind session o =
     (pick (eqb kind 5) (M.Negotiate session o)
     (M.Synch session o)))
 
-unfoldable pub exchanged : ℕ → ℕ → ObjectiveRead → Shape
-exchanged kind session (ObjectiveRead.Bad place) = Bad place
-exchanged kind session (ObjectiveRead.Got o size bad long) = Good (exchangeOf kind session o) bad long
+unfoldable pub exchanged : ℕ → ℕ → ℕ → ObjectiveRead → Shape
+exchanged kind session at (ObjectiveRead.Bad place) = Bad place
+exchanged kind session at (ObjectiveRead.Got o size bad long) = Good (exchangeOf kind session o) (at + size) bad long
 
 unfoldable pub exchangeAt : List ℕ → ℕ → ℕ → ℕ → Shape
 exchangeAt s kind n at =
     let i = tokenAt s at in
     unless (eqb n 3) (Bad 0)
     (pick (ltb most (upTo most i)) (Bad (i .at))
-    (exchanged kind (upTo most i) (objectiveAt s (i .next))))
+    (exchanged kind (upTo most i) (i .next) (objectiveAt objectiveLevels s (i .next))))
 
 -- 7: session, waiting time
 unfoldable pub waitAt : List ℕ → ℕ → ℕ → Shape
@@ -61,19 +62,19 @@ waitAt s n at =
     unless (eqb n 3) (Bad 0)
     (pick (ltb most (upTo most i)) (Bad (i .at))
     (pick (ltb most (upTo most t)) (Bad (t .at))
-    (Good (M.Wait (upTo most i) (upTo most t)) 0 0)))
+    (Good (M.Wait (upTo most i) (upTo most t)) (t .next) 0 0)))
 
--- 99: session, an optional item of any sort
+-- 99: session, an optional item of any sort, around which one level is open, the message's own
 unfoldable pub invalidAt : List ℕ → ℕ → ℕ → Shape
 invalidAt s n at =
     let i = tokenAt s at in
-    let len = sizeAt s (i .next) in
+    let len = sizeAt 1 s (i .next) in
     pick (ltb n 2) (Bad 0)
     (pick (ltb 3 n) (Bad 0)
     (pick (ltb most (upTo most i)) (Bad (i .at))
-    (pick (eqb n 2) (Good (M.Invalid (upTo most i) (spanOf (i .next) 0)) 0 0)
+    (pick (eqb n 2) (Good (M.Invalid (upTo most i) (spanOf (i .next) 0)) (i .next) 0 0)
     (pick (eqb len 0) (Bad (i .next))
-    (Good (M.Invalid (upTo most i) (spanOf (i .next) len)) 0 0)))))
+    (Good (M.Invalid (upTo most i) (spanOf (i .next) len)) (i .next + len) 0 0)))))
 
 -- 6: session, accept or decline
 unfoldable pub optionAt : List ℕ → ℕ → ℕ → Shape
@@ -85,11 +86,11 @@ optionAt s session at =
     pick (eqb (itemsIn o) 0) (Bad (o .at))
     (pick (ltb lead 101) (Bad (x .at))
     (pick (ltb 102 lead) (Bad (x .at))
-    (pick (eqb (o .arg) 1) (pick (eqb lead 101) (Good (M.End session Outcome.Accept) 0 0) (Good (M.End session Outcome.Decline) 0 0))
+    (pick (eqb (o .arg) 1) (pick (eqb lead 101) (Good (M.End session Outcome.Accept) (x .next) 0 0) (Good (M.End session Outcome.Decline) (x .next) 0 0))
     (pick (eqb lead 101) (Bad (o .at))
     (unless (eqb (o .arg) 2) (Bad (o .at))
     (unless (eqb (t .major) 3) (Bad (t .at))
-    (Good (M.End session (Outcome.Reason (contentOf t))) (badText s t (t .at)) 0)))))))
+    (Good (M.End session (Outcome.Reason (contentOf t))) (t .next) (badText (contentIn s t) (t .at)) 0)))))))
 
 unfoldable pub endAt : List ℕ → ℕ → ℕ → Shape
 endAt s n at =

@@ -48,6 +48,7 @@ fn flooded_at(s: &[u8], opening: Opening, n: u64, at: usize) -> Shape
             match more {
                 PairsRead::Bad(place) => Shape::Bad(place),
                 PairsRead::Ran {
+                    end,
                     bad: bad2,
                     long: long2,
                 } => Shape::Good {
@@ -58,6 +59,7 @@ fn flooded_at(s: &[u8], opening: Opening, n: u64, at: usize) -> Shape
                         first: objective,
                         pairs: Series { at, many: n },
                     },
+                    end,
                     bad: bad2,
                     long: long2,
                 },

@@ -1,9 +1,8 @@
-// GRASP messages (RFC 8990): reading. A message is one of eleven kinds; what it holds is told by numbers and by places in its bytes.
+// GRASP messages (RFC 8990): the eleven kinds and their shapes. What a message holds is told by numbers and by places in its bytes.
 ghost use mathlib.Core.Path.{_≡_};
-ghost use Rattle.message.specs.Read.{judged, shaped, examined, readOf};
-use cbor::item;
-use cbor::item::ItemRead;
+ghost use Rattle.message.specs.Read.{judged, shaped};
 use cbor::token;
+use options::Outcome;
 use options::Span;
 use options::objective::Objective;
 use shape::Shape;
@@ -33,13 +32,6 @@ pub enum Targets {
 pub enum Extra {
     Without,
     With(Objective),
-}
-
-// How a negotiation ends: accepted, declined, or declined with a reason.
-pub enum Outcome {
-    Accept,
-    Decline,
-    Reason(Span),
 }
 
 // A Flood has its first objective beside its pairs, and Invalid an item of 0 bytes where it has none.
@@ -100,56 +92,15 @@ pub enum Reading {
     Read(Message),
 }
 
-// A message, or the refusal with its place.
+// A message, with the place where its parts end, or the refusal with its place.
 pub enum Examined {
     Refused { number: u8, place: usize },
-    Accepted(Message),
+    Accepted { message: Message, end: usize },
 }
 
-// The message that s is, or the number of the refusal.
-pub fn read(s: &[u8]) -> Reading
-    ensures { λ r. ⌜ r ≡ readOf (now (s .entry)) ⌝ }
-{
-    let answer = examine(s);
-    match answer {
-        Examined::Refused { number, place: _ } => Reading::Refused(number),
-        Examined::Accepted(message) => Reading::Read(message),
-    }
-}
-
-// 1; the walk's 2 to 6; 7; then the shape.
-pub(crate) fn examine(s: &[u8]) -> Examined
-    ensures { λ r. ⌜ r ≡ examined (now (s .entry)) ⌝ }
-{
-    if s.len() == 0 {
-        return Examined::Refused {
-            number: 1,
-            place: 0,
-        };
-    }
-    if MOST_BYTES < s.len() {
-        return Examined::Refused {
-            number: 1,
-            place: 0,
-        };
-    }
-    let whole = item::first(0, s);
-    match whole {
-        ItemRead::Refused { number, place } => Examined::Refused { number, place },
-        ItemRead::Ends(end) => {
-            if end != s.len() {
-                return Examined::Refused {
-                    number: 7,
-                    place: end,
-                };
-            }
-            examine_item(s)
-        }
-    }
-}
-
-// One whole item as a message: 9 for what is no array or has no number first, 8 for an unknown kind, then by the kind.
-fn examine_item(s: &[u8]) -> Examined
+// The message that s begins with, by its parts alone: 9 for what is no array or has no number first, 8 for an unknown kind, then by
+// the kind. What follows the message isn't looked at.
+pub fn examine(s: &[u8]) -> Examined
     ensures { λ r. ⌜ r ≡ shaped (now (s .entry)) ⌝ }
 {
     let a = token::array_at(s, 0);
@@ -182,8 +133,15 @@ fn judge(shape: Shape) -> Examined
     ensures { λ r. ⌜ r ≡ judged shape ⌝ }
 {
     match shape {
-        Shape::Bad(place) => Examined::Refused { number: 9, place },
-        Shape::Good { message, bad, long } => {
+        Shape::Bad(place) => {
+            return Examined::Refused { number: 9, place };
+        }
+        Shape::Good {
+            message,
+            end,
+            bad,
+            long,
+        } => {
             if bad != 0 {
                 return Examined::Refused {
                     number: 11,
@@ -196,7 +154,7 @@ fn judge(shape: Shape) -> Examined
                     place: long,
                 };
             }
-            Examined::Accepted(message)
+            return Examined::Accepted { message, end };
         }
     }
 }

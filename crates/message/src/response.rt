@@ -12,6 +12,7 @@ use crate::opening::Opening;
 use crate::opening::OpeningRead;
 use crate::sequence;
 use crate::sequence::LocatorsRead;
+use crate::shape::OBJECTIVE_LEVELS;
 use crate::shape::Shape;
 use cbor::token;
 use options::objective;
@@ -37,12 +38,11 @@ fn targets_at(s: &[u8], opening: Opening, n: u64, at: usize) -> Shape
     ensures { λ r. ⌜ r ≡ targetsAt (now (s .entry)) opening n at ⌝ }
 {
     let o = token::array_at(s, at);
-    if token::items_in(o) == 0 {
-        return located_at(s, opening, n, at);
-    }
-    let x = token::number_at(s, o.next);
-    if token::up_to(100, x) == 100 {
-        return divert_at(s, opening, n - 1, o.arg, at, x.next);
+    if token::items_in(o) != 0 {
+        let x = token::number_at(s, o.next);
+        if token::up_to(100, x) == 100 {
+            return divert_at(s, opening, n - 1, o.arg, at, x.next);
+        }
     }
     located_at(s, opening, n, at)
 }
@@ -120,11 +120,12 @@ fn rest_at(s: &[u8], opening: Opening, targets: Targets, left: u64, at: usize, b
                 targets,
                 extra: Extra::Without,
             },
+            end: at,
             bad,
             long: 0,
         };
     }
-    let read = objective::read_at(s, at);
+    let read = objective::read_at(OBJECTIVE_LEVELS, s, at);
     match read {
         ObjectiveRead::Bad(place) => Shape::Bad(place),
         ObjectiveRead::Got {
@@ -144,6 +145,7 @@ fn rest_at(s: &[u8], opening: Opening, targets: Targets, left: u64, at: usize, b
                     targets,
                     extra: Extra::With(objective),
                 },
+                end: at + size,
                 bad: options::first_of(bad, bad2),
                 long,
             }

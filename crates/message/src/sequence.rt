@@ -16,11 +16,11 @@ pub enum LocatorsRead {
     Ran { end: usize, left: u64, bad: usize },
 }
 
-// The place of the first departure; or the places of the first text that isn't UTF-8 and of the first name over 64 bytes,
-// else 0.
+// The place of the first departure; or where the pairs end, and the places of the first text that isn't UTF-8 and of the first
+// name over 64 bytes, else 0.
 pub enum PairsRead {
     Bad(usize),
-    Ran { bad: usize, long: usize },
+    Ran { end: usize, bad: usize, long: usize },
 }
 
 // The locators from `from` on, n at most, up to an array that a text leads.
@@ -106,5 +106,5 @@ pub(crate) fn read_pairs(
             }
         }
     }
-    PairsRead::Ran { bad, long }
+    PairsRead::Ran { end: at, bad, long }
 }

@@ -3,23 +3,30 @@ ghost use mathlib.Core.Path.{_≡_};
 ghost use Rattle.message.specs.Shape.{noopAt, discoveryAt, exchangeOf, exchangeAt, waitAt, invalidAt, optionAt, endAt};
 ghost use Rattle.message.specs.Read.{byKind};
 use crate::Message;
-use crate::Outcome;
 use crate::flood;
 use crate::opening;
 use crate::opening::MOST_NUMBER;
 use crate::response;
 use cbor::token;
+use options::Outcome;
 use options::Span;
 use options::objective;
 use options::objective::Objective;
 use options::objective::ObjectiveRead;
 
-// The place of the first departure from the shape; or a message, with the places of its first text that isn't UTF-8 and of
-// its first name over 64 bytes, else 0.
+// How many levels are open around Invalid's item: the message's own.
+const LEVELS: usize = 1;
+
+// How many levels are open around the value of an objective that stands in the message: the message's and the objective's own.
+pub(crate) const OBJECTIVE_LEVELS: usize = 2;
+
+// The place of the first departure from the shape; or a message, with the place where its parts end, and those of its first text
+// that isn't UTF-8 and of its first name over 64 bytes, else 0.
 pub enum Shape {
     Bad(usize),
     Good {
         message: Message,
+        end: usize,
         bad: usize,
         long: usize,
     },
@@ -30,7 +37,7 @@ pub(crate) fn by_kind(s: &[u8], kind: u64, n: u64, at: usize) -> Shape
     ensures { λ r. ⌜ r ≡ byKind (now (s .entry)) kind n at ⌝ }
 {
     if kind == 0 {
-        return noop_at(n);
+        return noop_at(n, at);
     }
     if kind == 1 {
         return discovery_at(s, n, at);
@@ -53,14 +60,15 @@ pub(crate) fn by_kind(s: &[u8], kind: u64, n: u64, at: usize) -> Shape
     exchange_at(s, kind, n, at)
 }
 
-fn noop_at(n: u64) -> Shape
-    ensures { λ r. ⌜ r ≡ noopAt n ⌝ }
+fn noop_at(n: u64, at: usize) -> Shape
+    ensures { λ r. ⌜ r ≡ noopAt n at ⌝ }
 {
     if n != 1 {
         return Shape::Bad(0);
     }
     Shape::Good {
         message: Message::Noop,
+        end: at,
         bad: 0,
         long: 0,
     }
@@ -86,23 +94,28 @@ fn discovery_at(s: &[u8], n: u64, at: usize) -> Shape
         at: j.body,
         len: j.next - j.body,
     };
-    let read = objective::read_at(s, j.next);
+    let read = objective::read_at(OBJECTIVE_LEVELS, s, j.next);
     match read {
-        ObjectiveRead::Bad(place) => Shape::Bad(place),
+        ObjectiveRead::Bad(place) => {
+            return Shape::Bad(place);
+        }
         ObjectiveRead::Got {
             objective,
-            size: _,
+            size,
             bad,
             long,
-        } => Shape::Good {
-            message: Message::Discovery {
-                session: session as u32,
-                initiator,
-                objective,
-            },
-            bad,
-            long,
-        },
+        } => {
+            return Shape::Good {
+                message: Message::Discovery {
+                    session: session as u32,
+                    initiator,
+                    objective: objective::copied(objective),
+                },
+                end: j.next + size,
+                bad,
+                long,
+            };
+        }
     }
 }
 
@@ -118,19 +131,24 @@ fn exchange_at(s: &[u8], kind: u64, n: u64, at: usize) -> Shape
     if (MOST_NUMBER as u64) < session {
         return Shape::Bad(i.at);
     }
-    let read = objective::read_at(s, i.next);
+    let read = objective::read_at(OBJECTIVE_LEVELS, s, i.next);
     match read {
-        ObjectiveRead::Bad(place) => Shape::Bad(place),
+        ObjectiveRead::Bad(place) => {
+            return Shape::Bad(place);
+        }
         ObjectiveRead::Got {
             objective,
-            size: _,
+            size,
             bad,
             long,
-        } => Shape::Good {
-            message: exchange_of(kind, session as u32, objective),
-            bad,
-            long,
-        },
+        } => {
+            return Shape::Good {
+                message: exchange_of(kind, session as u32, objective::copied(objective)),
+                end: i.next + size,
+                bad,
+                long,
+            };
+        }
     }
 }
 
@@ -171,6 +189,7 @@ fn wait_at(s: &[u8], n: u64, at: usize) -> Shape
             session: session as u32,
             time: time as u32,
         },
+        end: t.next,
         bad: 0,
         long: 0,
     }
@@ -198,11 +217,12 @@ fn invalid_at(s: &[u8], n: u64, at: usize) -> Shape
                 session: session as u32,
                 item: Span { at: end, len: 0 },
             },
+            end,
             bad: 0,
             long: 0,
         };
     }
-    let len = token::size_at(s, end);
+    let len = token::size_at(LEVELS, s, end);
     if len == 0 {
         return Shape::Bad(end);
     }
@@ -211,6 +231,7 @@ fn invalid_at(s: &[u8], n: u64, at: usize) -> Shape
             session: session as u32,
             item: Span { at: end, len },
         },
+        end: end + len,
         bad: 0,
         long: 0,
     }
@@ -249,9 +270,9 @@ fn option_at(s: &[u8], session: u32, at: usize) -> Shape
     }
     if o.arg == 1 {
         if lead == 101 {
-            return ended(session, Outcome::Accept, 0);
+            return ended(session, Outcome::Accept, x.next, 0);
         }
-        return ended(session, Outcome::Decline, 0);
+        return ended(session, Outcome::Decline, x.next, 0);
     }
     if lead == 101 {
         return Shape::Bad(o.at);
@@ -267,15 +288,18 @@ fn option_at(s: &[u8], session: u32, at: usize) -> Shape
         at: t.body,
         len: t.next - t.body,
     };
-    let bad = options::bad_text(s, t, t.at);
-    ended(session, Outcome::Reason(reason), bad)
+    let from = t.body;
+    let to = t.next;
+    let bad = options::bad_text(&s[from..to], t.at);
+    ended(session, Outcome::Reason(reason), t.next, bad)
 }
 
-fn ended(session: u32, outcome: Outcome, bad: usize) -> Shape
-    ensures { λ r. ⌜ r ≡ Shape.Good (Message.End session outcome) bad 0 ⌝ }
+fn ended(session: u32, outcome: Outcome, end: usize, bad: usize) -> Shape
+    ensures { λ r. ⌜ r ≡ Shape.Good (Message.End session outcome) end bad 0 ⌝ }
 {
     Shape::Good {
         message: Message::End { session, outcome },
+        end,
         bad,
         long: 0,
     }

@@ -1,11 +1,11 @@
-// Runs the stored cases over `message::read`, a line for each: what the program `read_message` prints, and all that was read. A case is the
+// Runs the stored cases over `reader::read`, a line for each: what the program `read_message` prints, and all that was read. A case is the
 // message's length in two bytes and the message.
 use message::Extra;
 use message::Message;
-use message::Outcome;
 use message::Reading;
 use message::Series;
 use message::Targets;
+use options::Outcome;
 use options::Span;
 use options::locator::Locator;
 use options::locator::LocatorRead;
@@ -48,7 +48,7 @@ fn run_content(content: &mut [u8], len: usize) {
 }
 
 fn run(s: &[u8]) {
-    let reading = message::read(s);
+    let reading = reader::read(s);
     match reading {
         Reading::Refused(n) => print_number(b"refused", n as u64),
         Reading::Read(m) => {

@@ -14,7 +14,7 @@ use Rattle.options.specs.Text.{contentIn}
 use Rattle.options.specs.Objective.{mostName}
 use Rattle.message.specs.Read.{mostBytes}
 
--- house limit
+-- house limit: how many own names a node has at most
 abbrev pub mostNames : ℕ
 mostNames = 16
 

@@ -82,8 +82,8 @@ refused-exactly state message sender number other = (by (readOf message) refl, u
 
 -- A Request that is accepted opens a fresh state, with a count from 1 to 255, and then the other side has the turn.
 pub request-opens : (state : State) (message : List ℕ) (sender : Side) (next : State) (m : Message)
-    → readOf message ≡ Reading.Read m → kindOf m ≡ 3 → step state message sender ≡ Moved next → Opened sender m state next
-request-opens state message sender next m read kind moved = by (judged state message sender read moved)
+    → Bytes message → readOf message ≡ Reading.Read m → kindOf m ≡ 3 → step state message sender ≡ Moved next → Opened sender m state next
+request-opens state message sender next m bytes read kind moved = by (judged state message sender read moved)
   where
     by : {before after : State} → Allowed sender m before after → Opened sender m before after
     by (Allowed.request {session} {count} n c least) =
@@ -93,7 +93,7 @@ request-opens state message sender next m read kind moved = by (judged state mes
           names = n;
           counts = c;
           least = least;
-          most = request-count message read n c;
+          most = request-count message bytes read n c;
           before = refl;
           after = refl;
         }

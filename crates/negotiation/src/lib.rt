@@ -36,7 +36,7 @@ enum Move {
 pub fn step(state: State, message: &[u8], sender: Side) -> Stepped
     ensures { λ r. ⌜ r ≡ step state (now (message .entry)) sender ⌝ }
 {
-    let reading = message::read(message);
+    let reading = reader::read(message);
     match reading {
         Reading::Refused(number) => Stepped::Refused(number),
         Reading::Read(m) => state_step(state, move_of(m), sender),

@@ -90,7 +90,7 @@ spreading s (Describes.invalid a b c d) x e = absurd (let z : _≡_ {A = ℕ} 0 
 pub role-spreading : (message : List ℕ) (s : Spread) → Bytes message → (r : RoleIn message (Role.Spreads s)) → Spreading message (r .is) s
 role-spreading message s b r =
     let a = accepted-exactly message b .0 (r .is, r .read) in
-    spreading s (accepted-described message (r .is) b (r .read) a) (a .message .is) (r .plays)
+    spreading s (accepted-described message (r .is) (r .read) a) (a .message .is) (r .plays)
 
 -- a message that was read has at most 2,048 bytes
 pub read-most : (message : List ℕ) (role : Role) → Bytes message → RoleIn message role → length message ≤ mostBytes

@@ -49,7 +49,7 @@ finally r t [] = r
 finally r t (call c ∷ es) = finally (nodeCall r t c .called .node) (nodeCall r t c .table) es
 finally r t (links mask ∷ es) = finally (setLinks r mask .node) t es
 
--- bytes are bytes
+-- a call's message is made of bytes, as every `&[u8]` is
 abbrev pub Fits : Event → Type 0
 Fits (call c) = Bytes (c .message)
 Fits (links mask) = Unit {0}

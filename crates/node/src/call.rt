@@ -40,7 +40,7 @@ pub fn node_call(
             node,
         };
     }
-    let read = message::read(message);
+    let read = reader::read(message);
     match read {
         Reading::Refused(number) => Called {
             reply: Reply::Refused(number),

@@ -38,13 +38,13 @@ abbrev pub ObjectiveOk : ℕ → ObjectiveRead → Type 0
 ObjectiveOk room (ObjectiveRead.Bad place) = Unit {0}
 ObjectiveOk room (ObjectiveRead.Got o size bad long) = size ≤ room
 
-after : (s : List ℕ) (at : ℕ) → at ≤ length s → at + sizeAt s at ≤ length s
-after s at h = omega (arith, size-le s at)
+after : (levels : ℕ) (s : List ℕ) (at : ℕ) → at ≤ length s → at + sizeAt levels s at ≤ length s
+after levels s at h = omega (arith, size-le levels s at)
 
-pub objective-ok : (base : ℕ) (s : List ℕ) → ObjectiveOk (length s) (objectiveIn base s)
+pub objective-ok : (levels base : ℕ) (s : List ℕ) → ObjectiveOk (length s) (objectiveIn levels base s)
 unfolding objectiveIn
-objective-ok base s =
-    both ok _ tt (both ok _ (both ok _ tt (both ok _ tt (both ok _ tt (both ok _ tt (both ok _ (token-end s _) (both ok _ tt (after s _ (token-end s _)))))))) tt)
+objective-ok levels base s =
+    both ok _ tt (both ok _ (both ok _ tt (both ok _ tt (both ok _ tt (both ok _ tt (both ok _ (token-end s _) (both ok _ tt (after levels s _ (token-end s _)))))))) tt)
   where
     ok : ObjectiveRead → Type 0
     ok = ObjectiveOk (length s)
@@ -58,9 +58,9 @@ pub locator-fits : (s : List ℕ) (base at : ℕ) (r x : LocatorRead) → r ≡ 
 locator-fits s base at r x e q =
     rw (length-drop at s) at (subst (LocatorOk (length (drop at s))) (ap (locatorIn base) (sym (rest-is at s)) ∙ sym e ∙ q) (locator-ok base (drop at s)))
 
-pub objective-fits : (s : List ℕ) (base at : ℕ) (r x : ObjectiveRead) → r ≡ objectiveIn base (take (length s - at) (drop at s)) → r ≡ x → ObjectiveOk (length s - at) x
-objective-fits s base at r x e q =
-    rw (length-drop at s) at (subst (ObjectiveOk (length (drop at s))) (ap (objectiveIn base) (sym (rest-is at s)) ∙ sym e ∙ q) (objective-ok base (drop at s)))
+pub objective-fits : (levels : ℕ) (s : List ℕ) (base at : ℕ) (r x : ObjectiveRead) → r ≡ objectiveIn levels base (take (length s - at) (drop at s)) → r ≡ x → ObjectiveOk (length s - at) x
+objective-fits levels s base at r x e q =
+    rw (length-drop at s) at (subst (ObjectiveOk (length (drop at s))) (ap (objectiveIn levels base) (sym (rest-is at s)) ∙ sym e ∙ q) (objective-ok levels base (drop at s)))
 
 -- what a `match` has found
 pub tail-found : (base : ℕ) (s : List ℕ) (at : ℕ) (o : Objective) (bad long : ℕ) (w : Token) (b : Bool) (r x : LocatorRead)
@@ -70,7 +70,7 @@ unfolding pairTail pick
 tail-found base s at o bad long w b r x e f g h q = rw (← e, ← f, g, ← rest-is at s, ← h, q)
 
 pub pair-found : (base : ℕ) (s : List ℕ) (a : Token) (n : ℕ) (r x : ObjectiveRead)
-    → a ≡ tokenAt s 0 → n ≡ itemsIn a → (n ≡ 0 → ⊥) → r ≡ objectiveIn (base + a .next) (take (length s - a .next) (drop (a .next) s)) → r ≡ x
+    → a ≡ tokenAt s 0 → n ≡ itemsIn a → (n ≡ 0 → ⊥) → r ≡ objectiveIn 3 (base + a .next) (take (length s - a .next) (drop (a .next) s)) → r ≡ x
     → pairLed base s (a .arg) (a .next) x ≡ pairIn base s
 unfolding pairIn pick
 pair-found base s a n r x e f g h q = rw (← e, ← f, ne-eqb n 0 g, ← rest-is (a .next) s, ← h, q)
@@ -79,8 +79,8 @@ pair-found base s a n r x e f g h q = rw (← e, ← f, ne-eqb n 0 g, ← rest-i
 pub locator-within : (s : List ℕ) (base at : ℕ) (r x : LocatorRead) → r ≡ locatorIn base (drop at s) → r ≡ x → LocatorOk (length s - at) x
 locator-within s base at r x e q = rw (length-drop at s) at (subst (LocatorOk (length (drop at s))) (sym e ∙ q) (locator-ok base (drop at s)))
 
-pub objective-within : (s : List ℕ) (base at : ℕ) (r x : ObjectiveRead) → r ≡ objectiveIn base (drop at s) → r ≡ x → ObjectiveOk (length s - at) x
-objective-within s base at r x e q = rw (length-drop at s) at (subst (ObjectiveOk (length (drop at s))) (sym e ∙ q) (objective-ok base (drop at s)))
+pub objective-within : (levels : ℕ) (s : List ℕ) (base at : ℕ) (r x : ObjectiveRead) → r ≡ objectiveIn levels base (drop at s) → r ≡ x → ObjectiveOk (length s - at) x
+objective-within levels s base at r x e q = rw (length-drop at s) at (subst (ObjectiveOk (length (drop at s))) (sym e ∙ q) (objective-ok levels base (drop at s)))
 
 tagged-ok : (s : List ℕ) (at : ℕ) (o : Objective) (bad long : ℕ) (x : LocatorRead) → at ≤ length s → LocatorOk (length s - at) x → PairOk (length s) (pairTagged at o bad long x)
 unfolding pairTagged
@@ -101,7 +101,7 @@ pub pair-ok : (base : ℕ) (s : List ℕ) → PairOk (length s) (pairIn base s)
 unfolding pairIn
 pair-ok base s =
     both (PairOk (length s)) _ tt
-    (led-ok base s _ _ (objectiveIn _ (drop (tokenAt s 0 .next) s)) (token-end s 0) (objective-within s _ (tokenAt s 0 .next) _ _ refl refl))
+    (led-ok base s _ _ (objectiveIn 3 _ (drop (tokenAt s 0 .next) s)) (token-end s 0) (objective-within 3 s _ (tokenAt s 0 .next) _ _ refl refl))
 
 pub pair-within : (s : List ℕ) (base at : ℕ) (r x : PairRead) → r ≡ pairIn base (drop at s) → r ≡ x → PairOk (length s - at) x
 pair-within s base at r x e q = rw (length-drop at s) at (subst (PairOk (length (drop at s))) (sym e ∙ q) (pair-ok base (drop at s)))
@@ -114,9 +114,9 @@ pub locator-past : (s : List ℕ) (at : ℕ) → length s < at → LocatorRead.B
 unfolding locatorIn itemsIn tokenAt tokenFrom nothingAt headAt pick
 locator-past s at h = none-past (λ (l : List ℕ). LocatorRead.Bad at ≡ locatorIn at l) s at h refl
 
-pub objective-past : (s : List ℕ) (at : ℕ) → length s < at → ObjectiveRead.Bad at ≡ objectiveIn at (drop at s)
+pub objective-past : (levels : ℕ) (s : List ℕ) (at : ℕ) → length s < at → ObjectiveRead.Bad at ≡ objectiveIn levels at (drop at s)
 unfolding objectiveIn itemsIn tokenAt tokenFrom nothingAt headAt pick
-objective-past s at h = none-past (λ (l : List ℕ). ObjectiveRead.Bad at ≡ objectiveIn at l) s at h refl
+objective-past levels s at h = none-past (λ (l : List ℕ). ObjectiveRead.Bad at ≡ objectiveIn levels at l) s at h refl
 
 pub pair-past : (s : List ℕ) (at : ℕ) → length s < at → PairRead.Bad at ≡ pairIn at (drop at s)
 unfolding pairIn itemsIn tokenAt tokenFrom nothingAt headAt pick

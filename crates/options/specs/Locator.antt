@@ -12,7 +12,7 @@ use Rattle.options.specs.declared.locator.Locator.{Locator}
 use Rattle.options.specs.declared.locator.Locator.the-variants as L
 use Rattle.options.specs.declared.locator.LocatorRead.{LocatorRead}
 use Rattle.options.specs.declared.locator.LocatorRead.the-variants as LR
-use Rattle.options.specs.Text.{unless, spanOf, badText}
+use Rattle.options.specs.Text.{unless, spanOf, contentIn, badText}
 
 -- null: simple value 22, which has a head of one byte (a float has a longer one)
 unfoldable pub isNull : Token → Bool
@@ -43,8 +43,8 @@ locatorOf kind at len protocol port =
     (pick (eqb kind 105) (L.Domain (spanOf at len) protocol port)
     (L.Uri (spanOf at len) protocol port)))
 
-unfoldable pub textOf : List ℕ → ℕ → Token → ℕ → ℕ
-textOf s kind w place = pick (ltb kind 105) 0 (badText s w place)
+unfoldable pub textOf : ℕ → List ℕ → ℕ → ℕ
+textOf kind text place = pick (ltb kind 105) 0 (badText text place)
 
 -- a locator: kind, address, protocol and port
 unfoldable pub locatorIn : ℕ → List ℕ → LocatorRead
@@ -62,7 +62,7 @@ locatorIn base s =
     (unless (addressFits kind b) (LR.Bad (base + b .at))
     (pick (eqb (protocolOf kind p) 255) (LR.Bad (base + p .at))
     (pick (ltb 65536 (portOf kind q)) (LR.Bad (base + q .at))
-    (LR.Got (locatorOf kind (base + b .body) (b .next - b .body) (protocolOf kind p) (portOf kind q)) (q .next) (textOf s kind b (base + b .at)))))))))
+    (LR.Got (locatorOf kind (base + b .body) (b .next - b .body) (protocolOf kind p) (portOf kind q)) (q .next) (textOf kind (contentIn s b) (base + b .at)))))))))
 
 -- the locator at a place of the message s
 abbrev pub locatorAt : List ℕ → ℕ → LocatorRead

@@ -9,7 +9,7 @@ use Rattle.cbor.specs.Token.{tokenAt, sizeAt, itemsIn, upTo}
 use Rattle.options.specs.declared.objective.Objective.{Objective}
 use Rattle.options.specs.declared.objective.ObjectiveRead.{ObjectiveRead}
 use Rattle.options.specs.declared.objective.ObjectiveRead.the-variants as OR
-use Rattle.options.specs.Text.{unless, spanOf, badText}
+use Rattle.options.specs.Text.{unless, spanOf, contentIn, badText}
 
 -- house limit: how many bytes an objective's name has at most
 abbrev pub mostName : ℕ
@@ -19,15 +19,26 @@ mostName = 64
 unfoldable pub longName : Token → ℕ → ℕ
 longName w place = pick (ltb mostName (w .arg)) place 0
 
--- an objective: name, flags, count and an optional value
-unfoldable pub objectiveIn : ℕ → List ℕ → ObjectiveRead
-objectiveIn base s =
+-- the objective whose name and count these tokens head, with a value of so many bytes after the count
+unfoldable pub objectiveOf : ℕ → Token → ℕ → Token → ℕ → ℕ → Objective
+objectiveOf base n flags c count len =
+    record {
+      name = spanOf (base + n .body) (n .next - n .body);
+      flags = flags;
+      count = count;
+      «count_at» = base + c .at;
+      value = spanOf (base + c .next) len;
+    }
+
+-- an objective: name, flags, count and an optional value, around which so many levels are open, the objective's own among them
+unfoldable pub objectiveIn : ℕ → ℕ → List ℕ → ObjectiveRead
+objectiveIn levels base s =
     let a = tokenAt s 0 in
     let n = tokenAt s (a .next) in
     let f = tokenAt s (n .next) in
     let c = tokenAt s (f .next) in
-    let len = sizeAt s (c .next) in
-    let bad = badText s n (base + n .at) in
+    let len = sizeAt levels s (c .next) in
+    let bad = badText (contentIn s n) (base + n .at) in
     let long = longName n (base + n .at) in
     pick (eqb (itemsIn a) 0) (OR.Bad base)
     (unless (eqb (n .major) 3) (OR.Bad (base + n .at))
@@ -35,20 +46,10 @@ objectiveIn base s =
     (pick (ltb 4 (a .arg)) (OR.Bad base)
     (pick (ltb 15 (upTo 15 f)) (OR.Bad (base + f .at))
     (pick (ltb 255 (upTo 255 c)) (OR.Bad (base + c .at))
-    (pick (eqb (a .arg) 3) (OR.Got (objectiveOf base n f c 0) (c .next) bad long)
+    (pick (eqb (a .arg) 3) (OR.Got (objectiveOf base n (upTo 15 f) c (upTo 255 c) 0) (c .next) bad long)
     (pick (eqb len 0) (OR.Bad (base + c .next))
-    (OR.Got (objectiveOf base n f c len) (c .next + len) bad long))))))))
-  where
-    objectiveOf : ℕ → Token → Token → Token → ℕ → Objective
-    objectiveOf base n f c len =
-        record {
-          name = spanOf (base + n .body) (n .next - n .body);
-          flags = upTo 15 f;
-          count = upTo 255 c;
-          «count_at» = base + c .at;
-          value = spanOf (base + c .next) len;
-        }
+    (OR.Got (objectiveOf base n (upTo 15 f) c (upTo 255 c) len) (c .next + len) bad long))))))))
 
 -- the objective at a place of the message s
-abbrev pub objectiveAt : List ℕ → ℕ → ObjectiveRead
-objectiveAt s at = objectiveIn at (drop at s)
+abbrev pub objectiveAt : ℕ → List ℕ → ℕ → ObjectiveRead
+objectiveAt levels s at = objectiveIn levels at (drop at s)

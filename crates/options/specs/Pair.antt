@@ -37,10 +37,11 @@ unfoldable pub pairLed : ℕ → List ℕ → ℕ → ℕ → ObjectiveRead → 
 pairLed base s n at (OR.Bad place) = PR.Bad place
 pairLed base s n at (OR.Got o size bad long) = unless (eqb n 2) (PR.Bad base) (pairTail base s (at + size) o bad long)
 
+-- an objective's value has three levels around it: the message, the pair and the objective
 unfoldable pub pairIn : ℕ → List ℕ → PairRead
 pairIn base s =
     let a = tokenAt s 0 in
-    pick (eqb (itemsIn a) 0) (PR.Bad base) (pairLed base s (a .arg) (a .next) (objectiveIn (base + a .next) (drop (a .next) s)))
+    pick (eqb (itemsIn a) 0) (PR.Bad base) (pairLed base s (a .arg) (a .next) (objectiveIn 3 (base + a .next) (drop (a .next) s)))
 
 -- the pair at a place of the message s
 abbrev pub pairAt : List ℕ → ℕ → PairRead
@@ -55,9 +56,10 @@ unfoldable pub tagNumbers : Tag → List ℕ
 tagNumbers Tag.Empty = replicate 5 0
 tagNumbers (Tag.At l) = locatorNumbers l
 
--- a pair's twelve numbers: its objective's, then its tag's
+-- the first five numbers of a list
 abbrev pub five : List ℕ → List ℕ
 five t = getD t 0 0 ∷ getD t 1 0 ∷ getD t 2 0 ∷ getD t 3 0 ∷ getD t 4 0 ∷ []
 
+-- a pair's twelve numbers: its objective's, then its tag's
 unfoldable pub pairNumbers : Objective → Tag → List ℕ
 pairNumbers o tag = objectiveNumbers o ++ five (tagNumbers tag)

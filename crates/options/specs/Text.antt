@@ -25,8 +25,8 @@ abbrev pub contentIn : List ℕ → Token → List ℕ
 contentIn s t = take (t .next - t .body) (drop (t .body) s)
 
 -- `place` where a text isn't UTF-8, else 0
-unfoldable pub badText : List ℕ → Token → ℕ → ℕ
-badText s t place = pick (isUtf8 (contentIn s t)) 0 place
+unfoldable pub badText : List ℕ → ℕ → ℕ
+badText text place = pick (isUtf8 text) 0 place
 
 -- the first of two places, where 0 is none
 unfoldable pub firstOf : ℕ → ℕ → ℕ

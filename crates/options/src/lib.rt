@@ -3,7 +3,6 @@
 // stands in the message: answers hold places in the message, and nothing is copied out.
 ghost use mathlib.Core.Path.{_≡_};
 ghost use Rattle.options.specs.Text.{badText, firstOf};
-use cbor::token::Token;
 
 pub mod locator;
 pub mod objective;
@@ -15,11 +14,18 @@ pub struct Span {
     pub len: usize,
 }
 
-// `place` where the text that this token heads isn't UTF-8, else 0.
-pub fn bad_text(s: &[u8], t: Token, place: usize) -> usize
-    ensures { λ r. ⌜ r ≡ badText (now (s .entry)) t place ⌝ }
+// How a negotiation ends (RFC 8990, sections 2.9.3 and 2.9.4): accepted, declined, or declined with a reason.
+pub enum Outcome {
+    Accept,
+    Decline,
+    Reason(Span),
+}
+
+// `place` where a text isn't UTF-8, else 0.
+pub fn bad_text(text: &[u8], place: usize) -> usize
+    ensures { λ r. ⌜ r ≡ badText (now (text .entry)) place ⌝ }
 {
-    if utf8::is_utf8_in(s, t.body, t.next) {
+    if utf8::is_utf8(text) {
         return 0;
     }
     place

@@ -2,7 +2,7 @@
 ghost use mathlib.Core.Path.{_≡_};
 ghost use Prim.Native.Nat.{_+_, _<_, _^_};
 ghost use lib.ListN.{length};
-ghost use Rattle.options.specs.Locator.{isNull, addressFits, protocolOf, portOf, locatorOf, textOf, locatorIn, locatorAt, locatorNumbers};
+ghost use Rattle.options.specs.Locator.{isNull, addressFits, protocolOf, portOf, locatorOf, locatorIn, locatorAt, locatorNumbers};
 use crate::Span;
 use cbor::token;
 use cbor::token::Token;
@@ -61,18 +61,27 @@ pub(crate) fn read_in(s: &[u8], base: usize) -> LocatorRead
     if !address_fits(kind, b) {
         return LocatorRead::Bad(base + b.at);
     }
-    let p = token::number_at(s, b.next);
+    let p = token::number_or_null_at(s, b.next);
     let protocol = protocol_of(kind, p);
     if protocol == 255 {
         return LocatorRead::Bad(base + p.at);
     }
-    let q = token::number_at(s, p.next);
+    let q = token::number_or_null_at(s, p.next);
     let port = port_of(kind, q);
     if 65536 < port {
         return LocatorRead::Bad(base + q.at);
     }
-    let locator = locator_of(kind, base + b.body, b.next - b.body, protocol, port);
-    let bad = text_of(s, kind, b, base + b.at);
+    let from = b.body;
+    let to = b.next;
+    let locator = locator_of(kind, base + from, to - from, protocol, port);
+    if kind < 105 {
+        return LocatorRead::Got {
+            locator,
+            size: q.next,
+            bad: 0,
+        };
+    }
+    let bad = crate::bad_text(&s[from..to], base + b.at);
     LocatorRead::Got {
         locator,
         size: q.next,
@@ -174,16 +183,6 @@ fn locator_of(kind: u64, at: usize, len: usize, protocol: u8, port: u32) -> Loca
         protocol,
         port,
     }
-}
-
-// The place of a domain name or URI where it isn't UTF-8, else 0.
-fn text_of(s: &[u8], kind: u64, t: Token, place: usize) -> usize
-    ensures { λ r. ⌜ r ≡ textOf (now (s .entry)) kind t place ⌝ }
-{
-    if kind < 105 {
-        return 0;
-    }
-    crate::bad_text(s, t, place)
 }
 
 // A locator as five numbers: 103 to 106, the place and length of its address, domain name or URI, protocol, port.

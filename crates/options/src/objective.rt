@@ -1,8 +1,8 @@
 // Objective options (RFC 8990, section 2.10.1).
 ghost use mathlib.Core.Path.{_≡_};
-ghost use Prim.Native.Nat.{_+_, _<_, _^_};
+ghost use Prim.Native.Nat.{_+_, _≤_, _<_, _^_};
 ghost use lib.ListN.{length};
-ghost use Rattle.options.specs.Objective.{longName, objectiveIn, objectiveAt};
+ghost use Rattle.options.specs.Objective.{longName, objectiveOf, objectiveIn, objectiveAt};
 use crate::Span;
 use cbor::token;
 use cbor::token::Token;
@@ -31,20 +31,20 @@ pub enum ObjectiveRead {
     },
 }
 
-// The objective at `at` of the message s.
-pub fn read_at(s: &[u8], at: usize) -> ObjectiveRead
-    ensures { λ r. ⌜ r ≡ objectiveAt (now (s .entry)) at ⌝ }
+// The objective at `at` of the message s; so many levels are open around its value, its own among them.
+pub fn read_at(levels: usize, s: &[u8], at: usize) -> ObjectiveRead
+    ensures { λ r. ⌜ r ≡ objectiveAt levels (now (s .entry)) at ⌝ }
 {
     if s.len() < at {
         return ObjectiveRead::Bad(at);
     }
-    read_in(&s[at..], at)
+    read_in(levels, &s[at..], at)
 }
 
 // The objective at the start of s, which stands at `base` of the message.
-pub(crate) fn read_in(s: &[u8], base: usize) -> ObjectiveRead
+pub(crate) fn read_in(levels: usize, s: &[u8], base: usize) -> ObjectiveRead
     requires { ⌜ base + length (now s) < 2 ^ 63 ⌝ }
-    ensures { λ r. ⌜ r ≡ objectiveIn base (now (s .entry)) ⌝ }
+    ensures { λ r. ⌜ r ≡ objectiveIn levels base (now (s .entry)) ⌝ }
 {
     let a = token::array_at(s, 0);
     if token::items_in(a) == 0 {
@@ -70,24 +70,13 @@ pub(crate) fn read_in(s: &[u8], base: usize) -> ObjectiveRead
     if 255 < count {
         return ObjectiveRead::Bad(base + c.at);
     }
-    let end = c.next;
-    let name = Span {
-        at: base + n.body,
-        len: n.next - n.body,
-    };
-    let bad = crate::bad_text(s, n, base + n.at);
+    let from = n.body;
+    let to = n.next;
+    let bad = crate::bad_text(&s[from..to], base + n.at);
     let long = long_name(n, base + n.at);
+    let end = c.next;
     if a.arg == 3 {
-        let objective = Objective {
-            name,
-            flags: flags as u8,
-            count: count as u8,
-            count_at: base + c.at,
-            value: Span {
-                at: base + end,
-                len: 0,
-            },
-        };
+        let objective = objective_of(base, n, flags as u8, c, count as u8, 0);
         return ObjectiveRead::Got {
             objective,
             size: end,
@@ -95,25 +84,55 @@ pub(crate) fn read_in(s: &[u8], base: usize) -> ObjectiveRead
             long,
         };
     }
-    let len = token::size_at(s, end);
+    let len = token::size_at(levels, s, end);
     if len == 0 {
         return ObjectiveRead::Bad(base + end);
     }
-    let objective = Objective {
-        name,
-        flags: flags as u8,
-        count: count as u8,
-        count_at: base + c.at,
-        value: Span {
-            at: base + end,
-            len,
-        },
-    };
+    let objective = objective_of(base, n, flags as u8, c, count as u8, len);
     ObjectiveRead::Got {
         objective,
         size: end + len,
         bad,
         long,
+    }
+}
+
+// The objective whose name and count these tokens head, with a value of so many bytes after the count.
+fn objective_of(base: usize, n: Token, flags: u8, c: Token, count: u8, len: usize) -> Objective
+    requires { ⌜ (n .body ≤ n .next) × (base + n .next < 2 ^ 63) × (base + c .at < 2 ^ 63) × (base + c .next < 2 ^ 63) ⌝ }
+    ensures { λ r. ⌜ r ≡ objectiveOf base n flags c count len ⌝ }
+{
+    Objective {
+        name: Span {
+            at: base + n.body,
+            len: n.next - n.body,
+        },
+        flags,
+        count,
+        count_at: base + c.at,
+        value: Span {
+            at: base + c.next,
+            len,
+        },
+    }
+}
+
+// The same objective, field by field: so the compiler carries its numbers in registers, where it would copy a whole one from place to place.
+pub fn copied(o: Objective) -> Objective
+    ensures { λ r. ⌜ r ≡ o ⌝ }
+{
+    Objective {
+        name: Span {
+            at: o.name.at,
+            len: o.name.len,
+        },
+        flags: o.flags,
+        count: o.count,
+        count_at: o.count_at,
+        value: Span {
+            at: o.value.at,
+            len: o.value.len,
+        },
     }
 }
 

@@ -12,6 +12,9 @@ use crate::objective::ObjectiveRead;
 use cbor::token;
 use cbor::token::Token;
 
+// A pair stands in a message and an objective in a pair: so many levels are open around the objective's value.
+const LEVELS: usize = 3;
+
 // What a flooded objective is tagged with.
 pub enum Tag {
     Empty,
@@ -51,7 +54,7 @@ pub(crate) fn read_in(s: &[u8], base: usize) -> PairRead
         return PairRead::Bad(base);
     }
     let at = a.next;
-    let read = objective::read_in(&s[at..], base + at);
+    let read = objective::read_in(LEVELS, &s[at..], base + at);
     match read {
         ObjectiveRead::Bad(place) => PairRead::Bad(place),
         ObjectiveRead::Got {

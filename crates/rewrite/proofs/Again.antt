@@ -9,7 +9,7 @@ use Rattle.message.specs.declared.Message.{Message}
 use Rattle.message.specs.declared.Reading.{Reading}
 use Rattle.message.specs.Read.{readOf}
 use Rattle.exact.specs.Accepted.{Accepted}
-use Rattle.exact.proofs.Exact.{accepted-exactly, accepted-described}
+use Rattle.exact.proofs.Exact.{accepted-exactly, accepted-bytes, accepted-described}
 use Rattle.writer.specs.declared.Written.{Written}
 use Rattle.writer.specs.Write.{writeAnswer, writeOut}
 use Rattle.describe.specs.Describe.{descriptionOf}
@@ -24,21 +24,21 @@ use Rattle.rewrite.proofs.ByKind.{kind-says}
 -- for readers
 
 -- The description of a message that was read says that message, with the rows in a list that has room for them.
-pub described-says : (s list : List ℕ) (m : Message) → Bytes s → readOf s ≡ Reading.Read m → rowsEnd m list ≤ length list → (a : Accepted s)
+pub described-says : (s list : List ℕ) (m : Message) → readOf s ≡ Reading.Read m → rowsEnd m list ≤ length list → (a : Accepted s)
     → Says s (rowsLent s m list) (descriptionOf m) (plain (a .message .msg))
-described-says s list m b q room a =
-    kind-says s b list (accepted-described s m b q a) (a .message .is) (a .message .good) (a .message .shallow) (a .message .bytes) (read-encoded s a) room
+described-says s list m q room a =
+    kind-says s (accepted-bytes s a) list (accepted-described s m q a) (a .message .is) (a .message .good) (a .message .shallow) (a .message .bytes) (read-encoded s a) room
 
 -- So what was read, described and written again is the same bytes, where the output has room for them.
 pub described-written : (s list out : List ℕ) (m : Message) → Bytes s → readOf s ≡ Reading.Read m → rowsEnd m list ≤ length list → length s ≤ length out
     → (writeAnswer s (rowsLent s m list) (descriptionOf m) out ≡ Written.Length (length s)) × (writeOut s (rowsLent s m list) (descriptionOf m) out ≡ s ++ drop (length s) out)
 described-written s list out m b q room =
     let a = accepted-exactly s b .0 (m, q) in
-    read-written s s (rowsLent s m list) (descriptionOf m) out b a (described-says s list m b q room a)
+    read-written s s (rowsLent s m list) (descriptionOf m) out b a (described-says s list m q room a)
 
 -- And 19 is answered where it hasn't.
 pub described-short : (s list out : List ℕ) (m : Message) → Bytes s → readOf s ≡ Reading.Read m → rowsEnd m list ≤ length list → length out < length s
     → writeAnswer s (rowsLent s m list) (descriptionOf m) out ≡ Written.Refused 19
 described-short s list out m b q room short =
     let a = accepted-exactly s b .0 (m, q) in
-    refused-19 s (rowsLent s m list) (descriptionOf m) out b .1 (s, a, described-says s list m b q room a, short)
+    refused-19 s (rowsLent s m list) (descriptionOf m) out b .1 (s, a, described-says s list m q room a, short)

@@ -14,10 +14,11 @@ use Rattle.cbor.specs.Tree.{Item, Items, encode, depth, depths, Good}
 use Rattle.syntax.specs.Message.{Loc, Obj, Pair, Aim, Ending, Msg, valuedObj, valuedPair, valued}
 use Rattle.grammar.specs.Cddl.{LocatorItems, Value, PairItems, MessageItem}
 use Rattle.grammar.specs.Stands.{StandAll}
+use Rattle.grammar.proofs.Pairs.{pairLevels}
 use Rattle.message.specs.declared.Series.{Series}
 use Rattle.message.specs.declared.Targets.{Targets}
 use Rattle.message.specs.declared.Extra.{Extra}
-use Rattle.message.specs.declared.Outcome.{Outcome}
+use Rattle.options.specs.declared.Outcome.{Outcome}
 use Rattle.message.specs.declared.Message.{Message}
 use Rattle.exact.specs.Describes.{SeriesIs, AimIs, ExtraIs, OutcomeIs, Describes}
 use Rattle.exact.proofs.Described.{locators-count, pairs-count}
@@ -26,7 +27,7 @@ use Rattle.description.specs.Describe.{placeRow, pairRow, locOf, placeAt, rowLo
 use Rattle.describe.specs.Describe as D
 use Rattle.describe.specs.Rows as R
 use Rattle.roundtrip.specs.Plain.{valueBytes, plain}
-use Rattle.roundtrip.specs.Says.{PlaceSays, PairSays, Rows, ExtraSays, EndingSays, Says}
+use Rattle.roundtrip.specs.Says.{PlaceSays, PairSays, Rows, ExtraSays, OutcomeSays, Says}
 use Rattle.roundtrip.proofs.Encodes.{pairs-many}
 use Rattle.roundtrip.proofs.Places.{past-item, stands-whole, opened-place}
 use Rattle.rewrite.specs.Lent.{rowsLent}
@@ -72,7 +73,7 @@ module _ (s : List ℕ) (by : Bytes s) where
       subst (λ (l : List ℕ). Placed l ls) (sym (lent chain (series .many) list (ltb (length list / placeRow) (series .many)) many room)) (placed-rows chain)
 
   -- of a series of pairs
-  pairs-lent : {e : ℕ} {series : Series} {xs : Items} {ps : List (Pair Value)} (list : List ℕ) → depths xs ≤ mostLevels → StandAll s (series .at) e xs → PairItems xs ps
+  pairs-lent : {e : ℕ} {series : Series} {xs : Items} {ps : List (Pair Value)} (list : List ℕ) → depths xs ≤ pairLevels → StandAll s (series .at) e xs → PairItems xs ps
       → series .many ≡ length ps → R.seriesEnd pairRow series list ≤ length list → Paired (take (R.seriesEnd pairRow series list) (R.seriesFilled pairRow (R.pairNext s) (R.pairStored s) series list)) (map (valuedPair valueBytes) ps)
   unfolding R.seriesEnd R.seriesFilled
   pairs-lent {series = series} {ps = ps} list d a i many room =
@@ -96,8 +97,8 @@ module _ (s : List ℕ) (by : Bytes s) where
 
   -- how a negotiation ends; a reason is the end of the message
   ending-says : {outcome : Outcome} {ending : Ending} (session : ℕ) → OutcomeIs s outcome ending → encodeMsg (Msg.end session ending) ≡ s
-      → EndingSays s (D.endingOf outcome) × (endOf s (D.endingOf outcome) ≡ ending)
-  unfolding D.endingOf endOf encodeMsg encodeEnding string
+      → OutcomeSays s outcome × (endOf s outcome ≡ ending)
+  unfolding endOf encodeMsg encodeEnding string
   ending-says session OutcomeIs.accept e = (tt, refl)
   ending-says session OutcomeIs.decline e = (tt, refl)
   ending-says session (OutcomeIs.reason {content = content} q) e =

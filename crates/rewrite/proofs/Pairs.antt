@@ -13,7 +13,6 @@ use lib.Seq.{sets, getD-append-add}
 use Rattle.base.specs.Pick.{pick}
 use Rattle.base.specs.BigEndian.{Bytes}
 use Rattle.base.proofs.Picks.{both}
-use Rattle.cbor.specs.Item.{mostLevels}
 use Rattle.cbor.specs.Tree.{Item, Items, depth, depths}
 use Rattle.cbor.specs.Token.{tokenAt}
 use Rattle.cbor.proofs.Tokens.{token-end}
@@ -33,7 +32,7 @@ use Rattle.grammar.specs.Cddl.{LocatorItem, Value, PairItem, PairItems}
 use Rattle.grammar.specs.Stands as S
 use Rattle.grammar.specs.Stands.{StandAll, tagOf}
 use Rattle.grammar.proofs.Bridge.{split, advances}
-use Rattle.grammar.proofs.Pairs.{pair-read}
+use Rattle.grammar.proofs.Pairs.{pairLevels, pair-read}
 use Rattle.description.specs.declared.rows.Entry.{Entry}
 use Rattle.description.specs.declared.rows.Place.{Place}
 use Rattle.description.specs.Describe.{pairRow, entryRow, entryOf, objOf, entryAt, locOf, placeAt, locOrNone}
@@ -75,7 +74,7 @@ tag-ok : (m : List ℕ) (base : ℕ) (s : List ℕ) → base + length s ≤ leng
 unfolding pairIn
 tag-ok m base s k =
     both (TagOk m) _ tt
-    (led-ok m base s _ _ (objectiveIn _ (drop (tokenAt s 0 .next) s)) (token-end s 0) k (objective-within s _ (tokenAt s 0 .next) _ _ refl refl))
+    (led-ok m base s _ _ (objectiveIn 3 _ (drop (tokenAt s 0 .next) s)) (token-end s 0) k (objective-within 3 s _ (tokenAt s 0 .next) _ _ refl refl))
 
 -- ---- a row
 -- a tag has five numbers
@@ -180,7 +179,7 @@ module _ (s : List ℕ) (by : Bytes s) where
       (ap₂ (λ (x : Obj (List ℕ)) (y : Option Loc). (x, y)) (goal .is) (tag-is .is), record { kept = refl; objective = goal .says; locator = tag-is .says })
 
   -- the pairs that stand in a message
-  pub pairs-rows : {p e : ℕ} {xs : Items} {ps : List (Pair Value)} → depths xs ≤ mostLevels → StandAll s p e xs → PairItems xs ps → (rows : List (List ℕ)) × Pairs p rows (map (valuedPair valueBytes) ps)
+  pub pairs-rows : {p e : ℕ} {xs : Items} {ps : List (Pair Value)} → depths xs ≤ pairLevels → StandAll s p e xs → PairItems xs ps → (rows : List (List ℕ)) × Pairs p rows (map (valuedPair valueBytes) ps)
   unfolding depth
   pairs-rows d a PairItems.empty = ([], Chain.end)
   pairs-rows {p} d a (PairItems.more {ps = ps} i is) =

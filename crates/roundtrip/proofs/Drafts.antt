@@ -19,13 +19,13 @@ use Rattle.description.specs.declared.rows.Entry.{Entry}
 use Rattle.description.specs.declared.rows.Place.{Place}
 use Rattle.description.specs.declared.Extra.{Extra}
 use Rattle.description.specs.declared.Extra.the-variants as X
-use Rattle.description.specs.declared.Ending.{Ending}
-use Rattle.description.specs.declared.Ending.the-variants as E
+use Rattle.options.specs.declared.Outcome.{Outcome}
+use Rattle.options.specs.declared.Outcome.the-variants as E
 use Rattle.description.specs.declared.Description.{Description}
 use Rattle.description.specs.declared.Description.the-variants as D
 use Rattle.description.specs.Encoding.{string, numberOrNull, reached, fixed, encodeLoc, encodeObj, maybeObj, locOrEmpty, encodePair, encodeTargets, encodeEnding, opening, exchange, encodeMsg}
 use Rattle.description.specs.Describe.{placeRow, pairRow, entryRow, entryOf, objOf, locOf, placeAt, entryAt, rowLoc, locsOf, targetsOf, extraOf, locOrNone, rowPair, pairsOf, endOf, msgOf}
-use Rattle.roundtrip.proofs.Bytes.{bytes-append, bytes-more, bytes-none, bytes-of}
+use Rattle.exact.proofs.Bytes.{bytes-append, bytes-more, bytes-none, bytes-of}
 use Rattle.roundtrip.proofs.Script.{info-least}
 use Rattle.roundtrip.proofs.Judged.{bytes-held, up-to-exactly}
 
@@ -134,7 +134,7 @@ module _ (source : List ℕ) (b : Bytes source) where
   exchange-bytes kind session o = then (opening-bytes 3 kind session) (objective-bytes o)
 
   -- how a negotiation ends
-  ending-bytes : (e : Ending) → AllBytes (encodeEnding (endOf source e))
+  ending-bytes : (e : Outcome) → AllBytes (encodeEnding (endOf source e))
   unfolding endOf encodeEnding
   ending-bytes E.Accept = then (array-bytes 1) (number-bytes 101)
   ending-bytes E.Decline = then (array-bytes 1) (number-bytes 102)

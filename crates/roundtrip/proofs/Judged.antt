@@ -29,13 +29,13 @@ use Rattle.description.specs.declared.rows.Entry.{Entry}
 use Rattle.description.specs.declared.rows.Place.{Place}
 use Rattle.description.specs.declared.Extra.{Extra}
 use Rattle.description.specs.declared.Extra.the-variants as X
-use Rattle.description.specs.declared.Ending.{Ending}
-use Rattle.description.specs.declared.Ending.the-variants as E
+use Rattle.options.specs.declared.Outcome.{Outcome}
+use Rattle.options.specs.declared.Outcome.the-variants as E
 use Rattle.description.specs.declared.Description.{Description}
 use Rattle.description.specs.declared.Description.the-variants as D
 use Rattle.description.specs.Describe.{placeRow, pairRow, entryRow, upTo, entryOf, objOf, placeAt, entryAt, rowPair, pairsOf, extraOf, msgOf}
-use Rattle.description.specs.Judge.{okDiscovery, okResponse, okFlood, okParts, okList, okDescribed, alone, whole, inside, okValue, okItem, okEntry, okPlace, blank, okNoneOr, allFrom, okEach, okRow, okRows, okPair, okPairs, okExtra, okEnding}
-use Rattle.roundtrip.specs.Says.{Inside, EntrySays, PlaceSays, Blank, PairSays, Rows, ExtraSays, EndingSays, PartsSay}
+use Rattle.description.specs.Judge.{okDiscovery, okResponse, okFlood, okParts, okList, okDescribed, alone, whole, inside, okValue, okItem, okEntry, okPlace, blank, okNoneOr, allFrom, okEach, okRow, okRows, okPair, okPairs, okExtra, okOutcome}
+use Rattle.roundtrip.specs.Says.{Inside, EntrySays, PlaceSays, Blank, PairSays, Rows, ExtraSays, OutcomeSays, PartsSay}
 use Rattle.roundtrip.proofs.Script.{Each, Valued}
 use Rattle.roundtrip.proofs.Once.{ValuedObj, ValuedPair, ValuedMsg}
 
@@ -254,11 +254,11 @@ module _ (source : List ℕ) (b : Bytes source) where
   extra-exactly (X.With o) = entry-exactly (entryOf o)
 
   -- how a negotiation ends
-  ending-exactly : (e : Ending) → okEnding source e ≡ true ↔ EndingSays source e
-  unfolding okEnding
-  ending-exactly E.Accept = (λ h. tt, λ h. refl)
-  ending-exactly E.Decline = (λ h. tt, λ h. refl)
-  ending-exactly (E.Reason t) = inside-exactly source t
+  outcome-exactly : (e : Outcome) → okOutcome source e ≡ true ↔ OutcomeSays source e
+  unfolding okOutcome
+  outcome-exactly E.Accept = (λ h. tt, λ h. refl)
+  outcome-exactly E.Decline = (λ h. tt, λ h. refl)
+  outcome-exactly (E.Reason t) = inside-exactly source t
 
   -- ---- descriptions
   -- an objective, and no list
@@ -282,7 +282,7 @@ module _ (source : List ℕ) (b : Bytes source) where
   described-exactly list (D.RequestSynchronization s o) = exchange-exactly list (entryOf o)
   described-exactly list (D.Negotiate s o) = exchange-exactly list (entryOf o)
   described-exactly list (D.End s e) =
-      retold (and-exactly (list-exactly list) (ending-exactly e)) (λ h. (h, tt)) (λ h. h .0)
+      retold (and-exactly (list-exactly list) (outcome-exactly e)) (λ h. (h, tt)) (λ h. h .0)
   described-exactly list (D.Wait s t) = retold (and-exactly (list-exactly list) always) (λ h. (h .0, tt)) (λ h. (h .0, tt))
   described-exactly list (D.Synch s o) = exchange-exactly list (entryOf o)
   described-exactly list (D.Flood s i t) =

@@ -3,9 +3,8 @@
 pub mod Read
 pub mod Relay
 pub mod Write
--- For callers' proofs: items that are messages, encoded; encodings are bytes; where a message's items stand.
+-- For callers' proofs: items that are messages, encoded; where a message's items stand.
 pub mod Encodes
-pub mod Bytes
 pub mod Places
 -- For the proofs of this crate: where the count stands; messages that are encoded alike are the same; what the judge passes; bytes
 -- handed over.

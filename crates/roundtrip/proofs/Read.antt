@@ -1,9 +1,8 @@
--- Bytes that are accepted: they are bytes, and they are the writer's encoding of their message.
+-- Bytes that are accepted are the writer's encoding of their message.
 -- Assumes nothing.
-use mathlib.Core.Path.{_≡_, sym, ap, _∙_, subst}
+use mathlib.Core.Path.{_≡_, sym, ap, _∙_}
 use mathlib.Core.List.{List}
 use Prim.Native.Nat.{ℕ}
-use Rattle.base.specs.BigEndian.{Bytes}
 use Rattle.exact.specs.Accepted.{Accepted}
 use Rattle.description.specs.declared.Description.{Description}
 use Rattle.description.specs.Encoding.{encodeMsg}
@@ -11,13 +10,8 @@ use Rattle.description.specs.Describe.{msgOf}
 use Rattle.writer.specs.Write.{draftOf}
 use Rattle.roundtrip.specs.Plain.{plain}
 use Rattle.roundtrip.proofs.Encodes.{plain-encodes}
-use Rattle.roundtrip.proofs.Bytes.{bytes-encode}
 
 -- for readers
-
--- Accepted bytes are bytes.
-pub accepted-bytes : (s : List ℕ) → Accepted s → Bytes s
-accepted-bytes s a = subst Bytes (a .message .bytes) (bytes-encode (a .message .item) (a .message .good))
 
 -- What was read, encoded again, is what it was.
 pub read-encoded : (s : List ℕ) (a : Accepted s) → encodeMsg (plain (a .message .msg)) ≡ s

@@ -31,14 +31,14 @@ use Rattle.contents.specs.Fields.{kindOf, sessionOf, initiatorOf, objectiveOf}
 use Rattle.message.specs.Read.{mostBytes, readOf}
 use Rattle.exact.specs.Accepted.{Accepted}
 use Rattle.exact.specs.Describes.{InitiatorIs, Describes}
-use Rattle.exact.proofs.Exact.{accepted-exactly, accepted-described}
+use Rattle.exact.proofs.Exact.{accepted-exactly, accepted-bytes, accepted-described}
 use Rattle.description.specs.Encoding.{encodeMsg}
 use Rattle.writer.specs.declared.Written.{Written}
 use Rattle.writer.specs.Write.{lowered, passes, passAnswer, passOut, okLower, lowerAnswer, lowerOut}
 use Rattle.roundtrip.specs.Plain.{plain}
 use Rattle.roundtrip.specs.Lower.{withCount, lowerObj, lowerMsg, Lowers, loweredBy, Relays}
 use Rattle.roundtrip.proofs.Hand.{handed}
-use Rattle.roundtrip.proofs.Read.{accepted-bytes, read-encoded}
+use Rattle.roundtrip.proofs.Read.{read-encoded}
 use Rattle.roundtrip.proofs.Counts.{Hole, hole}
 
 -- ---- texts and names
@@ -177,10 +177,10 @@ relays Lowers.flood (Describes.flood k n i t s a o) (Describes.flood {o = o′} 
     }
 
 -- the count of a message that was read
-count-hole : (s : List ℕ) (m : Message) (o : Objective) → Bytes s → readOf s ≡ Reading.Read m → Lowers m o → (a : Accepted s)
+count-hole : (s : List ℕ) (m : Message) (o : Objective) → readOf s ≡ Reading.Read m → Lowers m o → (a : Accepted s)
     → Hole s (o .«count_at») (o .value .at) (o .count) (a .message .msg)
-count-hole s m o b q low a =
-    hole low (accepted-described s m b q a) (a .message .is) (a .message .good) (a .message .shallow) (a .message .bytes)
+count-hole s m o q low a =
+    hole low (accepted-described s m q a) (a .message .is) (a .message .good) (a .message .shallow) (a .message .bytes)
 
 -- a number that is neither
 neither : {n : ℕ} → (n ≡ 1) ⊎ (n ≡ 9) → (n ≡ 1 → ⊥) → (n ≡ 9 → ⊥) → ⊥
@@ -205,29 +205,29 @@ lowers-by (M.Synch session objective) o k e = absurd (neither k (λ e. omega ari
 lowers-by (M.Invalid session item) o k e = absurd (neither k (λ e. omega arith) (λ e. omega arith))
 
 -- A Discovery or a Flood with its count's head replaced is accepted, as the same message with that count one lower.
-pub lowered-accepts : (s : List ℕ) (m : Message) (o : Objective) → Bytes s → readOf s ≡ Reading.Read m → Lowers m o → (a : Accepted s)
+pub lowered-accepts : (s : List ℕ) (m : Message) (o : Objective) → readOf s ≡ Reading.Read m → Lowers m o → (a : Accepted s)
     → (a′ : Accepted (loweredBy s o)) × (a′ .message .msg ≡ lowerMsg (a .message .msg))
-lowered-accepts s m o b q low a = lowered-accepted (count-hole s m o b q low a) (a .message .most) (a .texts) (a .names)
+lowered-accepts s m o q low a = lowered-accepted (count-hole s m o q low a) (a .message .most) (a .texts) (a .names)
 
 -- It is read, with the kind, the session and the initiator that it had, and a count one lower.
 pub lowered-reads : (s : List ℕ) (m : Message) (o : Objective) → Bytes s → readOf s ≡ Reading.Read m → Lowers m o
     → (m′ : Message) × (readOf (loweredBy s o) ≡ Reading.Read m′) × Relays s m o (loweredBy s o) m′
 lowered-reads s m o b q low =
     let a = accepted-exactly s b .0 (m, q) in
-    let (a′, same) = lowered-accepts s m o b q low a in
+    let (a′, same) = lowered-accepts s m o q low a in
     let l = accepted-bytes (loweredBy s o) a′ in
     let (m′, q′) = accepted-exactly (loweredBy s o) l .1 a′ in
-    (m′, q′, relays low (accepted-described s m b q a) (subst (Describes (loweredBy s o) m′) same (accepted-described (loweredBy s o) m′ l q′ a′)))
+    (m′, q′, relays low (accepted-described s m q a) (subst (Describes (loweredBy s o) m′) same (accepted-described (loweredBy s o) m′ q′ a′)))
 
 -- It isn't longer.
 pub lowered-shorter : (s : List ℕ) (m : Message) (o : Objective) → Bytes s → readOf s ≡ Reading.Read m → Lowers m o → length (loweredBy s o) ≤ length s
-lowered-shorter s m o b q low = shorter (count-hole s m o b q low (accepted-exactly s b .0 (m, q)))
+lowered-shorter s m o b q low = shorter (count-hole s m o q low (accepted-exactly s b .0 (m, q)))
 
 -- It is what the writer writes for that message.
-pub lowered-written : (s : List ℕ) (m : Message) (o : Objective) → Bytes s → readOf s ≡ Reading.Read m → Lowers m o → (a : Accepted s)
+pub lowered-written : (s : List ℕ) (m : Message) (o : Objective) → readOf s ≡ Reading.Read m → Lowers m o → (a : Accepted s)
     → loweredBy s o ≡ encodeMsg (plain (lowerMsg (a .message .msg)))
-lowered-written s m o b q low a =
-    let (a′, same) = lowered-accepts s m o b q low a in
+lowered-written s m o q low a =
+    let (a′, same) = lowered-accepts s m o q low a in
     sym (read-encoded (loweredBy s o) a′) ∙ ap (λ (msg : Msg Value). encodeMsg (plain msg)) same
 
 -- So `lower` gives it, where the count is above 0 and the output has room for the message.
@@ -237,7 +237,7 @@ pub lowered-given : (s : List ℕ) (m : Message) (o : Objective) (out : List ℕ
 unfolding lowerAnswer lowerOut okLower passAnswer passOut passes pick
 lowered-given s m o out b q low some room =
     let a = accepted-exactly s b .0 (m, q) in
-    let (lo, hi) = within (count-hole s m o b q low a) in
+    let (lo, hi) = within (count-hole s m o q low a) in
     let less : length (loweredBy s o) ≤ length s = lowered-shorter s m o b q low in
     let few : length (loweredBy s o) ≤ mostBytes = omega (arith, a .message .most) in
     rw (ne-eqb (o .count) 0 (λ e. omega arith), le-ltb (o .value .at) (o .«count_at») lo, le-ltb (length s) (o .value .at) hi, le-ltb mostBytes (length (loweredBy s o)) few)

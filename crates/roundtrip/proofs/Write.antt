@@ -17,7 +17,7 @@ use Rattle.message.specs.declared.Message.{Message}
 use Rattle.message.specs.declared.Reading.{Reading}
 use Rattle.message.specs.Read.{mostBytes, readOf}
 use Rattle.exact.specs.Accepted.{Accepted}
-use Rattle.exact.proofs.Exact.{accepted-exactly}
+use Rattle.exact.proofs.Exact.{accepted-exactly, accepted-bytes}
 use Rattle.description.specs.declared.Description.{Description}
 use Rattle.writer.specs.declared.Written.{Written}
 use Rattle.description.specs.Describe.{msgOf}
@@ -26,7 +26,7 @@ use Rattle.writer.specs.Write.{accepted, accepts, handAnswer, handOut, passes, 
 use Rattle.roundtrip.specs.Plain.{plain}
 use Rattle.roundtrip.specs.Says.{Says, ReadsBack}
 use Rattle.roundtrip.proofs.Hand.{hand-not-18, handed, hand-length, hand-19}
-use Rattle.roundtrip.proofs.Read.{accepted-bytes, read-encoded, read-drafted}
+use Rattle.roundtrip.proofs.Read.{read-encoded, read-drafted}
 use Rattle.roundtrip.proofs.Once.{ValuedMsg, message-once}
 use Rattle.roundtrip.proofs.Within.{plain-small, plain-valued}
 use Rattle.roundtrip.proofs.Judged.{never, described-exactly}

@@ -15,8 +15,8 @@ use Rattle.description.specs.declared.rows.Entry.{Entry}
 use Rattle.description.specs.declared.rows.Place.{Place}
 use Rattle.description.specs.declared.Extra.{Extra}
 use Rattle.description.specs.declared.Extra.the-variants as X
-use Rattle.description.specs.declared.Ending.{Ending}
-use Rattle.description.specs.declared.Ending.the-variants as E
+use Rattle.options.specs.declared.Outcome.{Outcome}
+use Rattle.options.specs.declared.Outcome.the-variants as E
 use Rattle.description.specs.declared.Description.{Description}
 use Rattle.description.specs.declared.Description.the-variants as D
 use Rattle.description.specs.Describe.{placeRow, pairRow, entryRow, entryOf, placeAt, entryAt, msgOf}
@@ -63,10 +63,10 @@ ExtraSays source X.Without = Unit {0}
 ExtraSays source (X.With o) = EntrySays source (entryOf o)
 
 -- how a negotiation ends
-abbrev pub EndingSays : List ℕ → Ending → Type 0
-EndingSays source E.Accept = Unit {0}
-EndingSays source E.Decline = Unit {0}
-EndingSays source (E.Reason t) = Inside source t
+abbrev pub OutcomeSays : List ℕ → Outcome → Type 0
+OutcomeSays source E.Accept = Unit {0}
+OutcomeSays source E.Decline = Unit {0}
+OutcomeSays source (E.Reason t) = Inside source t
 
 -- what a description holds
 abbrev pub PartsSay : List ℕ → List ℕ → Description → Type 0
@@ -76,7 +76,7 @@ PartsSay source list (D.Response s i t d o) = Inside source i × Rows list place
 PartsSay source list (D.RequestNegotiation s o) = (list ≡ []) × EntrySays source (entryOf o)
 PartsSay source list (D.RequestSynchronization s o) = (list ≡ []) × EntrySays source (entryOf o)
 PartsSay source list (D.Negotiate s o) = (list ≡ []) × EntrySays source (entryOf o)
-PartsSay source list (D.End s e) = (list ≡ []) × EndingSays source e
+PartsSay source list (D.End s e) = (list ≡ []) × OutcomeSays source e
 PartsSay source list (D.Wait s t) = list ≡ []
 PartsSay source list (D.Synch s o) = (list ≡ []) × EntrySays source (entryOf o)
 PartsSay source list (D.Flood s i t) = Inside source i × Rows list pairRow (PairSays source list)

@@ -15,8 +15,6 @@ use Rattle.base.proofs.Picks.{pick-case, past}
 use Rattle.utf8.specs.Utf8.{tailsOf, leastTail, greatestTail, goesOn, isUtf8, scalarBytes, textBytes, Scalars}
 use Rattle.utf8.proofs.Utf8Scalar.{tails-case, passed, Spells, spells-one, spells-two, spells-three, spells-four, firstOf, first-is, some-bytes}
 
--- for readers
-
 -- s is the bytes of some text
 abbrev Text : List ℕ → Type 0
 Text s = (cs : List ℕ) × Scalars cs × (textBytes cs ≡ s)
@@ -76,6 +74,8 @@ complete : (cs : List ℕ) → Scalars cs → isUtf8 (textBytes cs) ≡ true
 unfolding isUtf8 textBytes Scalars goesOn
 complete [] g = refl
 complete (c ∷ cs) g = passed c (textBytes cs) (g .0) ∙ complete cs (g .1)
+
+-- for readers
 
 -- What is accepted is just the bytes of texts, lists of scalar values,
 pub utf8-exactly : (s : List ℕ) → isUtf8 s ≡ true ↔ (cs : List ℕ) × Scalars cs × (textBytes cs ≡ s)

@@ -1,11 +1,23 @@
 // UTF-8 (RFC 3629).
 ghost use mathlib.Core.Path.{_≡_};
-ghost use Prim.Native.Nat.{_-_};
-ghost use lib.ListN.{take, drop};
 ghost use Rattle.utf8.specs.Utf8.{tailsOf, leastTail, greatestTail, isUtf8};
 
-// Whether `s` is UTF-8.
+// Whether `s` is UTF-8. Texts are nearly all ASCII, so bytes below 128 are passed over up to the first other one.
 pub fn is_utf8(s: &[u8]) -> bool
+    ensures { λ r. ⌜ r ≡ isUtf8 (now (s .entry)) ⌝ }
+{
+    let mut at: usize = 0;
+    while at < s.len() {
+        if 0x80 <= s[at] {
+            return is_utf8_from(&s[at..]);
+        }
+        at += 1;
+    }
+    true
+}
+
+// The same, for any bytes: `is_utf8` asks it from the first byte on that is not ASCII.
+fn is_utf8_from(s: &[u8]) -> bool
     ensures { λ r. ⌜ r ≡ isUtf8 (now (s .entry)) ⌝ }
 {
     // How many tails are still due, and the range of the next one.
@@ -38,22 +50,6 @@ pub fn is_utf8(s: &[u8]) -> bool
         }
     }
     due == 0
-}
-
-// Whether the bytes of s from `from` on and before `to` are UTF-8: those of them that there are.
-pub fn is_utf8_in(s: &[u8], from: usize, to: usize) -> bool
-    ensures { λ r. ⌜ r ≡ isUtf8 (take (to - from) (drop from (now (s .entry)))) ⌝ }
-{
-    if to <= from {
-        return true;
-    }
-    if s.len() <= from {
-        return true;
-    }
-    if s.len() < to {
-        return is_utf8(&s[from..]);
-    }
-    is_utf8(&s[from..to])
 }
 
 // How many tails follow the lead byte `b`: none where `b` is no lead byte.

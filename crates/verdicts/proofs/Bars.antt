@@ -1,16 +1,16 @@
 -- A node call is barred with 12 to 17 exactly as the rules say.
 -- Assumes nothing.
-use mathlib.Core.Path.{_≡_, refl, ap, _∙_, subst}
+use mathlib.Core.Path.{_≡_, refl, ap, subst}
 use mathlib.Core.Logic.{_⊎_, inl, inr, _↔_}
 use mathlib.Core.Bool.{Bool, true, false, not, _||_}
 use mathlib.Core.List.{List}
-use Prim.Native.Nat.{ℕ, zero, suc, _+_, _^_, _≤_, _<_}
+use Prim.Native.Nat.{ℕ, zero, suc, _^_, _≤_, _<_}
 use native.Mathlib.Nat.{le-trans}
 use native.Mathlib.Decide.{decLt}
 use native.Mathlib.Omega.{arith}
 use lib.Dec.{ltb, leb, eqb}
 use lib.ListN.{length}
-use lib.Pow.{pow-add, pow-mono, pow-pos}
+use lib.Pow.{pow-mono, pow-pos}
 use borrow.Author.Tests.{ltb-true, leb-true, eqb-true, lt-ltb, le-leb, eq-eqb, not-true}
 use Rattle.base.specs.Pick.{pick}
 use Rattle.base.proofs.Picks.{pick-case}
@@ -23,21 +23,12 @@ use Rattle.node.specs.Call.{Call, barred}
 use Rattle.node_state.proofs.Masks.{up-le}
 use Rattle.verdicts.specs.Bars.{BadRecord, no-interface, many-interfaces, high-link, high-tally, BadArrival, Earlier, GoodTable, BadNames, ShortOutput, Barred, bad-record, bad-arrival, bad-clock, bad-table, bad-names, short-output, nothing}
 use Rattle.verdicts.specs.Due.{bar}
-use Rattle.verdicts.proofs.Links.{top-off}
+use Rattle.verdicts.proofs.Links.{below-power, top-off}
 use Rattle.verdicts.proofs.Rows.{table-good}
 
 -- ---- a link bit at or above the count
 
-below-power : (n : ℕ) → n < 2 ^ n
-below-power zero = pow-pos 0
-below-power (suc n) =
-    let width : suc n ≡ 1 + n = omega arith in
-    let double : 2 ^ suc n ≡ 2 ^ n + 2 ^ n = ap (λ (k : ℕ). 2 ^ k) width ∙ pow-add 2 1 n ∙ omega arith in
-    let ih = below-power n in
-    let some : 0 < 2 ^ n = pow-pos n in
-    omega arith
-
-high-bit : (wide n mask : ℕ) → mask < 2 ^ wide → 2 ^ n ≤ mask → (j : ℕ) × (n ≤ j) × (isUp mask j ≡ true)
+pub high-bit : (wide n mask : ℕ) → mask < 2 ^ wide → 2 ^ n ≤ mask → (j : ℕ) × (n ≤ j) × (isUp mask j ≡ true)
 high-bit zero n mask h l = let some : 0 < 2 ^ n = pow-pos n in absurd (omega arith)
 high-bit (suc wide) n mask h l = go (true-or-false (isUp mask wide)) (decLt wide n) (λ small. high-bit wide n mask small l)
   where
@@ -49,12 +40,12 @@ high-bit (suc wide) n mask h l = go (true-or-false (isUp mask wide)) (decLt wide
 
 -- ---- tests
 
-either : (a b : Bool) → (a ≡ true) ⊎ (b ≡ true) → (a || b) ≡ true
+pub either : (a b : Bool) → (a ≡ true) ⊎ (b ≡ true) → (a || b) ≡ true
 either true b h = refl
 either false b (inl e) = absurd (not-both false e refl)
 either false b (inr e) = e
 
-record-test : (r : Record) → recordBad r ≡ true ↔ BadRecord r
+pub record-test : (r : Record) → recordBad r ≡ true ↔ BadRecord r
 unfolding recordBad linksBad
 record-test r = (λ e. there (or-true (eqb n 0 || ltb 8 n || leb (2 ^ n) mask) (ltb (2 ^ 63) (r .tally)) e), back)
   where

@@ -16,10 +16,10 @@ use Rattle.cbor.specs.Tree.{infoOf, headBytes, shortest}
 use Rattle.cbor.specs.Put.{head}
 use Rattle.options.specs.declared.objective.Objective.{Objective}
 use Rattle.options.specs.Text.{spanOf, badText, firstOf, held}
-use Rattle.options.specs.Objective.{longName, objectiveIn}
+use Rattle.options.specs.Objective.{longName, objectiveOf, objectiveIn}
 use Rattle.options.specs.Pair.{isEmpty, pairTagged, pairTail, pairLed, pairIn}
 use Rattle.message.specs.declared.Message.the-variants as M
-use Rattle.message.specs.declared.Outcome.{Outcome}
+use Rattle.options.specs.declared.Outcome.{Outcome}
 use Rattle.message.specs.declared.Reading.{Reading}
 use Rattle.message.specs.Opening.{isInitiator, openingAt}
 use Rattle.message.specs.Sequence.{pairNext, pairsFrom}
@@ -108,5 +108,5 @@ pub starred :
     ∷ [])
     × (outcomes (arrives 1000 (flood 2) ∷ [])
     ≡ afterOf (replies (Given Relay true 6 20) (node 1000 2)) (oneRow (7 + 2 ^ 32 * 3) 0xc0000201 0 1000) (flood 1 ++ replicate 2028 0) ∷ [])
-unfolding pick bigEndian bytesOf widthOf leastOf initialOf argOf headJudged headFrom headBy headOf headAt opens stepOf stepFrom stepAt itemsOf next run enough firstItem nothingAt tokenOf tokenFrom tokenAt sizeFrom sizeAt itemsIn upTo tailsOf leastTail greatestTail goesOn isUtf8 infoOf headBytes shortest head badText firstOf longName objectiveIn isEmpty pairTagged pairTail pairLed pairIn isInitiator openingAt pairNext pairsFrom noopAt discovered discoveryAt optionAt endAt floodedBy floodedOf floodedAt floodBy floodAt byKind judged shaped framed examined placeless readOf lowered goodName goodNames arrayBad framedBad namesBad sameBytes ownFrom isOwn linksBad recordBad fresh isUp arrivalBad others clocked tallied freshTable cell putRow rowFree tagIn initiatorFits rowKeyed rowUsed rowBad firstFrom someRow tableBad rowLife rowDead freeRows freed lowestFree rowMatches isKnown roleOf tagOf keyOf keyIn barred refuse quiet written onward laterVerdict verdictOn relayed carriedOut taken callJudged nodeCall steps ones onesIn
+unfolding pick bigEndian bytesOf widthOf leastOf initialOf argOf headJudged headFrom headBy headOf headAt opens stepOf stepFrom stepAt itemsOf next run enough firstItem nothingAt tokenOf tokenFrom tokenAt sizeFrom sizeAt itemsIn upTo tailsOf leastTail greatestTail goesOn isUtf8 infoOf headBytes shortest head badText firstOf longName objectiveOf objectiveIn isEmpty pairTagged pairTail pairLed pairIn isInitiator openingAt pairNext pairsFrom noopAt discovered discoveryAt optionAt endAt floodedBy floodedOf floodedAt floodBy floodAt byKind judged shaped framed examined placeless readOf lowered goodName goodNames arrayBad framedBad namesBad sameBytes ownFrom isOwn linksBad recordBad fresh isUp arrivalBad others clocked tallied freshTable cell putRow rowFree tagIn initiatorFits rowKeyed rowUsed rowBad firstFrom someRow tableBad rowLife rowDead freeRows freed lowestFree rowMatches isKnown roleOf tagOf keyOf keyIn barred refuse quiet written onward laterVerdict verdictOn relayed carriedOut taken callJudged nodeCall steps ones onesIn
 starred = (refl, refl, refl, refl, refl, refl, refl, refl, refl, refl, refl, refl, refl, refl, refl, refl, refl, refl, refl)

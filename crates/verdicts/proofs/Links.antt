@@ -27,6 +27,16 @@ below-bit n rest j l =
     low-bits (2 ^ n + rest) rest j
     (ap (λ (z : ℕ). (z + rest) % 2 ^ (1 + j)) (sym parts) ∙ mul-add-mod-self-right (2 ^ (n - (1 + j))) (2 ^ (1 + j)) rest)
 
+-- any mask is of some width
+pub below-power : (n : ℕ) → n < 2 ^ n
+below-power zero = pow-pos 0
+below-power (suc n) =
+    let width : suc n ≡ 1 + n = omega arith in
+    let double : 2 ^ suc n ≡ 2 ^ n + 2 ^ n = ap (λ (k : ℕ). 2 ^ k) width ∙ pow-add 2 1 n ∙ omega arith in
+    let ih = below-power n in
+    let some : 0 < 2 ^ n = pow-pos n in
+    omega arith
+
 -- without its highest bit a mask is shorter
 pub top-off : (n mask : ℕ) → mask < 2 ^ suc n → isUp mask n ≡ false → mask < 2 ^ n
 unfolding isUp
@@ -118,8 +128,8 @@ others-exactly mask i up j = (
 )
 
 -- Of a mask that has bit i, nothing is left without it exactly if no other bit is set.
-pub alone-exactly : (n mask i : ℕ) → mask < 2 ^ n → isUp mask i ≡ true → mask - 2 ^ i ≡ 0 ↔ ((j : ℕ) → j ≢ i → isUp mask j ≡ false)
-alone-exactly n mask i h up = (there, λ off. back (only-bit n mask i h (λ j l. off j)))
+pub alone-exactly : (mask i : ℕ) → isUp mask i ≡ true → mask - 2 ^ i ≡ 0 ↔ ((j : ℕ) → j ≢ i → isUp mask j ≡ false)
+alone-exactly mask i up = (there, λ off. back (only-bit mask mask i (below-power mask) (λ j l. off j)))
   where
     there : mask - 2 ^ i ≡ 0 → (j : ℕ) → j ≢ i → isUp mask j ≡ false
     there e j other =

@@ -34,7 +34,6 @@ use Rattle.node_state.specs.Key.{keyOf}
 use Rattle.node.specs.Role.{spreadOf, roleOf, keyIn}
 use Rattle.node.specs.Call.{Call, After, refuse, quiet, answered, relayed, laterVerdict, verdictOn, carriedOut, taken, judged, nodeCall, Passed}
 use Rattle.node.specs.History.{isRelay}
-use Rattle.node_state.proofs.Masks.{record-links}
 use Rattle.node_state.proofs.Keys.{key-used}
 use Rattle.node.proofs.Outcomes.{passed, arrives}
 use Rattle.verdicts.specs.Due.{namesFrom, namesIn, Ours, Known, Alone, Full, Rules, when, otherwise, First, discoveryRules, floodRules, rulesOn, Due, Does, sends-nothing, answers, relays-discovery, relays-flood, bar, Comes, barred-by, unread, given}
@@ -132,7 +131,7 @@ module _ (r : Record) (t : List ℕ) (c : Call) (p : Passed r t (c .clock) (c .i
   unfolding clocked others
   alone-test =
       let left = r .links - 2 ^ c .interface in
-      let exact = alone-exactly (r .interfaces) (r .links) (c .interface) (record-links r (p .good) .small) (arrives r (c .interface) (p .good) (p .arrives) .up) in
+      let exact = alone-exactly (r .links) (c .interface) (arrives r (c .interface) (p .good) (p .arrives) .up) in
       decides (λ e. exact .0 (eqb-true left 0 e), λ a. eq-eqb left 0 (exact .1 a))
 
   full-test : Decides (leb 64 (lowestFree (freed (c .clock) t))) (Full t c)

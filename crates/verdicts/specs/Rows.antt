@@ -12,7 +12,7 @@ pub record Free (t : List ℕ) (i : ℕ) : Type 0 where
   pub third : cell t i 2 ≡ 0
   pub fourth : cell t i 3 ≡ 0
 
--- a tag, the bytes of its initiator, and for how many ms its row lives
+-- a tag, how many bytes its initiator has, and for how many ms its row lives
 pub data Tag : ℕ → ℕ → ℕ → Type 0 where
   discovery-4 : Tag 1 4 60000
   discovery-16 : Tag 2 16 60000

@@ -33,7 +33,7 @@ pub record Relayed (r : Record) (t : List ℕ) (c : Call) (s : Spread) (mask len
   pub links : (j : ℕ) → isUp mask j ≡ true ↔ ((isUp (r .links) j ≡ true) × (j ≢ c .interface))
   -- the copies are the ones in that mask
   pub node : a .called .node ≡ tallied (clocked r (c .clock)) (ones mask)
-  -- the message with that count one lower is in front of the output
+  -- the message with its count one lower is in front of the output
   pub long : len ≡ length (onward (c .message) (s .objective))
   pub output : a .output ≡ written (onward (c .message) (s .objective)) (c .output)
 

@@ -194,7 +194,7 @@ fn rewrite_in(message: &mut [u8], list: &mut [u64], out: &mut [u8]) {
 }
 
 fn rewrite(message: &[u8], list: &mut [u64], out: &mut [u8]) {
-    let reading = message::read(message);
+    let reading = reader::read(message);
     match reading {
         Reading::Refused(number) => {
             print_number(b"refused ", number as u64);

@@ -16,7 +16,7 @@ use Rattle.cbor.specs.Tree.{infoOf, headBytes, shortest}
 use Rattle.cbor.specs.Put.{head}
 use Rattle.options.specs.Text.{badText, firstOf}
 use Rattle.options.specs.Locator.{isNull, addressFits, protocolOf, portOf, locatorOf, textOf, locatorIn}
-use Rattle.options.specs.Objective.{longName, objectiveIn}
+use Rattle.options.specs.Objective.{longName, objectiveOf, objectiveIn}
 use Rattle.options.specs.Pair.{isEmpty, pairTagged, pairTail, pairLed, pairIn}
 use Rattle.message.specs.Opening.{isInitiator, openingAt}
 use Rattle.message.specs.Sequence.{textLed, locatorNext, locatorsFrom, pairNext, pairsFrom}
@@ -27,12 +27,12 @@ use Rattle.message.specs.Read.{byKind, judged, shaped, framed, examined, placel
 use Rattle.syntax.specs.Message.{orNull}
 use Rattle.description.specs.Encoding.{string, numberOrNull, reached, fixed, encodeLoc, oneMore, encodeObj, maybeObj, howMany, locOrEmpty, encodePair, targetItems, encodeTargets, encodeEnding, opening, exchange, encodeMsg}
 use Rattle.description.specs.Describe.{upTo, entryOf, objOf, locOf, placeAt, rowLoc, locsOf, targetsOf, extraOf, entryAt, locOrNone, rowPair, pairsOf, endOf, msgOf}
-use Rattle.description.specs.Judge.{alone, whole, inside, okValue, okItem, okEntry, okPlace, blank, okNoneOr, allFrom, okEach, okRow, okRows, okPair, okPairs, okExtra, okEnding, okDiscovery, okResponse, okFlood, okParts, okList, okDescribed}
+use Rattle.description.specs.Judge.{alone, whole, inside, okValue, okItem, okEntry, okPlace, blank, okNoneOr, allFrom, okEach, okRow, okRows, okPair, okPairs, okExtra, okOutcome, okDiscovery, okResponse, okFlood, okParts, okList, okDescribed}
 use Rattle.writer.specs.Write.{accepts, handAnswer, handOut, passes, passAnswer, passOut, draftOf, writeAnswer, writeOut, lowered, okLower, lowerAnswer, lowerOut, answerOf}
 use Rattle.description.specs.declared.Description.{Description}
 use Rattle.description.specs.declared.Description.the-variants as D
 use Rattle.description.specs.declared.Extra.the-variants as X
-use Rattle.description.specs.declared.Ending.the-variants as E
+use Rattle.options.specs.declared.Outcome.the-variants as E
 use Rattle.writer.specs.declared.Written.{Written}
 
 -- 2001:db8::1, 192.0.2.1 and "EX1", one after the other
@@ -83,7 +83,7 @@ pub written :
     × (writeOut source floodRow floodTold (replicate 20 0) ≡ floodBytes 2)
     × (writeAnswer [] [] endTold (replicate 6 0) ≡ Written.Length 6)
     × (writeOut [] [] endTold (replicate 6 0) ≡ endBytes)
-unfolding pick bigEndian bytesOf widthOf leastOf initialOf argOf headJudged headFrom headBy headOf headAt opens stepOf stepFrom stepAt itemsOf next run enough firstItem nothingAt tokenOf tokenFrom tokenAt sizeFrom sizeAt itemsIn tokenUpTo tailsOf leastTail greatestTail goesOn isUtf8 infoOf headBytes shortest head badText firstOf isNull addressFits protocolOf portOf locatorOf textOf locatorIn longName objectiveIn isEmpty pairTagged pairTail pairLed pairIn isInitiator openingAt textLed locatorNext locatorsFrom pairNext pairsFrom noopAt discovered discoveryAt exchangeOf exchanged exchangeAt waitAt invalidAt optionAt endAt responseBy responseAt floodedBy floodedOf floodedAt floodBy floodAt byKind judged shaped framed examined placeless readOf string numberOrNull reached fixed encodeLoc oneMore encodeObj maybeObj howMany locOrEmpty encodePair flatMap targetItems encodeTargets encodeEnding opening exchange encodeMsg upTo entryOf objOf orNull locOf placeAt rowLoc locsOf targetsOf extraOf entryAt locOrNone rowPair pairsOf endOf msgOf alone whole accepts inside okValue okItem okEntry okPlace blank okNoneOr allFrom okEach okRow okRows okPair okPairs okExtra okEnding okDiscovery okResponse okFlood okParts okList okDescribed handAnswer handOut passes passAnswer passOut draftOf writeAnswer writeOut lowered okLower lowerAnswer lowerOut answerOf targetsAt locatedAt locatedOf restAt
+unfolding pick bigEndian bytesOf widthOf leastOf initialOf argOf headJudged headFrom headBy headOf headAt opens stepOf stepFrom stepAt itemsOf next run enough firstItem nothingAt tokenOf tokenFrom tokenAt sizeFrom sizeAt itemsIn tokenUpTo tailsOf leastTail greatestTail goesOn isUtf8 infoOf headBytes shortest head badText firstOf isNull addressFits protocolOf portOf locatorOf textOf locatorIn longName objectiveOf objectiveIn isEmpty pairTagged pairTail pairLed pairIn isInitiator openingAt textLed locatorNext locatorsFrom pairNext pairsFrom noopAt discovered discoveryAt exchangeOf exchanged exchangeAt waitAt invalidAt optionAt endAt responseBy responseAt floodedBy floodedOf floodedAt floodBy floodAt byKind judged shaped framed examined placeless readOf string numberOrNull reached fixed encodeLoc oneMore encodeObj maybeObj howMany locOrEmpty encodePair flatMap targetItems encodeTargets encodeEnding opening exchange encodeMsg upTo entryOf objOf orNull locOf placeAt rowLoc locsOf targetsOf extraOf entryAt locOrNone rowPair pairsOf endOf msgOf alone whole accepts inside okValue okItem okEntry okPlace blank okNoneOr allFrom okEach okRow okRows okPair okPairs okExtra okOutcome okDiscovery okResponse okFlood okParts okList okDescribed handAnswer handOut passes passAnswer passOut draftOf writeAnswer writeOut lowered okLower lowerAnswer lowerOut answerOf targetsAt locatedAt locatedOf restAt
 written = (refl, refl, refl, refl, refl, refl, refl)
 
 -- for readers

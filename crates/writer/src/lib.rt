@@ -88,7 +88,7 @@ pub fn answer(
 fn accepts(s: &[u8]) -> bool
     ensures { λ r. ⌜ r ≡ accepts (now (s .entry)) ⌝ }
 {
-    is_accepted(message::read(s))
+    is_accepted(reader::read(s))
 }
 
 // Whether what was read is a message.

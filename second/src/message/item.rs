@@ -1,7 +1,7 @@
 //! The message's bytes as a tree of items, each with its place.
 
 use super::Span;
-use crate::cbor::{head, item, Refusal, ENDED};
+use crate::cbor::{head, item, Refusal};
 
 /// An item and the bytes it takes.
 pub struct Item {
@@ -22,7 +22,7 @@ enum Sort {
 impl Item {
     /// The item that starts at `at`. Maps and tags are not looked into: no shape has one.
     pub fn at(bytes: &[u8], at: usize) -> Result<Item, Refusal> {
-        let rest = &bytes[at..];
+        let rest = bytes.get(at..).unwrap_or_default();
         let head = head(rest)?;
         let length = item(0, rest)?;
         let content = Span {
@@ -40,27 +40,6 @@ impl Item {
             _ => Sort::Other,
         };
         let span = Span { at, length };
-        Ok(Item { span, sort })
-    }
-
-    /// The item at any place, with the outermost `free` arrays counted as no level.
-    pub fn inside(bytes: &[u8], at: usize, free: usize) -> Result<Item, Refusal> {
-        let nothing = Refusal {
-            number: ENDED,
-            place: 0,
-        };
-        let head = head(bytes.get(at..).ok_or(nothing)?)?;
-        if head.major != 4 || free == 0 {
-            return Item::at(bytes, at);
-        }
-        let start = at + head.length;
-        let items = Item::several(start, head.argument, |at| Item::inside(bytes, at, free - 1))?;
-        let end = items.last().map_or(start, |last| last.span.end());
-        let span = Span {
-            at,
-            length: end - at,
-        };
-        let sort = Sort::Array(items);
         Ok(Item { span, sort })
     }
 

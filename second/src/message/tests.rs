@@ -212,7 +212,7 @@ fn pairs_at_places() {
     for at in [0, 10, 12, 19, 20, 21, usize::MAX] {
         assert_eq!(pair_at(FLOOD, at), None);
     }
-    // The levels are counted in the value alone.
+    // The levels are counted as in a Flood: three are open around the value.
     let deep = |levels| {
         [
             b"\x82\x84\x60\x00\x00",
@@ -221,6 +221,6 @@ fn pairs_at_places() {
         ]
         .concat()
     };
-    assert_eq!(pair_at(&deep(8), 0).map(|(_, after)| after), Some(15));
-    assert_eq!(pair_at(&deep(9), 0), None);
+    assert_eq!(pair_at(&deep(5), 0).map(|(_, after)| after), Some(12));
+    assert_eq!(pair_at(&deep(6), 0), None);
 }

@@ -6,7 +6,6 @@ use Rattle.describe.proofs.description_of.Statement.{statement}
 use Rattle.describe.proofs.description_of.Tie as tie
 use Rattle.describe.proofs.description_of.Reads as reads
 use Rattle.describe.proofs.description_of.Lts as lts
-use Rattle.describe.proofs.ending_of.Reads as ending-of-reads
 use Rattle.describe.proofs.extra_of.Reads as extra-of-reads
 use Rattle.describe.proofs.goal_of.Reads as goal-of-reads
 use Rattle.describe.proofs.is_divert.Reads as is-divert-reads
@@ -62,10 +61,6 @@ goal-of-requires-4 c κs = search needs
 -- src/lib.rt:57:24
 enum-known-m-6 : tie.Need-enum-known-m-6
 enum-known-m-6 c = search needs
-
--- src/lib.rt:59:21
-ending-of-requires : tie.Need-ending-of-requires
-ending-of-requires c κs = search needs
 
 -- src/lib.rt:61:25
 enum-known-m-7 : tie.Need-enum-known-m-7
@@ -127,7 +122,7 @@ returns-6 c =
 returns-7 : tie.Need-returns-7
 unfolding descriptionOf
 returns-7 c =
-    rw (c .before .before .m6 .given .1, ← c .ending-of .ensures)
+    rw (c .before .m6 .given .1)
 
 -- src/lib.rt:16:1
 returns-8 : tie.Need-returns-8
@@ -170,7 +165,6 @@ description-of-spec =
     enum-known-m-5
     goal-of-requires-4
     enum-known-m-6
-    ending-of-requires
     enum-known-m-7
     enum-known-m-8
     goal-of-requires-5

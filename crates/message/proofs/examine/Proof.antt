@@ -1,6 +1,7 @@
 -- `message::examine` meets its contract.
 -- Assumes nothing.
-use Rattle.message.specs.Read.{examined, framed}
+use mathlib.Core.Logic.{⊎-elim}
+use Rattle.message.specs.Read.{shaped}
 use Rattle.base.specs.Pick.{pick}
 use borrow.Author.Tests.{lt-ltb, le-ltb, eq-eqb, ne-eqb}
 use borrow.Author.Needs.{needs}
@@ -8,65 +9,69 @@ use Rattle.message.proofs.examine.Statement.{statement}
 use Rattle.message.proofs.examine.Tie as tie
 use Rattle.message.proofs.examine.Reads as reads
 use Rattle.message.proofs.examine.Lts as lts
-use Rattle.cbor.proofs.item.first.Reads as first-reads
-use Rattle.message.proofs.examine_item.Reads as examine-item-reads
+use Rattle.cbor.proofs.token.array_at.Reads as array-at-reads
+use Rattle.cbor.proofs.token.items_in.Reads as items-in-reads
+use Rattle.cbor.proofs.token.number_at.Reads as number-at-reads
+use Rattle.message.proofs.judge.Reads as judge-reads
+use Rattle.message.proofs.shape.by_kind.Reads as by-kind-reads
 
--- src/lib.rt:126:9
+-- src/lib.rt:155:9
+array-at-requires : tie.Need-array-at-requires
+array-at-requires c κs = search needs
+
+-- src/lib.rt:156:8
+items-in-requires : tie.Need-items-in-requires
+items-in-requires c κs = search needs
+
+-- src/lib.rt:157:9
 returns : tie.Need-returns
-unfolding examined framed pick
+unfolding shaped pick
 returns c =
-    rw (eq-eqb _ _ (c .if1 .taken))
+    rw (← c .before .before .array-at .ensures .is, ← c .before .items-in .ensures, eq-eqb _ _ (c .if1 .taken))
 
--- src/lib.rt:132:9
+-- src/lib.rt:162:9
+number-at-requires : tie.Need-number-at-requires
+number-at-requires c κs = search needs
+
+-- src/lib.rt:164:9
 returns-2 : tie.Need-returns-2
-unfolding examined framed pick
+unfolding shaped pick
 returns-2 c =
-    rw (ne-eqb _ _ (c .before .if1 .left), lt-ltb _ _ (c .if2 .taken))
+    rw (← c .before .before .before .before .before .array-at .ensures .is, ← c .before .before .before .before .items-in .ensures, ne-eqb _ _ (c .before .before .before .if1 .left), ← c .before .before .number-at .ensures .is, ne-eqb _ _ (c .if2 .taken))
 
--- src/lib.rt:137:9
-first-requires : tie.Need-first-requires
-first-requires c κs = search needs
-
--- src/lib.rt:139:29
-enum-known-whole : tie.Need-enum-known-whole
-enum-known-whole c = search needs
-
--- src/lib.rt:140:24
-enum-known-whole-2 : tie.Need-enum-known-whole-2
-enum-known-whole-2 c = search needs
-
--- src/lib.rt:142:17
+-- src/lib.rt:171:13
 returns-3 : tie.Need-returns-3
-unfolding examined framed pick
+unfolding shaped pick
 returns-3 c =
-    rw (ne-eqb _ _ (c .before .before .before .before .before .before .if1 .left), le-ltb _ _ (c .before .before .before .before .before .if2 .left), ← c .before .before .before .before .first .ensures, c .before .before .whole2 .given .1, ne-eqb _ _ (c .if3 .taken))
+    rw (← c .before .before .before .before .before .before .before .before .before .array-at .ensures .is, ← c .before .before .before .before .before .before .before .before .items-in .ensures, ne-eqb _ _ (c .before .before .before .before .before .before .before .if1 .left), ← c .before .before .before .before .before .before .number-at .ensures .is, eq-eqb _ _ (c .before .before .before .before .if2 .left), lt-ltb _ _ (c .before .before .if3 .taken), ne-eqb _ _ (c .if4 .taken))
 
--- src/lib.rt:147:13
-examine-item-requires : tie.Need-examine-item-requires
-examine-item-requires c κs = search needs
+-- src/lib.rt:177:11
+by-kind-requires : tie.Need-by-kind-requires
+by-kind-requires c κs = search needs
 
--- src/lib.rt:122:1
+-- src/lib.rt:177:5
+judge-requires : tie.Need-judge-requires
+judge-requires c κs = search needs
+
+-- src/lib.rt:152:1
 returns-4 : tie.Need-returns-4
-unfolding examined framed pick
+unfolding shaped pick
 returns-4 c =
-    rw (ne-eqb _ _ (c .before .before .before .before .before .if1 .left), le-ltb _ _ (c .before .before .before .before .if2 .left), ← c .before .before .before .first .ensures, c .before .whole .given .1)
-
--- src/lib.rt:122:1
-returns-5 : tie.Need-returns-5
-unfolding examined framed pick
-returns-5 c =
-    rw (ne-eqb _ _ (c .before .before .before .before .before .before .before .if1 .left), le-ltb _ _ (c .before .before .before .before .before .before .if2 .left), ← c .before .before .before .before .before .first .ensures, c .before .before .before .whole2 .given .1, eq-eqb _ _ (c .before .if3 .left), ← c .examine-item .ensures)
+    ⊎-elim
+    (λ w. rw (← c .before .before .before .before .before .before .before .before .before .array-at .ensures .is, ← c .before .before .before .before .before .before .before .before .items-in .ensures, ne-eqb _ _ (c .before .before .before .before .before .before .before .if1 .left), ← c .before .before .before .before .before .before .number-at .ensures .is, eq-eqb _ _ (c .before .before .before .before .if2 .left), lt-ltb _ _ (w .0 .taken), eq-eqb _ _ (w .2 .left), ← c .before .by-kind .ensures, ← c .judge .ensures))
+    (λ w. rw (← c .before .before .before .before .before .before .before .before .before .array-at .ensures .is, ← c .before .before .before .before .before .before .before .before .items-in .ensures, ne-eqb _ _ (c .before .before .before .before .before .before .before .if1 .left), ← c .before .before .before .before .before .before .number-at .ensures .is, eq-eqb _ _ (c .before .before .before .before .if2 .left), le-ltb _ _ (w .left), ← c .before .by-kind .ensures, ← c .judge .ensures))
+    (c .before .before .if3 .came)
 
 pub examine-spec : {M : Type 1} → statement M
 examine-spec =
     tie.close
     (tie.spec
+    array-at-requires
+    items-in-requires
     returns
+    number-at-requires
     returns-2
-    first-requires
-    enum-known-whole
-    enum-known-whole-2
     returns-3
-    examine-item-requires
-    returns-4
-    returns-5)
+    by-kind-requires
+    judge-requires
+    returns-4)

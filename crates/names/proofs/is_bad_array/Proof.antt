@@ -43,7 +43,7 @@ token-at-requires-2 c κs = tt
 
 -- src/lib.rt:57:13
 is-good-requires : tie.Need-is-good-requires Inv-loop μ-loop
-is-good-requires c κs = tt
+is-good-requires c κs = (c .token-at2 .ensures .start, c .token-at2 .ensures .end)
 
 -- src/lib.rt:58:13
 returns-3 : tie.Need-returns-3 Inv-loop μ-loop

@@ -6,7 +6,7 @@ use Rattle.negotiation.proofs.step.Statement.{statement}
 use Rattle.negotiation.proofs.step.Tie as tie
 use Rattle.negotiation.proofs.step.Reads as reads
 use Rattle.negotiation.proofs.step.Lts as lts
-use Rattle.message.proofs.read.Reads as read-reads
+use Rattle.reader.proofs.read.Reads as read-reads
 use Rattle.negotiation.proofs.move_of.Reads as move-of-reads
 use Rattle.negotiation.proofs.state_step.Reads as state-step-reads
 

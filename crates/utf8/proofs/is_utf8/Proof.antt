@@ -1,134 +1,76 @@
--- `utf8::is_utf8` meets its contract. The loop's invariant: the bytes from `at` on go on as the state asks just where the
--- whole is UTF-8. The measure is what is left of the length.
+-- `utf8::is_utf8` meets its contract. The loop's invariant: the bytes from `at` on are UTF-8 just where the whole is.
+-- The measure is what is left of the length.
 -- Assumes nothing.
-use mathlib.Core.Path.{_≡_, refl}
-use mathlib.Core.Bool.{Bool, false}
+use mathlib.Core.Path.{_≡_, refl, ap, _∙_}
+use mathlib.Core.Bool.{Bool, true}
 use mathlib.Core.List.{List, _∷_}
-use Prim.Native.Nat.{ℕ, suc, _≤_, _<_, _-_, _+_}
+use Prim.Native.Nat.{ℕ, _≤_, _<_, _-_, _+_}
 use native.Mathlib.Numerals.{add-one}
-use native.Mathlib.Omega.{arith}
 use borrow.Author.Needs.{needs}
-use borrow.Author.Tests.{lt-ltb, le-ltb, ne-eqb}
-use lib.ListN.{length, drop, getD}
+use borrow.Author.Tests.{lt-ltb}
+use lib.ListN.{length, take, drop, getD}
 use lib.Seq.{drop-cons}
 use Rattle.base.specs.Pick.{pick}
-use Rattle.base.proofs.Parts.{drop-past}
-use Rattle.utf8.specs.Utf8.{tailsOf, leastTail, greatestTail, goesOn, isUtf8}
+use Rattle.base.proofs.Parts.{rest-is, drop-past}
+use Rattle.utf8.specs.Utf8.{goesOn, isUtf8}
 use Rattle.utf8.proofs.is_utf8.Statement.{statement}
 use Rattle.utf8.proofs.is_utf8.Tie as tie
 
--- one turn, at the byte `getD s at 0`
-module _ (s : List ℕ) (due low high at : ℕ) (v : Bool) (within : at < length s) (inv : goesOn due low high (drop at s) ≡ v) where
-  front : goesOn due low high (getD s at 0 ∷ drop (at + 1) s) ≡ v
-  front = rw (add-one, ← drop-cons s at 0) inv
+-- an ASCII byte in front changes nothing
+ascii : (b : ℕ) (t : List ℕ) → b < 0x80 → isUtf8 (b ∷ t) ≡ isUtf8 t
+unfolding isUtf8 goesOn pick
+ascii b t test = rw (lt-ltb b 0x80 test)
 
-  ascii : due ≡ 0 → getD s at 0 < 0x80 → goesOn due low high (drop (at + 1) s) ≡ v
-  unfolding goesOn pick
-  ascii none test = rw none (rw (none, lt-ltb (getD s at 0) 0x80 test) at front)
+-- the loop at `at`
+module _ (s : List ℕ) (at : ℕ) (inv : isUtf8 (drop at s) ≡ isUtf8 s) where
+  other : (r : Bool) → r ≡ isUtf8 (take (length s - at) (drop at s)) → r ≡ isUtf8 s
+  other r is = is ∙ ap isUtf8 (rest-is at s) ∙ inv
 
-  no-lead : (n : ℕ) → due ≡ 0 → 0x80 ≤ getD s at 0 → n ≡ tailsOf (getD s at 0) → n ≡ 0 → false ≡ v
-  unfolding goesOn pick
-  no-lead n none test is zero-due = rw (none, le-ltb (getD s at 0) 0x80 test, ← is, zero-due) at front
+  next : at < length s → getD s at 0 < 0x80 → isUtf8 (drop (at + 1) s) ≡ isUtf8 s
+  next within test = rw (drop-cons s at 0 within, ascii (getD s at 0) _ test, ← add-one) at inv
 
-  led : (n l h : ℕ) → due ≡ 0 → 0x80 ≤ getD s at 0 → n ≡ tailsOf (getD s at 0) → (n ≡ 0 → ⊥) → l ≡ leastTail (getD s at 0) → h ≡ greatestTail (getD s at 0)
-      → goesOn n l h (drop (at + 1) s) ≡ v
-  unfolding goesOn pick
-  led n l h none test is some least greatest =
-      rw (none, le-ltb (getD s at 0) 0x80 test, ← is, ne-eqb n 0 some, ← least, ← greatest) at front
-
-  below : (due ≡ 0 → ⊥) → getD s at 0 < low → false ≡ v
-  unfolding goesOn pick
-  below some test =
-      let one : due ≡ suc (due - 1) = omega arith in
-      rw (one, lt-ltb (getD s at 0) low test) at front
-
-  above : (due ≡ 0 → ⊥) → low ≤ getD s at 0 → high < getD s at 0 → false ≡ v
-  unfolding goesOn pick
-  above some test test′ =
-      let one : due ≡ suc (due - 1) = omega arith in
-      rw (one, le-ltb (getD s at 0) low test, lt-ltb high (getD s at 0) test′) at front
-
-  tail : (due ≡ 0 → ⊥) → low ≤ getD s at 0 → getD s at 0 ≤ high → goesOn (due - 1) 0x80 0xBF (drop (at + 1) s) ≡ v
-  unfolding goesOn pick
-  tail some test test′ =
-      let one : due ≡ suc (due - 1) = omega arith in
-      rw (one, le-ltb (getD s at 0) low test, le-ltb high (getD s at 0) test′) at front
+  end : length s ≤ at → true ≡ isUtf8 s
+  unfolding isUtf8 goesOn
+  end past = rw (drop-past s at past) at inv
 
 abbrev Inv-loop : tie.InvT-loop
-Inv-loop s due₀ low₀ high₀ at₀ due low high at = (at ≤ length s) × (goesOn due low high (drop at s) ≡ isUtf8 s)
+Inv-loop s at₀ at = isUtf8 (drop at s) ≡ isUtf8 s
 
 abbrev μ-loop : tie.MeasureT-loop
-μ-loop s due₀ low₀ high₀ at₀ due low high at = length s - at
+μ-loop s at₀ at = length s - at
 
 loop-holds : tie.Need-loop-holds Inv-loop μ-loop
-unfolding isUtf8
-loop-holds c = (search needs, refl)
+loop-holds c = refl
 
-shared-slice-read-b : tie.Need-shared-slice-read-b Inv-loop μ-loop
-shared-slice-read-b c = search needs
+shared-slice-read-if1 : tie.Need-shared-slice-read-if1 Inv-loop μ-loop
+shared-slice-read-if1 c = search needs
+
+sub-is-utf8-from : tie.Need-sub-is-utf8-from Inv-loop μ-loop
+sub-is-utf8-from c = search needs
+
+part-is-utf8-from-start : tie.Need-part-is-utf8-from-start Inv-loop μ-loop
+part-is-utf8-from-start c = search needs
+
+part-is-utf8-from-end : tie.Need-part-is-utf8-from-end Inv-loop μ-loop
+part-is-utf8-from-end c = search needs
+
+is-utf8-from-requires : tie.Need-is-utf8-from-requires Inv-loop μ-loop
+is-utf8-from-requires c κs = search needs
+
+returns : tie.Need-returns Inv-loop μ-loop
+returns c = other _ _ (c .before .before .before .before .before .loop .inv) _ (c .is-utf8-from .ensures)
 
 add-at : tie.Need-add-at Inv-loop μ-loop
 add-at c = search needs
-
-tails-requires : tie.Need-tails-requires Inv-loop μ-loop
-tails-requires c κs = search needs
-
-returns : tie.Need-returns Inv-loop μ-loop
-returns c =
-    let k = c .before .before .before .before .before in
-    no-lead _ _ _ _ _ _ (k .loop-test .taken) (k .before .loop .inv .1) _ (c .before .before .before .if1 .taken) (c .before .before .if2 .taken)
-    (c .before .tails .ensures) (c .if3 .taken)
-
-least-requires : tie.Need-least-requires Inv-loop μ-loop
-least-requires c κs = search needs
-
-greatest-requires : tie.Need-greatest-requires Inv-loop μ-loop
-greatest-requires c κs = search needs
 
 loop-less : tie.Need-loop-less Inv-loop μ-loop
 loop-less c = search needs
 
 loop-again : tie.Need-loop-again Inv-loop μ-loop
-loop-again c =
-    let k = c .before .before .before in
-    let at-loop = k .before .before .before .before in
-    let next =
-    led _ _ _ _ _ _ (at-loop .loop-test .taken) (at-loop .before .loop .inv .1) _ _ _ (k .before .before .if1 .taken) (k .before .if2 .taken)
-    (k .tails .ensures) (c .before .before .if3 .left) (c .before .least .ensures) (c .greatest .ensures) in
-    (search needs, next)
-
-loop-less-2 : tie.Need-loop-less-2 Inv-loop μ-loop
-loop-less-2 c = search needs
-
-loop-again-2 : tie.Need-loop-again-2 Inv-loop μ-loop
-loop-again-2 c =
-    let k = c .before .before .before in
-    (search needs, ascii _ _ _ _ _ _ (k .loop-test .taken) (k .before .loop .inv .1) (c .before .if1 .taken) (c .if2 .left))
+loop-again c = next _ _ (c .before .before .before .loop .inv) (c .before .before .loop-test .taken) (c .if1 .left)
 
 returns-2 : tie.Need-returns-2 Inv-loop μ-loop
-returns-2 c =
-    let k = c .before .before .before in
-    below _ _ _ _ _ _ (k .loop-test .taken) (k .before .loop .inv .1) (c .before .if1 .left) (c .if4 .taken)
-
-returns-3 : tie.Need-returns-3 Inv-loop μ-loop
-returns-3 c =
-    let k = c .before .before .before .before in
-    above _ _ _ _ _ _ (k .loop-test .taken) (k .before .loop .inv .1) (c .before .before .if1 .left) (c .before .if4 .left) (c .if5 .taken)
-
-sub-due : tie.Need-sub-due Inv-loop μ-loop
-sub-due c = search needs
-
-loop-less-3 : tie.Need-loop-less-3 Inv-loop μ-loop
-loop-less-3 c = search needs
-
-loop-again-3 : tie.Need-loop-again-3 Inv-loop μ-loop
-loop-again-3 c =
-    let k = c .before .before .before .before in
-    (search needs, tail _ _ _ _ _ _ (k .loop-test .taken) (k .before .loop .inv .1) (c .before .before .if1 .left) (c .before .if4 .left) (c .if5 .left))
-
-returns-4 : tie.Need-returns-4 Inv-loop μ-loop
-unfolding goesOn
-returns-4 c = rw (drop-past (c .before .before .before .args .s .now) (c .before .loop .at) (c .loop-test .left)) at (c .before .loop .inv .1)
+returns-2 c = end _ _ (c .before .loop .inv) (c .loop-test .left)
 
 pub is-utf8-spec : {M : Type 1} → statement M
 is-utf8-spec =
@@ -137,19 +79,13 @@ is-utf8-spec =
     Inv-loop
     μ-loop
     loop-holds
-    shared-slice-read-b
-    add-at
-    tails-requires
+    shared-slice-read-if1
+    sub-is-utf8-from
+    part-is-utf8-from-start
+    part-is-utf8-from-end
+    is-utf8-from-requires
     returns
-    least-requires
-    greatest-requires
+    add-at
     loop-less
     loop-again
-    loop-less-2
-    loop-again-2
-    returns-2
-    returns-3
-    sub-due
-    loop-less-3
-    loop-again-3
-    returns-4)
+    returns-2)

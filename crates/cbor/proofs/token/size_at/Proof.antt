@@ -12,7 +12,7 @@ use Rattle.cbor.proofs.item.first.Reads as first-reads
 
 -- src/token.rt:84:9
 returns : tie.Need-returns
-returns c = size-none _ _ (c .if1 .taken)
+returns c = size-none _ _ _ (c .if1 .taken)
 
 -- src/token.rt:86:31
 sub-first : tie.Need-sub-first
@@ -41,12 +41,12 @@ enum-known-read c = search needs
 -- src/token.rt:80:1
 returns-2 : tie.Need-returns-2
 unfolding sizeFrom
-returns-2 c = size-found _ _ (ItemRead.Refused _ _) _ (c .before .before .first .ensures) (c .enum-told .given .1)
+returns-2 c = size-found _ _ _ (ItemRead.Refused _ _) _ (c .before .before .first .ensures) (c .enum-told .given .1)
 
 -- src/token.rt:80:1
 returns-3 : tie.Need-returns-3
 unfolding sizeFrom
-returns-3 c = size-found _ _ (ItemRead.Ends _) _ (c .before .before .before .first .ensures) (c .before .read .given .1)
+returns-3 c = size-found _ _ _ (ItemRead.Ends _) _ (c .before .before .before .first .ensures) (c .before .read .given .1)
 
 pub size-at-spec : {M : Type 1} → statement M
 size-at-spec =

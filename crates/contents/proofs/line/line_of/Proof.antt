@@ -9,7 +9,7 @@ use Rattle.contents.proofs.line.line_of.Lts as lts
 use Rattle.contents.proofs.fields.kind_of.Reads as kind-of-reads
 use Rattle.contents.proofs.line.kind_line.Reads as kind-line-reads
 use Rattle.contents.proofs.line.refused_line.Reads as refused-line-reads
-use Rattle.message.proofs.read.Reads as read-reads
+use Rattle.reader.proofs.read.Reads as read-reads
 
 -- src/line.rt:17:9
 read-requires : tie.Need-read-requires

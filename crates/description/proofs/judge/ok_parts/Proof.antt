@@ -8,7 +8,7 @@ use Rattle.description.proofs.judge.ok_parts.Reads as reads
 use Rattle.description.proofs.judge.ok_parts.Lts as lts
 use Rattle.description.proofs.judge.ok_goal.Reads as ok-goal-reads
 use Rattle.description.proofs.judge.ok_discovery.Reads as ok-discovery-reads
-use Rattle.description.proofs.judge.ok_ending.Reads as ok-ending-reads
+use Rattle.description.proofs.judge.ok_outcome.Reads as ok-outcome-reads
 use Rattle.description.proofs.judge.ok_flood.Reads as ok-flood-reads
 use Rattle.description.proofs.judge.ok_item.Reads as ok-item-reads
 use Rattle.description.proofs.judge.ok_response.Reads as ok-response-reads
@@ -62,8 +62,8 @@ enum-known-m-6 : tie.Need-enum-known-m-6
 enum-known-m-6 c = search needs
 
 -- src/judge.rt:69:52
-ok-ending-requires : tie.Need-ok-ending-requires
-ok-ending-requires c κs = search needs
+ok-outcome-requires : tie.Need-ok-outcome-requires
+ok-outcome-requires c κs = search needs
 
 -- src/judge.rt:70:54
 enum-told-2 : tie.Need-enum-told-2
@@ -126,7 +126,7 @@ returns-6 c = rw (c .before .before .m5 .given .1) (c .ok-goal3 .ensures)
 -- src/judge.rt:59:1
 returns-7 : tie.Need-returns-7
 unfolding okParts
-returns-7 c = rw (c .before .before .m6 .given .1) (c .ok-ending .ensures)
+returns-7 c = rw (c .before .before .m6 .given .1) (c .ok-outcome .ensures)
 
 -- src/judge.rt:59:1
 returns-8 : tie.Need-returns-8
@@ -164,7 +164,7 @@ ok-parts-spec =
     enum-known-m-5
     ok-goal-requires-3
     enum-known-m-6
-    ok-ending-requires
+    ok-outcome-requires
     enum-told-2
     enum-known-m-7
     ok-goal-requires-4

@@ -17,8 +17,8 @@ enum-told-2 c = search needs
 put-decline-requires : tie.Need-put-decline-requires
 put-decline-requires c κs = search needs
 
-enum-known-ending : tie.Need-enum-known-ending
-enum-known-ending c = search needs
+enum-known-outcome : tie.Need-enum-known-outcome
+enum-known-outcome c = search needs
 
 put-reason-requires : tie.Need-put-reason-requires
 put-reason-requires c κs = search needs
@@ -42,7 +42,7 @@ same-length-3 c = search needs
 
 returns-3 : tie.Need-returns-3
 unfolding endOf
-returns-3 c = rw (c .before .before .before .before .before .ending .given .1) (c .before .before .put-reason .ensures)
+returns-3 c = rw (c .before .before .before .before .before .outcome .given .1) (c .before .before .put-reason .ensures)
 
 pub put-end-spec : {M : Type 1} → statement M
 put-end-spec =
@@ -52,7 +52,7 @@ put-end-spec =
     put-accept-requires
     enum-told-2
     put-decline-requires
-    enum-known-ending
+    enum-known-outcome
     put-reason-requires
     same-length
     returns

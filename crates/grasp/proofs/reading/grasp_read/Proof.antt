@@ -7,7 +7,7 @@ use Rattle.grasp.proofs.reading.grasp_read.Tie as tie
 use Rattle.grasp.proofs.reading.grasp_read.Reads as reads
 use Rattle.grasp.proofs.reading.grasp_read.Lts as lts
 use Rattle.blocks.proofs.block.block_of.Reads as block-of-reads
-use Rattle.message.proofs.read.Reads as read-reads
+use Rattle.reader.proofs.read.Reads as read-reads
 
 -- src/reading.rt:15:9
 read-requires : tie.Need-read-requires

@@ -10,7 +10,7 @@ use Rattle.node.proofs.call.node_call.Statement.{statement}
 use Rattle.node.proofs.call.node_call.Tie as tie
 use Rattle.node.proofs.call.node_call.Reads as reads
 use Rattle.node.proofs.call.node_call.Lts as lts
-use Rattle.message.proofs.read.Reads as read-reads
+use Rattle.reader.proofs.read.Reads as read-reads
 use Rattle.node.proofs.call.barred_by.Reads as barred-by-reads
 use Rattle.node.proofs.call.take.Reads as take-reads
 use Rattle.node.proofs.role.role_of.Reads as role-of-reads

@@ -13,7 +13,7 @@ use Rattle.options.proofs.objective.read_in.Reads as read-in-reads
 
 -- src/objective.rt:39:9
 returns : tie.Need-returns
-returns c = objective-past _ _ (c .if1 .taken)
+returns c = objective-past _ _ _ (c .if1 .taken)
 
 -- src/objective.rt:41:13
 sub-read-in : tie.Need-sub-read-in
@@ -33,7 +33,7 @@ read-in-requires c κs = search needs
 
 -- src/objective.rt:35:1
 returns-2 : tie.Need-returns-2
-returns-2 c = c .read-in .ensures ∙ ap (objectiveIn (c .before .before .before .before .args .at)) (rest-is (c .before .before .before .before .args .at) (c .before .before .before .before .args .s .now))
+returns-2 c = c .read-in .ensures ∙ ap (objectiveIn (c .before .before .before .before .args .levels) (c .before .before .before .before .args .at)) (rest-is (c .before .before .before .before .args .at) (c .before .before .before .before .args .s .now))
 
 pub read-at-spec : {M : Type 1} → statement M
 read-at-spec =

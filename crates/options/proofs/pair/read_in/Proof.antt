@@ -60,11 +60,11 @@ enum-known-read-2 c = search needs
 
 -- src/pair.rt:64:42
 add-read-tag : tie.Need-add-read-tag
-add-read-tag c = omega (arith, c .before .before .before .before .before .before .before .before .before .before .before .pre, c .before .before .before .before .before .before .before .before .before .array-at .ensures, objective-fits (c .before .before .before .before .before .before .before .before .before .before .before .args .s .now) _ (c .before .before .before .before .before .before .before .before .before .array-at .result .next) _ _ (c .before .before .before .before .before .read-in .ensures) (c .before .before .before .read2 .given .1))
+add-read-tag c = omega (arith, c .before .before .before .before .before .before .before .before .before .before .before .pre, c .before .before .before .before .before .before .before .before .before .array-at .ensures, objective-fits 3 (c .before .before .before .before .before .before .before .before .before .before .before .args .s .now) _ (c .before .before .before .before .before .before .before .before .before .array-at .result .next) _ _ (c .before .before .before .before .before .read-in .ensures) (c .before .before .before .read2 .given .1))
 
 -- src/pair.rt:64:17
 read-tag-requires : tie.Need-read-tag-requires
-read-tag-requires c κs = (c .before .before .before .before .before .before .before .before .before .before .before .pre, omega (arith, c .before .before .before .before .before .before .before .before .before .array-at .ensures, objective-fits (c .before .before .before .before .before .before .before .before .before .before .before .args .s .now) _ (c .before .before .before .before .before .before .before .before .before .array-at .result .next) _ _ (c .before .before .before .before .before .read-in .ensures) (c .before .before .before .read2 .given .1)))
+read-tag-requires c κs = (c .before .before .before .before .before .before .before .before .before .before .before .pre, omega (arith, c .before .before .before .before .before .before .before .before .before .array-at .ensures, objective-fits 3 (c .before .before .before .before .before .before .before .before .before .before .before .args .s .now) _ (c .before .before .before .before .before .before .before .before .before .array-at .result .next) _ _ (c .before .before .before .before .before .read-in .ensures) (c .before .before .before .read2 .given .1)))
 
 -- src/pair.rt:64:17
 returns-2 : tie.Need-returns-2

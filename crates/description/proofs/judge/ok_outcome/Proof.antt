@@ -1,11 +1,11 @@
--- `description::judge::ok_ending` meets its contract.
+-- `description::judge::ok_outcome` meets its contract.
 -- Assumes nothing.
-use Rattle.description.specs.Judge.{okEnding}
+use Rattle.description.specs.Judge.{okOutcome}
 use borrow.Author.Needs.{needs}
-use Rattle.description.proofs.judge.ok_ending.Statement.{statement}
-use Rattle.description.proofs.judge.ok_ending.Tie as tie
-use Rattle.description.proofs.judge.ok_ending.Reads as reads
-use Rattle.description.proofs.judge.ok_ending.Lts as lts
+use Rattle.description.proofs.judge.ok_outcome.Statement.{statement}
+use Rattle.description.proofs.judge.ok_outcome.Tie as tie
+use Rattle.description.proofs.judge.ok_outcome.Reads as reads
+use Rattle.description.proofs.judge.ok_outcome.Lts as lts
 use Rattle.description.proofs.judge.is_inside.Reads as is-inside-reads
 
 -- src/judge.rt:111:27
@@ -17,8 +17,8 @@ enum-told-2 : tie.Need-enum-told-2
 enum-told-2 c = search needs
 
 -- src/judge.rt:113:24
-enum-known-ending : tie.Need-enum-known-ending
-enum-known-ending c = search needs
+enum-known-outcome : tie.Need-enum-known-outcome
+enum-known-outcome c = search needs
 
 -- src/judge.rt:113:33
 is-inside-requires : tie.Need-is-inside-requires
@@ -26,26 +26,26 @@ is-inside-requires c κs = search needs
 
 -- src/judge.rt:107:1
 returns : tie.Need-returns
-unfolding okEnding
+unfolding okOutcome
 returns c = rw (c .enum-told .given .1)
 
 -- src/judge.rt:107:1
 returns-2 : tie.Need-returns-2
-unfolding okEnding
+unfolding okOutcome
 returns-2 c = rw (c .enum-told2 .given .1)
 
 -- src/judge.rt:107:1
 returns-3 : tie.Need-returns-3
-unfolding okEnding
-returns-3 c = rw (c .before .before .ending .given .1) (c .is-inside .ensures)
+unfolding okOutcome
+returns-3 c = rw (c .before .before .outcome .given .1) (c .is-inside .ensures)
 
-pub ok-ending-spec : {M : Type 1} → statement M
-ok-ending-spec =
+pub ok-outcome-spec : {M : Type 1} → statement M
+ok-outcome-spec =
     tie.close
     (tie.spec
     enum-told
     enum-told-2
-    enum-known-ending
+    enum-known-outcome
     is-inside-requires
     returns
     returns-2

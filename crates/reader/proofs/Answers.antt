@@ -1,0 +1,67 @@
+-- How the code's answers meet the definition of reading. A message that its parts make up is accepted by the walk, which ends where they end: so what was
+-- read of its parts is the answer.
+-- Assumes nothing.
+use mathlib.Core.Path.{_≡_, refl, sym, ap, _∙_}
+use mathlib.Core.Logic.{_≢_}
+use mathlib.Core.List.{List}
+use mathlib.Core.Bool.{Bool, true, false}
+use Prim.Native.Nat.{ℕ, _≤_, _<_}
+use lib.ListN.{length}
+use lib.Dec.{eqb}
+use borrow.Author.Tests.{eq-eqb, ne-eqb, lt-ltb, le-ltb}
+use Rattle.base.specs.Pick.{pick}
+use Rattle.base.specs.BigEndian.{Bytes}
+use Rattle.cbor.specs.declared.item.ItemRead.{ItemRead}
+use Rattle.cbor.specs.Item.{firstItem}
+use Rattle.message.specs.declared.Message.{Message}
+use Rattle.message.specs.declared.Reading.{Reading}
+use Rattle.message.specs.declared.Examined.{Examined}
+use Rattle.message.specs.declared.Examined.the-variants as E
+use Rattle.message.specs.Read.{mostBytes, shaped, framed, examined, placeless, readOf}
+use Rattle.exact.proofs.Shaped.{parts-walked}
+use Rattle.reader.specs.Walk.{walkedBy, walkedFirst}
+
+-- too short, or too long
+pub read-none : (s : List ℕ) → length s ≡ 0 → Reading.Refused 1 ≡ readOf s
+unfolding readOf examined placeless pick
+read-none s e = rw (eq-eqb (length s) 0 e)
+
+pub read-long : (s : List ℕ) → length s ≢ 0 → mostBytes < length s → Reading.Refused 1 ≡ readOf s
+unfolding readOf examined placeless pick
+read-long s some h = rw (ne-eqb (length s) 0 some, lt-ltb mostBytes (length s) h)
+
+module _ (s : List ℕ) (r : Examined) (some : length s ≢ 0) (most : length s ≤ mostBytes) (is : r ≡ shaped s) where
+  -- neither: the walk is asked first
+  fitting : examined s ≡ framed s (firstItem 0 s)
+  unfolding examined pick
+  fitting = rw (ne-eqb (length s) 0 some, le-ltb mostBytes (length s) most)
+
+  -- a message
+  module _ (m : Message) (end : ℕ) (bytes : Bytes s) (found : r ≡ E.Accepted m end) where
+    walked : examined s ≡ framed s (ItemRead.Ends end)
+    walked = fitting ∙ ap (framed s) (parts-walked s bytes (sym is ∙ found))
+
+    pub read-whole : end ≡ length s → Reading.Read m ≡ readOf s
+    unfolding readOf framed placeless pick
+    read-whole full = sym (ap placeless walked ∙ rw (eq-eqb end (length s) full, sym is ∙ found))
+
+    -- and bytes after it
+    pub read-over : end ≢ length s → Reading.Refused 7 ≡ readOf s
+    unfolding readOf framed placeless pick
+    read-over more = sym (ap placeless walked ∙ rw (ne-eqb end (length s) more))
+
+-- a refusal by the parts comes after the walk's
+due-later : (s : List ℕ) (number place : ℕ) → shaped s ≡ E.Refused number place → (x : ItemRead) → placeless (framed s x) ≡ Reading.Refused (walkedBy number (length s) x)
+unfolding walkedBy framed placeless pick
+due-later s number place later (ItemRead.Refused number′ place′) = refl
+due-later s number place later (ItemRead.Ends end) = by (eqb end (length s))
+  where
+    by : (t : Bool) → placeless (pick t (shaped s) (E.Refused 7 end)) ≡ Reading.Refused (pick t number 7)
+    by true = ap placeless later
+    by false = refl
+
+pub read-refused : (s : List ℕ) (r : Examined) (number place n : ℕ) → length s ≢ 0 → length s ≤ mostBytes → r ≡ shaped s → r ≡ E.Refused number place → n ≡ walkedFirst number s
+    → Reading.Refused n ≡ readOf s
+unfolding readOf walkedFirst
+read-refused s r number place n some most is found same =
+    ap Reading.Refused same ∙ sym (ap placeless (fitting s r some most is) ∙ due-later s number place (sym is ∙ found) (firstItem 0 s))
