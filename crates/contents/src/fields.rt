@@ -17,53 +17,16 @@ pub fn kind_of(m: Message) -> u8
 {
     match m {
         Message::Noop => 0,
-        Message::Discovery {
-            session: _,
-            initiator: _,
-            objective: _,
-        } => 1,
-        Message::Response {
-            session: _,
-            initiator: _,
-            ttl: _,
-            targets: _,
-            extra: _,
-        } => 2,
-        Message::RequestNegotiation {
-            session: _,
-            objective: _,
-        } => 3,
-        Message::RequestSynchronization {
-            session: _,
-            objective: _,
-        } => 4,
-        Message::Negotiate {
-            session: _,
-            objective: _,
-        } => 5,
-        Message::End {
-            session: _,
-            outcome: _,
-        } => 6,
-        Message::Wait {
-            session: _,
-            time: _,
-        } => 7,
-        Message::Synch {
-            session: _,
-            objective: _,
-        } => 8,
-        Message::Flood {
-            session: _,
-            initiator: _,
-            ttl: _,
-            first: _,
-            pairs: _,
-        } => 9,
-        Message::Invalid {
-            session: _,
-            item: _,
-        } => 99,
+        Message::Discovery { .. } => 1,
+        Message::Response { .. } => 2,
+        Message::RequestNegotiation { .. } => 3,
+        Message::RequestSynchronization { .. } => 4,
+        Message::Negotiate { .. } => 5,
+        Message::End { .. } => 6,
+        Message::Wait { .. } => 7,
+        Message::Synch { .. } => 8,
+        Message::Flood { .. } => 9,
+        Message::Invalid { .. } => 99,
     }
 }
 
@@ -72,47 +35,16 @@ pub fn session_of(m: Message) -> Session
 {
     match m {
         Message::Noop => Session::Without,
-        Message::Discovery {
-            session,
-            initiator: _,
-            objective: _,
-        } => Session::Number(session),
-        Message::Response {
-            session,
-            initiator: _,
-            ttl: _,
-            targets: _,
-            extra: _,
-        } => Session::Number(session),
-        Message::RequestNegotiation {
-            session,
-            objective: _,
-        } => Session::Number(session),
-        Message::RequestSynchronization {
-            session,
-            objective: _,
-        } => Session::Number(session),
-        Message::Negotiate {
-            session,
-            objective: _,
-        } => Session::Number(session),
-        Message::End {
-            session,
-            outcome: _,
-        } => Session::Number(session),
-        Message::Wait { session, time: _ } => Session::Number(session),
-        Message::Synch {
-            session,
-            objective: _,
-        } => Session::Number(session),
-        Message::Flood {
-            session,
-            initiator: _,
-            ttl: _,
-            first: _,
-            pairs: _,
-        } => Session::Number(session),
-        Message::Invalid { session, item: _ } => Session::Number(session),
+        Message::Discovery { session, .. } => Session::Number(session),
+        Message::Response { session, .. } => Session::Number(session),
+        Message::RequestNegotiation { session, .. } => Session::Number(session),
+        Message::RequestSynchronization { session, .. } => Session::Number(session),
+        Message::Negotiate { session, .. } => Session::Number(session),
+        Message::End { session, .. } => Session::Number(session),
+        Message::Wait { session, .. } => Session::Number(session),
+        Message::Synch { session, .. } => Session::Number(session),
+        Message::Flood { session, .. } => Session::Number(session),
+        Message::Invalid { session, .. } => Session::Number(session),
     }
 }
 
@@ -122,53 +54,16 @@ pub fn initiator_of(m: Message) -> Span
 {
     match m {
         Message::Noop => Span { at: 0, len: 0 },
-        Message::Discovery {
-            session: _,
-            initiator,
-            objective: _,
-        } => initiator,
-        Message::Response {
-            session: _,
-            initiator,
-            ttl: _,
-            targets: _,
-            extra: _,
-        } => initiator,
-        Message::RequestNegotiation {
-            session: _,
-            objective: _,
-        } => Span { at: 0, len: 0 },
-        Message::RequestSynchronization {
-            session: _,
-            objective: _,
-        } => Span { at: 0, len: 0 },
-        Message::Negotiate {
-            session: _,
-            objective: _,
-        } => Span { at: 0, len: 0 },
-        Message::End {
-            session: _,
-            outcome: _,
-        } => Span { at: 0, len: 0 },
-        Message::Wait {
-            session: _,
-            time: _,
-        } => Span { at: 0, len: 0 },
-        Message::Synch {
-            session: _,
-            objective: _,
-        } => Span { at: 0, len: 0 },
-        Message::Flood {
-            session: _,
-            initiator,
-            ttl: _,
-            first: _,
-            pairs: _,
-        } => initiator,
-        Message::Invalid {
-            session: _,
-            item: _,
-        } => Span { at: 0, len: 0 },
+        Message::Discovery { initiator, .. } => initiator,
+        Message::Response { initiator, .. } => initiator,
+        Message::RequestNegotiation { .. } => Span { at: 0, len: 0 },
+        Message::RequestSynchronization { .. } => Span { at: 0, len: 0 },
+        Message::Negotiate { .. } => Span { at: 0, len: 0 },
+        Message::End { .. } => Span { at: 0, len: 0 },
+        Message::Wait { .. } => Span { at: 0, len: 0 },
+        Message::Synch { .. } => Span { at: 0, len: 0 },
+        Message::Flood { initiator, .. } => initiator,
+        Message::Invalid { .. } => Span { at: 0, len: 0 },
     }
 }
 
@@ -178,52 +73,15 @@ pub fn objective_of(m: Message) -> Extra
 {
     match m {
         Message::Noop => Extra::Without,
-        Message::Discovery {
-            session: _,
-            initiator: _,
-            objective,
-        } => Extra::With(objective),
-        Message::Response {
-            session: _,
-            initiator: _,
-            ttl: _,
-            targets: _,
-            extra,
-        } => extra,
-        Message::RequestNegotiation {
-            session: _,
-            objective,
-        } => Extra::With(objective),
-        Message::RequestSynchronization {
-            session: _,
-            objective,
-        } => Extra::With(objective),
-        Message::Negotiate {
-            session: _,
-            objective,
-        } => Extra::With(objective),
-        Message::End {
-            session: _,
-            outcome: _,
-        } => Extra::Without,
-        Message::Wait {
-            session: _,
-            time: _,
-        } => Extra::Without,
-        Message::Synch {
-            session: _,
-            objective,
-        } => Extra::With(objective),
-        Message::Flood {
-            session: _,
-            initiator: _,
-            ttl: _,
-            first,
-            pairs: _,
-        } => Extra::With(first),
-        Message::Invalid {
-            session: _,
-            item: _,
-        } => Extra::Without,
+        Message::Discovery { objective, .. } => Extra::With(objective),
+        Message::Response { extra, .. } => extra,
+        Message::RequestNegotiation { objective, .. } => Extra::With(objective),
+        Message::RequestSynchronization { objective, .. } => Extra::With(objective),
+        Message::Negotiate { objective, .. } => Extra::With(objective),
+        Message::End { .. } => Extra::Without,
+        Message::Wait { .. } => Extra::Without,
+        Message::Synch { objective, .. } => Extra::With(objective),
+        Message::Flood { first, .. } => Extra::With(first),
+        Message::Invalid { .. } => Extra::Without,
     }
 }
