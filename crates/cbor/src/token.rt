@@ -25,10 +25,7 @@ pub fn token_at(s: &[u8], at: usize) -> Token
     }
     let head = head::read(&s[at..]);
     match head {
-        HeadRead::Refused {
-            number: _,
-            place: _,
-        } => nothing_at(at),
+        HeadRead::Refused { .. } => nothing_at(at),
         HeadRead::Head { major, arg, len } => token_of(at, s.len() - at, major, arg, len),
     }
 }
@@ -156,10 +153,7 @@ pub fn size_at(levels: usize, s: &[u8], at: usize) -> usize
     }
     let read = item::first(levels, &s[at..]);
     match read {
-        ItemRead::Refused {
-            number: _,
-            place: _,
-        } => 0,
+        ItemRead::Refused { .. } => 0,
         ItemRead::Ends(end) => end,
     }
 }

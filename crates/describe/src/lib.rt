@@ -62,8 +62,7 @@ pub fn description_of(m: Message) -> Description
             session,
             initiator,
             ttl,
-            first: _,
-            pairs: _,
+            ..
         } => Description::Flood {
             session,
             initiator,

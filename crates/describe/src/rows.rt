@@ -81,11 +81,7 @@ fn fill_locator(s: &[u8], at: usize, i: usize, list: &mut [u64]) -> usize
     let read = locator::read_at(s, at);
     match read {
         LocatorRead::Bad(_) => at,
-        LocatorRead::Got {
-            locator,
-            size,
-            bad: _,
-        } => {
+        LocatorRead::Got { locator, size, .. } => {
             let n = locator::numbers_of(locator);
             put_numbers(list, 5 * i, &n);
             at + size
@@ -123,8 +119,7 @@ fn fill_pair(s: &[u8], at: usize, i: usize, list: &mut [u64]) -> usize
             objective,
             tag,
             size,
-            bad: _,
-            long: _,
+            ..
         } => {
             let mut n = pair::numbers_of(objective, tag);
             n[4] = 0;

@@ -39,10 +39,10 @@ fn flooded_at(s: &[u8], opening: Opening, n: u64, at: usize) -> Shape
         PairRead::Bad(place) => Shape::Bad(place),
         PairRead::Got {
             objective,
-            tag: _,
             size,
             bad,
             long,
+            ..
         } => {
             let more = sequence::read_pairs(s, n - 1, at + size, bad, long);
             match more {

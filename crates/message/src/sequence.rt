@@ -42,9 +42,9 @@ pub(crate) fn read_locators(s: &[u8], n: u64, from: usize) -> LocatorsRead
                 return LocatorsRead::Bad(place);
             }
             LocatorRead::Got {
-                locator: _,
                 size,
                 bad: bad2,
+                ..
             } => {
                 at = at + size;
                 bad = options::first_of(bad, bad2);
@@ -93,11 +93,10 @@ pub(crate) fn read_pairs(
                 return PairsRead::Bad(place);
             }
             PairRead::Got {
-                objective: _,
-                tag: _,
                 size,
                 bad: bad2,
                 long: long2,
+                ..
             } => {
                 at = at + size;
                 bad = options::first_of(bad, bad2);

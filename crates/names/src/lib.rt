@@ -25,10 +25,7 @@ pub fn are_bad(s: &[u8]) -> bool
     }
     let whole = item::first(0, s);
     match whole {
-        ItemRead::Refused {
-            number: _,
-            place: _,
-        } => true,
+        ItemRead::Refused { .. } => true,
         ItemRead::Ends(end) => {
             if end != s.len() {
                 return true;

@@ -27,7 +27,7 @@ pub fn read(s: &[u8]) -> Reading
             }
             return Reading::Refused(7);
         }
-        Examined::Refused { number, place: _ } => {
+        Examined::Refused { number, .. } => {
             return Reading::Refused(walk(s, number));
         }
     }
@@ -39,7 +39,7 @@ fn walk(s: &[u8], later: u8) -> u8
 {
     let whole = item::first(0, s);
     match whole {
-        ItemRead::Refused { number, place: _ } => number,
+        ItemRead::Refused { number, .. } => number,
         ItemRead::Ends(end) => {
             if end != s.len() {
                 return 7;
