@@ -12,7 +12,7 @@ use lib.ListN.{replicate, length, drop, set, getD, length-drop, length-set}
 use lib.Seq.{getD-set-same, getD-set-other, drop-drop}
 use Rattle.cbor.specs.declared.item.Step.{Step}
 use Rattle.cbor.specs.declared.item.ItemRead.{ItemRead}
-use Rattle.cbor.specs.Item.{stepAt, itemsOf, leftUnder, next, firstItem}
+use Rattle.cbor.specs.Item.{stepAt, itemsOf, Counts, leftUnder, next, firstItem}
 use Rattle.cbor.proofs.Bounds.{StepOk, step-ok}
 use Rattle.cbor.proofs.Runs.{runs, runs-end, runs-close, runs-step, runs-many}
 
@@ -110,8 +110,8 @@ module _ (levels : ℕ) (s : List ℕ) (most : ℕ) (outer : List ℕ) (depth la
         }
 
     pub opened : (len n : ℕ) (pairs : Bool) (m : ℕ) → stepAt (most - depth) (drop at s) ≡ Step.Opened len n pairs → length s < 2 ^ 63
-        → (m ≡ itemsOf n pairs) ⊎ ((2 ^ 63 ≤ m) × (2 ^ 63 ≤ itemsOf n pairs)) → Inv levels s most (set outer depth (lacking - 1)) (depth + 1) m (at + len)
-    unfolding next
+        → Counts n pairs m → Inv levels s most (set outer depth (lacking - 1)) (depth + 1) m (at + len)
+    unfolding next Counts
     opened len n pairs m answer short count =
         let ok : ((1 ≤ len) × (len ≤ length s - at)) × (1 ≤ most - depth) = fits (Step.Opened len n pairs) answer in
         let here : depth < length outer = omega (arith, i .eight, i .most-is) in

@@ -1,10 +1,10 @@
 // The first whole item of a slice.
 ghost use mathlib.Core.Path.{_≡_};
 ghost use mathlib.Core.List.{List, _∷_};
-ghost use mathlib.Core.Logic.{_⊎_, _≢_};
-ghost use Prim.Native.Nat.{ℕ, _+_, _^_, _≤_};
+ghost use mathlib.Core.Logic.{_≢_};
+ghost use Prim.Native.Nat.{ℕ, _+_, _≤_};
 ghost use lib.ListN.{length, drop};
-ghost use Rattle.cbor.specs.Item.{CommonIs, stepOf, stepAt, itemsOf, leftUnder, firstItem};
+ghost use Rattle.cbor.specs.Item.{Counts, TurnIs, CommonIs, opens, stepOf, stepAt, leftUnder, firstItem};
 use crate::head;
 use crate::head::HeadRead;
 
@@ -22,6 +22,13 @@ pub enum ItemRead {
 pub enum Step {
     Passed(usize),
     Opened { len: usize, n: u64, pairs: bool },
+    Refused { number: u8, place: usize },
+}
+
+// A step with its items counted: an array, a map or a tag opened lacks n items.
+pub enum Turn {
+    Passed(usize),
+    Opened { len: usize, n: u64 },
     Refused { number: u8, place: usize },
 }
 
@@ -51,36 +58,21 @@ pub fn first(levels: usize, s: &[u8]) -> ItemRead
             depth = depth - 1;
             lacking = outer[depth];
         } else {
-            let common = common_at(most - depth, s, at);
-            match common {
-                Common::Passed(len) => {
+            let turn = turn_at(most - depth, s, at);
+            match turn {
+                Turn::Refused { number, place } => {
+                    let place = at + place;
+                    return ItemRead::Refused { number, place };
+                }
+                Turn::Passed(len) => {
                     at = at + len;
                     lacking = lacking - 1;
                 }
-                Common::Opened(n) => {
-                    at = at + 1;
+                Turn::Opened { len, n } => {
+                    at = at + len;
                     outer[depth] = lacking - 1;
                     depth = depth + 1;
                     lacking = n;
-                }
-                Common::Other => {
-                    let step = step_at(most - depth, &s[at..]);
-                    match step {
-                        Step::Refused { number, place } => {
-                            let place = at + place;
-                            return ItemRead::Refused { number, place };
-                        }
-                        Step::Passed(len) => {
-                            at = at + len;
-                            lacking = lacking - 1;
-                        }
-                        Step::Opened { len, n, pairs } => {
-                            at = at + len;
-                            outer[depth] = lacking - 1;
-                            depth = depth + 1;
-                            lacking = items(n, pairs);
-                        }
-                    }
                 }
             }
         }
@@ -95,6 +87,19 @@ fn left_under(levels: usize) -> usize
         return 0;
     }
     MOST_LEVELS - levels
+}
+
+// What the walk does at the head at `at`, where so many levels may open.
+fn turn_at(left: usize, s: &[u8], at: usize) -> Turn
+    requires { ⌜ at ≤ length (now s) ⌝ }
+    ensures { λ r. ⌜ TurnIs (stepAt left (drop at (now (s .entry)))) r ⌝ }
+{
+    let common = common_at(left, s, at);
+    match common {
+        Common::Passed(len) => Turn::Passed(len),
+        Common::Opened(n) => Turn::Opened { len: 1, n },
+        Common::Other => turn_of(step_at(left, &s[at..])),
+    }
 }
 
 // The head at `at`, where so many levels may open, told by its first byte or two, so that most turns of the walk are short.
@@ -205,25 +210,7 @@ fn step_of(left: usize, room: usize, major: u8, arg: u64, len: usize) -> Step
                 place: 0,
             };
         }
-        if major == 4 {
-            return Step::Opened {
-                len,
-                n: arg,
-                pairs: false,
-            };
-        }
-        if major == 5 {
-            return Step::Opened {
-                len,
-                n: arg,
-                pairs: true,
-            };
-        }
-        return Step::Opened {
-            len,
-            n: 1,
-            pairs: false,
-        };
+        return opens(major, arg, len);
     }
     if 2 <= major {
         if arg <= (room - len) as u64 {
@@ -238,9 +225,48 @@ fn step_of(left: usize, room: usize, major: u8, arg: u64, len: usize) -> Step
     Step::Passed(len)
 }
 
+// What the head of an array, a map or a tag opens.
+fn opens(major: u8, arg: u64, len: usize) -> Step
+    ensures { λ r. ⌜ r ≡ opens major arg len ⌝ }
+{
+    if major == 4 {
+        return Step::Opened {
+            len,
+            n: arg,
+            pairs: false,
+        };
+    }
+    if major == 5 {
+        return Step::Opened {
+            len,
+            n: arg,
+            pairs: true,
+        };
+    }
+    Step::Opened {
+        len,
+        n: 1,
+        pairs: false,
+    }
+}
+
+// The step with its items counted.
+fn turn_of(step: Step) -> Turn
+    ensures { λ r. ⌜ TurnIs step r ⌝ }
+{
+    match step {
+        Step::Passed(len) => Turn::Passed(len),
+        Step::Opened { len, n, pairs } => {
+            let n = items(n, pairs);
+            Turn::Opened { len, n }
+        }
+        Step::Refused { number, place } => Turn::Refused { number, place },
+    }
+}
+
 // How many items these are, or 2^63, which is more than any slice has bytes, where there are at least so many.
 fn items(n: u64, pairs: bool) -> u64
-    ensures { λ r. ⌜ (r ≡ itemsOf n pairs) ⊎ ((2 ^ 63 ≤ r) × (2 ^ 63 ≤ itemsOf n pairs)) ⌝ }
+    ensures { λ r. ⌜ Counts n pairs r ⌝ }
 {
     if pairs {
         if n < 0x4000_0000_0000_0000 {

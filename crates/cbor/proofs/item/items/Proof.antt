@@ -3,7 +3,7 @@
 use mathlib.Core.Logic.{inl, inr}
 use native.Mathlib.Omega.{arith}
 use Rattle.base.specs.Pick.{pick}
-use Rattle.cbor.specs.Item.{itemsOf}
+use Rattle.cbor.specs.Item.{itemsOf, Counts}
 use borrow.Author.Needs.{needs}
 use Rattle.cbor.proofs.item.items.Statement.{statement}
 use Rattle.cbor.proofs.item.items.Tie as tie
@@ -16,17 +16,17 @@ mul-result c = search needs
 
 -- src/item.rt:140:13
 returns : tie.Need-returns
-unfolding itemsOf pick
+unfolding Counts itemsOf pick
 returns c = inl (rw (c .before .if1 .taken))
 
 -- src/item.rt:142:9
 returns-2 : tie.Need-returns-2
-unfolding itemsOf pick
+unfolding Counts itemsOf pick
 returns-2 c = inr (rw (c .before .if1 .taken) (omega arith))
 
 -- src/item.rt:135:1
 returns-3 : tie.Need-returns-3
-unfolding itemsOf pick
+unfolding Counts itemsOf pick
 returns-3 c = inl (rw (c .if1 .left))
 
 pub items-spec : {M : Type 1} → statement M

@@ -1,61 +1,57 @@
 -- `cbor::item::step_of` meets its contract.
 -- Assumes nothing.
 use Rattle.base.proofs.Tests.{tests}
+use borrow.Author.Tests.{ne-eqb, le-leb}
 use Rattle.base.specs.Pick.{pick}
-use Rattle.cbor.specs.Item.{stepOf, opens}
+use Rattle.cbor.specs.Item.{stepOf}
 use borrow.Author.Needs.{needs}
 use Rattle.cbor.proofs.item.step_of.Statement.{statement}
 use Rattle.cbor.proofs.item.step_of.Tie as tie
 use Rattle.cbor.proofs.item.step_of.Reads as reads
 use Rattle.cbor.proofs.item.step_of.Lts as lts
+use Rattle.cbor.proofs.item.opens.Reads as opens-reads
 
--- src/item.rt:92:9
+-- src/item.rt:204:9
 returns : tie.Need-returns
-unfolding stepOf opens pick
+unfolding stepOf pick
 returns c = search tests
 
--- src/item.rt:96:13
+-- src/item.rt:208:13
 returns-2 : tie.Need-returns-2
-unfolding stepOf opens pick
+unfolding stepOf pick
 returns-2 c = search tests
 
--- src/item.rt:102:13
+-- src/item.rt:213:9
+opens-requires : tie.Need-opens-requires
+opens-requires c κs = search needs
+
+-- src/item.rt:213:9
 returns-3 : tie.Need-returns-3
-unfolding stepOf opens pick
-returns-3 c = search tests
+unfolding stepOf pick
+returns-3 c = rw (ne-eqb _ _ (c .before .before .before .if1 .left), le-leb _ _ (c .before .before .if2 .taken), ne-eqb _ _ (c .before .if3 .left)) (c .opens .ensures)
 
--- src/item.rt:109:13
-returns-4 : tie.Need-returns-4
-unfolding stepOf opens pick
-returns-4 c = search tests
+-- src/item.rt:216:20
+sub-if5 : tie.Need-sub-if5
+sub-if5 c = search needs
 
--- src/item.rt:115:9
-returns-5 : tie.Need-returns-5
-unfolding stepOf opens pick
-returns-5 c = search tests
-
--- src/item.rt:122:20
-sub-if7 : tie.Need-sub-if7
-sub-if7 c = search needs
-
--- src/item.rt:123:23
+-- src/item.rt:217:23
 add-end : tie.Need-add-end
 add-end c = search needs
 
--- src/item.rt:124:13
+-- src/item.rt:218:13
+returns-4 : tie.Need-returns-4
+unfolding stepOf pick
+returns-4 c = search tests
+
+-- src/item.rt:220:9
+returns-5 : tie.Need-returns-5
+unfolding stepOf pick
+returns-5 c = search tests
+
+-- src/item.rt:199:1
 returns-6 : tie.Need-returns-6
-unfolding stepOf opens pick
+unfolding stepOf pick
 returns-6 c = search tests
-
--- src/item.rt:126:9
-returns-7 : tie.Need-returns-7
-unfolding stepOf opens pick
-returns-7 c = search tests
-
--- src/item.rt:87:1
-returns-8 : tie.Need-returns-8
-unfolding stepOf opens pick
-returns-8 c = search tests
 
 pub step-of-spec : {M : Type 1} → statement M
 step-of-spec =
@@ -63,11 +59,10 @@ step-of-spec =
     (tie.spec
     returns
     returns-2
+    opens-requires
     returns-3
+    sub-if5
+    add-end
     returns-4
     returns-5
-    sub-if7
-    add-end
-    returns-6
-    returns-7
-    returns-8)
+    returns-6)
