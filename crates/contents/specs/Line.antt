@@ -2,6 +2,7 @@
 use Prim.Native.Nat.{ℕ, _+_, _/_, _%_}
 use mathlib.Core.List.{List, [], _∷_, _++_}
 use lib.ListN.{length, take, replicate}
+use lib.Seq.{sets}
 use lib.Dec.{ltb}
 use Rattle.base.specs.Pick.{pick}
 use Rattle.contents.specs.declared.line.Line.{Line}
@@ -16,17 +17,31 @@ decimal n =
     (pick (ltb n 100) ((48 + n / 10 % 10) ∷ (48 + n % 10) ∷ [])
     ((48 + n / 100) ∷ (48 + n / 10 % 10) ∷ (48 + n % 10) ∷ []))
 
--- a text of at most 12 bytes
+-- a number and a line feed
+unfoldable pub numbered : ℕ → List ℕ
+numbered n = decimal n ++ (10 ∷ [])
+
+-- a line of a text of at most 12 bytes
 unfoldable pub padded : List ℕ → Line
 padded text = record { bytes = take 12 (text ++ replicate 12 0); len = length text }
 
+-- a line with a text after its own
+unfoldable pub withText : Line → List ℕ → Line
+withText line text = record { bytes = sets (line .bytes) (line .len) text; len = line .len + length text }
+
 -- `kind `, the number, and a line feed
+unfoldable pub kindWord : List ℕ
+kindWord = 107 ∷ 105 ∷ 110 ∷ 100 ∷ 32 ∷ []
+
 unfoldable pub kindLine : ℕ → Line
-kindLine n = padded ((107 ∷ 105 ∷ 110 ∷ 100 ∷ 32 ∷ []) ++ decimal n ++ (10 ∷ []))
+kindLine n = padded (kindWord ++ numbered n)
 
 -- `refused `, the number, and a line feed
+unfoldable pub refusedWord : List ℕ
+refusedWord = 114 ∷ 101 ∷ 102 ∷ 117 ∷ 115 ∷ 101 ∷ 100 ∷ 32 ∷ []
+
 unfoldable pub refusedLine : ℕ → Line
-refusedLine n = padded ((114 ∷ 101 ∷ 102 ∷ 117 ∷ 115 ∷ 101 ∷ 100 ∷ 32 ∷ []) ++ decimal n ++ (10 ∷ []))
+refusedLine n = padded (refusedWord ++ numbered n)
 
 unfoldable pub lineFrom : Reading → Line
 lineFrom (Reading.Refused number) = refusedLine number

@@ -1,6 +1,7 @@
 // What the program `read_message` prints of a message: one line.
 ghost use mathlib.Core.Path.{_≡_};
-ghost use Rattle.contents.specs.Line.{kindLine, refusedLine, lineOf};
+ghost use Prim.Native.Nat.{_≤_};
+ghost use Rattle.contents.specs.Line.{numbered, withText, kindLine, refusedLine, lineOf};
 use crate::fields;
 use message::Reading;
 
@@ -24,86 +25,47 @@ pub fn line_of(s: &[u8]) -> Line
 fn kind_line(n: u8) -> Line
     ensures { λ r. ⌜ r ≡ kindLine n ⌝ }
 {
-    let a = b'0' + n / 100;
-    let b = b'0' + n / 10 % 10;
-    let c = b'0' + n % 10;
-    if n < 10 {
-        return Line {
-            bytes: [b'k', b'i', b'n', b'd', b' ', c, b'\n', 0, 0, 0, 0, 0],
-            len: 7,
-        };
-    }
-    if n < 100 {
-        return Line {
-            bytes: [b'k', b'i', b'n', b'd', b' ', b, c, b'\n', 0, 0, 0, 0],
-            len: 8,
-        };
-    }
-    Line {
-        bytes: [b'k', b'i', b'n', b'd', b' ', a, b, c, b'\n', 0, 0, 0],
-        len: 9,
-    }
+    let word = Line {
+        bytes: [b'k', b'i', b'n', b'd', b' ', 0, 0, 0, 0, 0, 0, 0],
+        len: 5,
+    };
+    with_number(word, n)
 }
 
 fn refused_line(n: u8) -> Line
     ensures { λ r. ⌜ r ≡ refusedLine n ⌝ }
 {
+    let word = Line {
+        bytes: [b'r', b'e', b'f', b'u', b's', b'e', b'd', b' ', 0, 0, 0, 0],
+        len: 8,
+    };
+    with_number(word, n)
+}
+
+// The line with a number and a line feed after its text.
+fn with_number(line: Line, n: u8) -> Line
+    requires { ⌜ line .len ≤ 8 ⌝ }
+    ensures { λ r. ⌜ r ≡ withText line (numbered n) ⌝ }
+{
     let a = b'0' + n / 100;
     let b = b'0' + n / 10 % 10;
     let c = b'0' + n % 10;
+    let at = line.len;
+    let mut bytes = line.bytes;
     if n < 10 {
-        return Line {
-            bytes: [
-                b'r',
-                b'e',
-                b'f',
-                b'u',
-                b's',
-                b'e',
-                b'd',
-                b' ',
-                c,
-                b'\n',
-                0,
-                0,
-            ],
-            len: 10,
-        };
+        bytes[at] = c;
+        bytes[at + 1] = b'\n';
+        return Line { bytes, len: at + 2 };
     }
     if n < 100 {
-        return Line {
-            bytes: [
-                b'r',
-                b'e',
-                b'f',
-                b'u',
-                b's',
-                b'e',
-                b'd',
-                b' ',
-                b,
-                c,
-                b'\n',
-                0,
-            ],
-            len: 11,
-        };
+        bytes[at] = b;
+        bytes[at + 1] = c;
+        bytes[at + 2] = b'\n';
+        return Line { bytes, len: at + 3 };
     }
-    Line {
-        bytes: [
-            b'r',
-            b'e',
-            b'f',
-            b'u',
-            b's',
-            b'e',
-            b'd',
-            b' ',
-            a,
-            b,
-            c,
-            b'\n',
-        ],
-        len: 12,
-    }
+    bytes[at] = a;
+    bytes[at + 1] = b;
+    bytes[at + 2] = c;
+    bytes[at + 3] = b'\n';
+    Line { bytes, len: at + 4 }
 }

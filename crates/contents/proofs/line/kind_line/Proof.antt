@@ -1,43 +1,27 @@
--- `contents::line::kind_line` meets its contract.
+-- `contents::line::kind_line` meets its contract: each number of digits by itself.
 -- Assumes nothing.
-use Rattle.contents.specs.Line.{kindLine, padded, decimal}
-use Rattle.base.specs.Pick.{pick}
-use borrow.Author.Tests.{lt-ltb, le-ltb}
+use Prim.Native.Nat.{ℕ}
+use mathlib.Core.Path.{_≡_, refl, _∙_}
+use mathlib.Core.List.{List, _++_}
+use Rattle.contents.specs.Line.{padded, withText, kindWord, kindLine}
+use Rattle.contents.proofs.Numbered.{by-digits}
 use borrow.Author.Needs.{needs}
 use Rattle.contents.proofs.line.kind_line.Statement.{statement}
 use Rattle.contents.proofs.line.kind_line.Tie as tie
 use Rattle.contents.proofs.line.kind_line.Reads as reads
 use Rattle.contents.proofs.line.kind_line.Lts as lts
+use Rattle.contents.proofs.line.with_number.Reads as with-number-reads
 
--- src/line.rt:27:13
-add-a : tie.Need-add-a
-add-a c = search needs
+-- src/line.rt:32:5
+with-number-requires : tie.Need-with-number-requires
+with-number-requires c κs = search needs
 
--- src/line.rt:28:13
-add-b : tie.Need-add-b
-add-b c = search needs
-
--- src/line.rt:29:13
-add-c : tie.Need-add-c
-add-c c = search needs
-
--- src/line.rt:31:9
+-- src/line.rt:25:1
 returns : tie.Need-returns
-unfolding kindLine padded decimal pick
+unfolding padded withText kindWord kindLine
 returns c =
-    rw (lt-ltb _ _ (c .if1 .taken))
-
--- src/line.rt:37:9
-returns-2 : tie.Need-returns-2
-unfolding kindLine padded decimal pick
-returns-2 c =
-    rw (le-ltb _ _ (c .before .if1 .left), lt-ltb _ _ (c .if2 .taken))
-
--- src/line.rt:24:1
-returns-3 : tie.Need-returns-3
-unfolding kindLine padded decimal pick
-returns-3 c =
-    rw (le-ltb _ _ (c .before .if1 .left), le-ltb _ _ (c .if2 .left))
+    c .with-number .ensures
+    ∙ by-digits (λ (text : List ℕ). withText (padded kindWord) text ≡ padded (kindWord ++ text)) (λ a. refl) (λ a b. refl) (λ a b c. refl) (c .before .args .n)
 
 pub kind-line-spec : {M : Type 1} → statement M
-kind-line-spec = tie.close (tie.spec add-a add-b add-c returns returns-2 returns-3)
+kind-line-spec = tie.close (tie.spec with-number-requires returns)

@@ -1,0 +1,28 @@
+-- The digits of a number at the end of a line.
+-- Assumes nothing.
+use Prim.Native.Nat.{ℕ, suc, _+_}
+use native.Mathlib.Omega.{arith}
+use mathlib.Core.Path.{_≡_}
+use mathlib.Core.List.{List, [], _∷_, _++_}
+use mathlib.Core.Bool.{Bool, true, false}
+use lib.Dec.{ltb}
+use Rattle.base.specs.Pick.{pick}
+use Rattle.contents.specs.Line.{decimal, numbered}
+
+-- what holds of one, two and three digits with a line feed holds of a number and a line feed
+pub by-digits : (P : List ℕ → Type 0) → ((a : ℕ) → P (a ∷ 10 ∷ [])) → ((a b : ℕ) → P (a ∷ b ∷ 10 ∷ [])) → ((a b c : ℕ) → P (a ∷ b ∷ c ∷ 10 ∷ []))
+    → (n : ℕ) → P (numbered n)
+unfolding numbered decimal pick
+by-digits P one two three n = by (ltb n 10) (ltb n 100) _ _ _ _ _ _
+  where
+    by : (t u : Bool) (a b c d e f : ℕ) → P (pick t (a ∷ []) (pick u (b ∷ c ∷ []) (d ∷ e ∷ f ∷ [])) ++ (10 ∷ []))
+    by true u a b c d e f = one a
+    by false true a b c d e f = two b c
+    by false false a b c d e f = three d e f
+
+-- ---- places one after the other
+pub two-on : (n : ℕ) → n + 2 ≡ suc (suc n)
+two-on n = omega arith
+
+pub three-on : (n : ℕ) → n + 3 ≡ suc (suc (suc n))
+three-on n = omega arith
