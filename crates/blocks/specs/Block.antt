@@ -22,6 +22,10 @@ openedBlock kind session initiator ttl = kind ∷ session ∷ initiator .at ∷ 
 unfoldable pub withObjective : List ℕ → Objective → List ℕ
 withObjective b o = sets b 5 (1 ∷ objectiveNumbers o)
 
+-- a session and an objective alone
+unfoldable pub exchangeBlock : ℕ → ℕ → Objective → List ℕ
+exchangeBlock kind session o = withObjective (openedBlock kind session (spanOf 0 0) 0) o
+
 unfoldable pub withExtra : List ℕ → Extra → List ℕ
 withExtra b Extra.Without = b
 withExtra b (Extra.With o) = withObjective b o
@@ -47,11 +51,11 @@ unfoldable pub blockOf : Message → List ℕ
 blockOf M.Noop = openedBlock 0 0 (spanOf 0 0) 0
 blockOf (M.Discovery session initiator o) = withObjective (openedBlock 1 session initiator 0) o
 blockOf (M.Response session initiator ttl targets extra) = targetsBlock (withExtra (openedBlock 2 session initiator ttl) extra) targets
-blockOf (M.RequestNegotiation session o) = withObjective (openedBlock 3 session (spanOf 0 0) 0) o
-blockOf (M.RequestSynchronization session o) = withObjective (openedBlock 4 session (spanOf 0 0) 0) o
-blockOf (M.Negotiate session o) = withObjective (openedBlock 5 session (spanOf 0 0) 0) o
+blockOf (M.RequestNegotiation session o) = exchangeBlock 3 session o
+blockOf (M.RequestSynchronization session o) = exchangeBlock 4 session o
+blockOf (M.Negotiate session o) = exchangeBlock 5 session o
 blockOf (M.End session outcome) = outcomeBlock (openedBlock 6 session (spanOf 0 0) 0) outcome
 blockOf (M.Wait session time) = openedBlock 7 session (spanOf 0 0) time
-blockOf (M.Synch session o) = withObjective (openedBlock 8 session (spanOf 0 0) 0) o
+blockOf (M.Synch session o) = exchangeBlock 8 session o
 blockOf (M.Flood session initiator ttl first pairs) = withSeries (withObjective (openedBlock 9 session initiator ttl) first) 3 pairs
 blockOf (M.Invalid session item) = withSpan (openedBlock 99 session (spanOf 0 0) 0) 0 item

@@ -1,6 +1,6 @@
 // What was read, as a block of numbers in fixed places.
 ghost use mathlib.Core.Path.{_≡_};
-ghost use Rattle.blocks.specs.Block.{openedBlock, withObjective, withExtra, withSpan, withSeries, targetsBlock, outcomeBlock, blockOf};
+ghost use Rattle.blocks.specs.Block.{openedBlock, withObjective, exchangeBlock, withExtra, withSpan, withSeries, targetsBlock, outcomeBlock, blockOf};
 use message::Extra;
 use message::Message;
 use message::Series;
@@ -9,6 +9,9 @@ use options::Outcome;
 use options::Span;
 use options::objective::Objective;
 
+// The span of what is not there.
+const NONE: Span = Span { at: 0, len: 0 };
+
 // The block of a message: kind, session, initiator (place, length), ttl or waiting time; 1 for an objective, its name
 // (place, length), flags, count, the place of the count's head, its value (place, length); 1 for locators, 2 for a divert,
 // 3 for pairs, the place of the first, how many; 1 for accept, 2 for decline, 3 for decline with a reason; the reason or
@@ -16,9 +19,8 @@ use options::objective::Objective;
 pub fn block_of(m: Message) -> [u64; 19]
     ensures { λ r. ⌜ r ≡ blockOf m ⌝ }
 {
-    let none = Span { at: 0, len: 0 };
     match m {
-        Message::Noop => opened(0, 0, none, 0),
+        Message::Noop => opened(0, 0, NONE, 0),
         Message::Discovery {
             session,
             initiator,
@@ -34,20 +36,12 @@ pub fn block_of(m: Message) -> [u64; 19]
             with_extra(opened(2, session, initiator, ttl), extra),
             targets,
         ),
-        Message::RequestNegotiation { session, objective } => {
-            with_objective(opened(3, session, none, 0), objective)
-        }
-        Message::RequestSynchronization { session, objective } => {
-            with_objective(opened(4, session, none, 0), objective)
-        }
-        Message::Negotiate { session, objective } => {
-            with_objective(opened(5, session, none, 0), objective)
-        }
-        Message::End { session, outcome } => with_outcome(opened(6, session, none, 0), outcome),
-        Message::Wait { session, time } => opened(7, session, none, time),
-        Message::Synch { session, objective } => {
-            with_objective(opened(8, session, none, 0), objective)
-        }
+        Message::RequestNegotiation { session, objective } => exchange(3, session, objective),
+        Message::RequestSynchronization { session, objective } => exchange(4, session, objective),
+        Message::Negotiate { session, objective } => exchange(5, session, objective),
+        Message::End { session, outcome } => with_outcome(opened(6, session, NONE, 0), outcome),
+        Message::Wait { session, time } => opened(7, session, NONE, time),
+        Message::Synch { session, objective } => exchange(8, session, objective),
         Message::Flood {
             session,
             initiator,
@@ -59,8 +53,15 @@ pub fn block_of(m: Message) -> [u64; 19]
             3,
             pairs,
         ),
-        Message::Invalid { session, item } => with_span(opened(99, session, none, 0), 0, item),
+        Message::Invalid { session, item } => with_span(opened(99, session, NONE, 0), 0, item),
     }
+}
+
+// The block of a kind that has a session and an objective alone.
+fn exchange(kind: u64, session: u32, o: Objective) -> [u64; 19]
+    ensures { λ r. ⌜ r ≡ exchangeBlock kind session o ⌝ }
+{
+    with_objective(opened(kind, session, NONE, 0), o)
 }
 
 fn opened(kind: u64, session: u32, initiator: Span, ttl: u32) -> [u64; 19]
@@ -132,8 +133,8 @@ fn with_outcome(block: [u64; 19], outcome: Outcome) -> [u64; 19]
     ensures { λ r. ⌜ r ≡ outcomeBlock block outcome ⌝ }
 {
     match outcome {
-        Outcome::Accept => with_span(block, 1, Span { at: 0, len: 0 }),
-        Outcome::Decline => with_span(block, 2, Span { at: 0, len: 0 }),
+        Outcome::Accept => with_span(block, 1, NONE),
+        Outcome::Decline => with_span(block, 2, NONE),
         Outcome::Reason(reason) => with_span(block, 3, reason),
     }
 }
