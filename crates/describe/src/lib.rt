@@ -1,11 +1,12 @@
 // A message that was read, as a description for the writer: its numbers and spans, and its locators or pairs as rows of a list.
 ghost use mathlib.Core.Path.{_≡_};
-ghost use Rattle.describe.specs.Describe.{goalOf, extraOf, isDivert, descriptionOf};
+ghost use Rattle.describe.specs.Describe.{goalOf, extraOf, isDivert, responseOf, exchangeOf, descriptionOf};
 use description::Description;
 use description::Extra;
 use description::Goal;
 use message::Message;
 use message::Targets;
+use options::Span;
 use options::objective::Objective;
 
 pub mod rows;
@@ -31,33 +32,13 @@ pub fn description_of(m: Message) -> Description
             ttl,
             targets,
             extra,
-        } => Description::Response {
-            session,
-            initiator,
-            ttl,
-            divert: is_divert(targets),
-            extra: extra_of(extra),
-        },
-        Message::RequestNegotiation { session, objective } => Description::RequestNegotiation {
-            session,
-            objective: goal_of(objective),
-        },
-        Message::RequestSynchronization { session, objective } => {
-            Description::RequestSynchronization {
-                session,
-                objective: goal_of(objective),
-            }
-        }
-        Message::Negotiate { session, objective } => Description::Negotiate {
-            session,
-            objective: goal_of(objective),
-        },
+        } => response_of(session, initiator, ttl, targets, extra),
+        Message::RequestNegotiation { session, objective } => exchange(3, session, objective),
+        Message::RequestSynchronization { session, objective } => exchange(4, session, objective),
+        Message::Negotiate { session, objective } => exchange(5, session, objective),
         Message::End { session, outcome } => Description::End { session, outcome },
         Message::Wait { session, time } => Description::Wait { session, time },
-        Message::Synch { session, objective } => Description::Synch {
-            session,
-            objective: goal_of(objective),
-        },
+        Message::Synch { session, objective } => exchange(8, session, objective),
         Message::Flood {
             session,
             initiator,
@@ -70,6 +51,41 @@ pub fn description_of(m: Message) -> Description
         },
         Message::Invalid { session, item } => Description::Invalid { session, item },
     }
+}
+
+fn response_of(
+    session: u32,
+    initiator: Span,
+    ttl: u32,
+    targets: Targets,
+    extra: message::Extra,
+) -> Description
+    ensures { λ r. ⌜ r ≡ responseOf session initiator ttl targets extra ⌝ }
+{
+    Description::Response {
+        session,
+        initiator,
+        ttl,
+        divert: is_divert(targets),
+        extra: extra_of(extra),
+    }
+}
+
+// Kinds 3, 4, 5 and 8, which have a session and an objective alone.
+fn exchange(kind: u8, session: u32, o: Objective) -> Description
+    ensures { λ r. ⌜ r ≡ exchangeOf kind session o ⌝ }
+{
+    let objective = goal_of(o);
+    if kind == 3 {
+        return Description::RequestNegotiation { session, objective };
+    }
+    if kind == 4 {
+        return Description::RequestSynchronization { session, objective };
+    }
+    if kind == 5 {
+        return Description::Negotiate { session, objective };
+    }
+    Description::Synch { session, objective }
 }
 
 fn goal_of(o: Objective) -> Goal

@@ -1,0 +1,27 @@
+-- `describe::response_of` meets its contract.
+-- Assumes nothing.
+use Rattle.describe.specs.Describe.{responseOf}
+use borrow.Author.Needs.{needs}
+use Rattle.describe.proofs.response_of.Statement.{statement}
+use Rattle.describe.proofs.response_of.Tie as tie
+use Rattle.describe.proofs.response_of.Reads as reads
+use Rattle.describe.proofs.response_of.Lts as lts
+use Rattle.describe.proofs.extra_of.Reads as extra-of-reads
+use Rattle.describe.proofs.is_divert.Reads as is-divert-reads
+
+-- src/lib.rt:69:17
+is-divert-requires : tie.Need-is-divert-requires
+is-divert-requires c κs = search needs
+
+-- src/lib.rt:70:16
+extra-of-requires : tie.Need-extra-of-requires
+extra-of-requires c κs = search needs
+
+-- src/lib.rt:56:1
+returns : tie.Need-returns
+unfolding responseOf
+returns c =
+    rw (← c .before .is-divert .ensures, ← c .extra-of .ensures)
+
+pub response-of-spec : {M : Type 1} → statement M
+response-of-spec = tie.close (tie.spec is-divert-requires extra-of-requires returns)
