@@ -1,5 +1,7 @@
 // Runs the stored cases over `reader::read`, a line for each: what the program `read_message` prints, and all that was read. A case is the
 // message's length in two bytes and the message.
+use contents::fields;
+use contents::fields::Session;
 use message::Extra;
 use message::Message;
 use message::Reading;
@@ -52,7 +54,8 @@ fn run(s: &[u8]) {
     match reading {
         Reading::Refused(n) => print_number(b"refused", n as u64),
         Reading::Read(m) => {
-            print_number(b"kind", contents::fields::kind_of(m) as u64);
+            print_number(b"kind", fields::kind_of(m) as u64);
+            print_session(fields::session_of(m));
             print_message(s, m);
         }
     }
@@ -66,8 +69,11 @@ fn print_number(word: &[u8], n: u64) {
     io::print_decimal(1, n);
 }
 
-fn print_session(session: u32) {
-    print_number(b" session", session as u64);
+fn print_session(session: Session) {
+    match session {
+        Session::Without => {}
+        Session::Number(n) => print_number(b" session", n as u64),
+    }
 }
 
 fn print_span(word: &[u8], span: Span) {
@@ -75,70 +81,51 @@ fn print_span(word: &[u8], span: Span) {
     print_number(b"", span.len as u64);
 }
 
-fn print_opening(session: u32, initiator: Span, ttl: u32) {
-    print_session(session);
+fn print_opening(initiator: Span, ttl: u32) {
     print_span(b" initiator", initiator);
     print_number(b" ttl", ttl as u64);
 }
 
+// What a message has after its session.
 fn print_message(s: &[u8], m: Message) {
     match m {
         Message::Noop => {}
         Message::Discovery {
-            session,
             initiator,
             objective,
+            ..
         } => {
-            print_session(session);
             print_span(b" initiator", initiator);
             print_objective(objective);
         }
         Message::Response {
-            session,
             initiator,
             ttl,
             targets,
             extra,
+            ..
         } => {
-            print_opening(session, initiator, ttl);
+            print_opening(initiator, ttl);
             print_targets(s, targets);
             print_extra(extra);
         }
-        Message::RequestNegotiation { session, objective } => print_exchange(session, objective),
-        Message::RequestSynchronization { session, objective } => {
-            print_exchange(session, objective)
-        }
-        Message::Negotiate { session, objective } => print_exchange(session, objective),
-        Message::End { session, outcome } => {
-            print_session(session);
-            print_outcome(outcome);
-        }
-        Message::Wait { session, time } => {
-            print_session(session);
-            print_number(b" wait", time as u64);
-        }
-        Message::Synch { session, objective } => print_exchange(session, objective),
+        Message::RequestNegotiation { objective, .. } => print_objective(objective),
+        Message::RequestSynchronization { objective, .. } => print_objective(objective),
+        Message::Negotiate { objective, .. } => print_objective(objective),
+        Message::End { outcome, .. } => print_outcome(outcome),
+        Message::Wait { time, .. } => print_number(b" wait", time as u64),
+        Message::Synch { objective, .. } => print_objective(objective),
         Message::Flood {
-            session,
             initiator,
             ttl,
-            first: _,
             pairs,
+            ..
         } => {
-            print_opening(session, initiator, ttl);
-            print_number(b" pairs", pairs.many);
+            print_opening(initiator, ttl);
             print_pairs(s, pairs);
         }
-        Message::Invalid { session, item } => {
-            print_session(session);
-            print_item(item);
-        }
+        Message::Invalid { item, .. } => print_item(item),
     }
-}
-
-fn print_exchange(session: u32, objective: Objective) {
-    print_session(session);
-    print_objective(objective);
 }
 
 fn print_objective(o: Objective) {
@@ -211,11 +198,7 @@ fn print_locator_at(s: &[u8], at: usize) -> usize {
     let read = options::locator::read_at(s, at);
     match read {
         LocatorRead::Bad(_) => at,
-        LocatorRead::Got {
-            locator,
-            size,
-            bad: _,
-        } => {
+        LocatorRead::Got { locator, size, .. } => {
             print_locator(locator);
             sum(at, size)
         }
@@ -267,6 +250,7 @@ fn print_or_null(n: u64, null: u64) {
 fn print_pairs(s: &[u8], series: Series) {
     let mut at = series.at;
     let many = series.many;
+    print_number(b" pairs", many);
     for _ in 0..many {
         at = print_pair_at(s, at);
     }
@@ -281,8 +265,7 @@ fn print_pair_at(s: &[u8], at: usize) -> usize {
             objective,
             tag,
             size,
-            bad: _,
-            long: _,
+            ..
         } => {
             print_objective(objective);
             print_tag(tag);

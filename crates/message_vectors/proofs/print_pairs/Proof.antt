@@ -6,6 +6,7 @@ use Rattle.message_vectors.proofs.print_pairs.Statement.{statement}
 use Rattle.message_vectors.proofs.print_pairs.Tie as tie
 use Rattle.message_vectors.proofs.print_pairs.Reads as reads
 use Rattle.message_vectors.proofs.print_pairs.Lts as lts
+use Rattle.message_vectors.proofs.print_number.Reads as print-number-reads
 use Rattle.message_vectors.proofs.print_pair_at.Reads as print-pair-at-reads
 
 abbrev Inv-loop : tie.InvT-loop
@@ -14,27 +15,35 @@ Inv-loop s at₀ many counter₀ at counter = counter ≤ many
 abbrev μ-loop : tie.MeasureT-loop
 μ-loop s at₀ many counter₀ at counter = many - counter
 
--- src/main.rt:270:5
+-- src/main.rt:253:18
+slice-aggregate-print-number : tie.Need-slice-aggregate-print-number Inv-loop μ-loop
+slice-aggregate-print-number c = search needs
+
+-- src/main.rt:253:5
+print-number-requires : tie.Need-print-number-requires Inv-loop μ-loop
+print-number-requires c κs = search needs
+
+-- src/main.rt:254:5
 loop-holds : tie.Need-loop-holds Inv-loop μ-loop
 loop-holds c = search needs
 
--- src/main.rt:271:9
+-- src/main.rt:255:9
 print-pair-at-requires : tie.Need-print-pair-at-requires Inv-loop μ-loop
 print-pair-at-requires c κs = search needs
 
--- src/main.rt:270:9
+-- src/main.rt:254:9
 add-counter : tie.Need-add-counter Inv-loop μ-loop
 add-counter c = search needs
 
--- src/main.rt:270:5
+-- src/main.rt:254:5
 loop-less : tie.Need-loop-less Inv-loop μ-loop
 loop-less c = search needs
 
--- src/main.rt:270:5
+-- src/main.rt:254:5
 loop-again : tie.Need-loop-again Inv-loop μ-loop
 loop-again c = search needs
 
--- src/main.rt:267:1
+-- src/main.rt:250:1
 returns : tie.Need-returns Inv-loop μ-loop
 returns c = search needs
 
@@ -44,6 +53,8 @@ print-pairs-spec =
     (tie.spec
     Inv-loop
     μ-loop
+    slice-aggregate-print-number
+    print-number-requires
     loop-holds
     print-pair-at-requires
     add-counter
