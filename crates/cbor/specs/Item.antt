@@ -47,7 +47,7 @@ stepAt left s = stepFrom left (length s) (headAt s)
 unfoldable pub itemsOf : ℕ → Bool → ℕ
 itemsOf n pairs = pick pairs (2 * n) n
 
--- a count of them, or any count above all lengths of a slice where they are so many
+-- m is how many items they are, or both are at least 2^63, which is more than any slice has bytes
 unfoldable pub Counts : ℕ → Bool → ℕ → Type 0
 Counts n pairs m = (m ≡ itemsOf n pairs) ⊎ ((2 ^ 63 ≤ m) × (2 ^ 63 ≤ itemsOf n pairs))
 
