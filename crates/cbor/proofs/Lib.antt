@@ -16,4 +16,5 @@ mod Runs
 mod Turn
 mod Steps
 mod Within
+mod Followed
 mod Stores
