@@ -5,7 +5,6 @@ use mathlib.Core.Logic.{_↔_}
 use mathlib.Core.List.{List, [], _∷_}
 use Prim.Native.Nat.{ℕ}
 use native.Mathlib.Omega.{arith}
-use Rattle.base.specs.BigEndian.{Bytes}
 use Rattle.base.specs.Lists.{Every}
 use Rattle.message.specs.declared.Message.{Message}
 use Rattle.message.specs.declared.Reading.{Reading}
@@ -53,15 +52,15 @@ moved-exactly state message sender next = (by (readOf message) refl, λ h. read-
     by (Reading.Read m) e q = (m, e, judged state message sender e q)
 
 -- A step is refused with 20 exactly if its message is read and leads to no state.
-pub refused-20-exactly : (state : State) (message : List ℕ) (sender : Side) → Bytes message
+pub refused-20-exactly : (state : State) (message : List ℕ) (sender : Side)
     → step state message sender ≡ Refused 20 ↔ ((m : Message) × (readOf message ≡ Reading.Read m) × ((next : State) → Allowed sender m state next → ⊥))
-refused-20-exactly state message sender bytes = (by (readOf message) refl, λ h. back (h .1) (h .2) (step state message sender) refl)
+refused-20-exactly state message sender = (by (readOf message) refl, λ h. back (h .1) (h .2) (step state message sender) refl)
   where
     by : (r : Reading) → readOf message ≡ r → step state message sender ≡ Refused 20 → (m : Message) × (readOf message ≡ Reading.Read m) × ((next : State) → Allowed sender m state next → ⊥)
     by (Reading.Refused number) e q =
         let f = unread-step state message sender e in
         let same : number ≡ 20 = cc in
-        absurd (omega (arith, reading-number message bytes e))
+        absurd (omega (arith, reading-number message e))
     by (Reading.Read m) e q = (m, e, λ next a. refused-or-moved q (read-step state message sender e ∙ allowed-moves a))
 
     back : {m : Message} → readOf message ≡ Reading.Read m → ((next : State) → Allowed sender m state next → ⊥) → (x : Stepped) → step state message sender ≡ x → step state message sender ≡ Refused 20
@@ -82,8 +81,8 @@ refused-exactly state message sender number other = (by (readOf message) refl, u
 
 -- A Request that is accepted opens a fresh state, with a count from 1 to 255, and then the other side has the turn.
 pub request-opens : (state : State) (message : List ℕ) (sender : Side) (next : State) (m : Message)
-    → Bytes message → readOf message ≡ Reading.Read m → kindOf m ≡ 3 → step state message sender ≡ Moved next → Opened sender m state next
-request-opens state message sender next m bytes read kind moved = by (judged state message sender read moved)
+    → readOf message ≡ Reading.Read m → kindOf m ≡ 3 → step state message sender ≡ Moved next → Opened sender m state next
+request-opens state message sender next m read kind moved = by (judged state message sender read moved)
   where
     by : {before after : State} → Allowed sender m before after → Opened sender m before after
     by (Allowed.request {session} {count} n c least) =
@@ -93,7 +92,7 @@ request-opens state message sender next m bytes read kind moved = by (judged sta
           names = n;
           counts = c;
           least = least;
-          most = request-count message bytes read n c;
+          most = request-count message read n c;
           before = refl;
           after = refl;
         }

@@ -34,7 +34,7 @@ pub described-written : (s list out : List ℕ) (m : Message) → Bytes s → re
     → (writeAnswer s (rowsLent s m list) (descriptionOf m) out ≡ Written.Length (length s)) × (writeOut s (rowsLent s m list) (descriptionOf m) out ≡ s ++ drop (length s) out)
 described-written s list out m b q room =
     let a = accepted-exactly s b .0 (m, q) in
-    read-written s s (rowsLent s m list) (descriptionOf m) out b a (described-says s list m q room a)
+    read-written s s (rowsLent s m list) (descriptionOf m) out a (described-says s list m q room a)
 
 -- And 19 is answered where it hasn't.
 pub described-short : (s list out : List ℕ) (m : Message) → Bytes s → readOf s ≡ Reading.Read m → rowsEnd m list ≤ length list → length out < length s

@@ -44,37 +44,41 @@ use Rattle.roundtrip.proofs.Once.{ValuedObj, ValuedPair, ValuedMsg}
 pub never : false ≡ true → ⊥
 never e = let z : _≡_ {A = ℕ} 0 1 = cc in omega arith
 
+-- P says A, where G is given, and A says P
+abbrev Tells : Type 0 → Type 0 → Type 0 → Type 0
+Tells G P A = (G → P → A) × (A → P)
+
 -- both tests
-and-exactly : {t u : Bool} {A B : Type 0} → t ≡ true ↔ A → u ≡ true ↔ B → pick t u false ≡ true ↔ (A × B)
+and-exactly : {t u : Bool} {G A B : Type 0} → Tells G (t ≡ true) A → Tells G (u ≡ true) B → Tells G (pick t u false ≡ true) (A × B)
 unfolding pick
-and-exactly {t = true} f g = (λ h. (f .0 refl, g .0 h), λ h. g .1 (h .1))
-and-exactly {t = false} f g = (λ h. absurd (never h), λ h. absurd (never (f .1 (h .0))))
+and-exactly {t = true} f g = (λ b h. (f .0 b refl, g .0 b h), λ h. g .1 (h .1))
+and-exactly {t = false} f g = (λ b h. absurd (never h), λ h. absurd (never (f .1 (h .0))))
 
 -- the second test, where the first fails
-unless-exactly : {t u : Bool} {A B : Type 0} → t ≡ false ↔ A → u ≡ true ↔ B → pick t false u ≡ true ↔ (A × B)
+unless-exactly : {t u : Bool} {G A B : Type 0} → Tells G (t ≡ false) A → Tells G (u ≡ true) B → Tells G (pick t false u ≡ true) (A × B)
 unfolding pick
-unless-exactly {t = true} f g = (λ h. absurd (never h), λ h. absurd (never (sym (f .1 (h .0)))))
-unless-exactly {t = false} f g = (λ h. (f .0 refl, g .0 h), λ h. g .1 (h .1))
+unless-exactly {t = true} f g = (λ b h. absurd (never h), λ h. absurd (never (sym (f .1 (h .0)))))
+unless-exactly {t = false} f g = (λ b h. (f .0 b refl, g .0 b h), λ h. g .1 (h .1))
 
 -- equal numbers
-equal-exactly : (a b : ℕ) → eqb a b ≡ true ↔ (a ≡ b)
-equal-exactly a b = (eqb-true a b, eq-eqb a b)
+equal-exactly : {G : Type 0} (a b : ℕ) → Tells G (eqb a b ≡ true) (a ≡ b)
+equal-exactly a b = (λ _. eqb-true a b, eq-eqb a b)
 
 -- a least number
-least-exactly : (a b : ℕ) → ltb a b ≡ false ↔ (b ≤ a)
-least-exactly a b = (ltb-false a b, le-ltb a b)
+least-exactly : {G : Type 0} (a b : ℕ) → Tells G (ltb a b ≡ false) (b ≤ a)
+least-exactly a b = (λ _. ltb-false a b, le-ltb a b)
 
 -- no test
-always : true ≡ true ↔ Unit {0}
-always = (λ h. tt, λ h. refl)
+always : {G : Type 0} → Tells G (true ≡ true) (Unit {0})
+always = (λ b h. tt, λ h. refl)
 
 -- in other words
-retold : {P A B : Type 0} → P ↔ A → (A → B) → (B → A) → P ↔ B
-retold f g h = (λ p. g (f .0 p), λ b. f .1 (h b))
+retold : {G P A B : Type 0} → Tells G P A → (A → B) → (B → A) → Tells G P B
+retold f g h = (λ b p. g (f .0 b p), λ x. f .1 (h x))
 
 -- ---- spans and values
 -- a span in the source
-inside-exactly : (source : List ℕ) (s : Span) → inside source s ≡ true ↔ Inside source s
+inside-exactly : {G : Type 0} (source : List ℕ) (s : Span) → Tells G (inside source s ≡ true) (Inside source s)
 unfolding inside
 inside-exactly source s = retold (equal-exactly (length (held source s)) (s .len)) there back
   where
@@ -118,12 +122,10 @@ no-bytes [] e = refl
 no-bytes (x ∷ bs) e = absurd (omega arith)
 
 -- a value: none, or an item
-value-exactly : (bs : List ℕ) → Bytes bs → okValue bs ≡ true ↔ Valued bs
+value-is : (bs : List ℕ) → Bytes bs → okValue bs ≡ true → Valued bs
 unfolding okValue
-value-exactly bs b = (
-  pick-case (λ r. r ≡ true → Valued bs) (eqb (length bs) 0) (λ e h. subst Valued (sym (no-bytes bs (eqb-true (length bs) 0 e))) Valued.none) (λ e h. whole-is bs b h),
-  value-ok bs,
-)
+value-is bs b =
+    pick-case (λ r. r ≡ true → Valued bs) (eqb (length bs) 0) (λ e h. subst Valued (sym (no-bytes bs (eqb-true (length bs) 0 e))) Valued.none) (λ e h. whole-is bs b h)
 
 -- parts of bytes are bytes
 bytes-front : (n : ℕ) (s : List ℕ) → Bytes s → Bytes (take n s)
@@ -138,9 +140,9 @@ bytes-held source s b = bytes-front (s .len) (drop (s .at) source) (bytes-drop (
 
 -- ---- rows
 -- each of the first n
-all-exactly : (p : ℕ → Bool) (P : ℕ → Type 0) → ((i : ℕ) → p i ≡ true ↔ P i) → (n i : ℕ) → allFrom p n i ≡ true ↔ ((j : ℕ) → j < n → P (i + j))
+all-exactly : {G : Type 0} (p : ℕ → Bool) (P : ℕ → Type 0) → ((i : ℕ) → Tells G (p i ≡ true) (P i)) → (n i : ℕ) → Tells G (allFrom p n i ≡ true) ((j : ℕ) → j < n → P (i + j))
 unfolding allFrom
-all-exactly p P f zero i = (λ h j l. absurd (omega arith), λ h. refl)
+all-exactly p P f zero i = (λ b h j l. absurd (omega arith), λ h. refl)
 all-exactly p P f (suc n) i =
     retold (and-exactly (f i) (all-exactly p P f n (suc i)))
     (λ h j l. split h j l)
@@ -154,7 +156,7 @@ all-exactly p P f (suc n) i =
     split h (suc j) l = rw step (h .1 j (omega arith))
 
 -- whole rows
-each-exactly : (size : ℕ) (ok : ℕ → Bool) (P : ℕ → Type 0) → ((i : ℕ) → ok i ≡ true ↔ P i) → (list : List ℕ) → okEach size ok list ≡ true ↔ Rows list size P
+each-exactly : {G : Type 0} (size : ℕ) (ok : ℕ → Bool) (P : ℕ → Type 0) → ((i : ℕ) → Tells G (ok i ≡ true) (P i)) → (list : List ℕ) → Tells G (okEach size ok list ≡ true) (Rows list size P)
 unfolding okEach
 each-exactly size ok P f list =
     retold (and-exactly (equal-exactly (length list % size) 0) (all-exactly ok P f (length list / size) 0))
@@ -166,33 +168,39 @@ pub up-to-exactly : {A : Type 0} (P : A → Type 0) (f : ℕ → A) (n : ℕ) �
 unfolding upTo
 up-to-exactly P f zero = (λ h i l. absurd (omega arith), λ h. tt)
 up-to-exactly P f (suc n) =
-    retold (every-append P (upTo f n) (f n ∷ []))
-    (λ h i l. elim (decLt i n) [ yes m ↦ up-to-exactly P f n .0 (h .0) i m | no m ↦ last h i (omega arith) ])
-    (λ h. (up-to-exactly P f n .1 (λ i l. h i (omega arith)), (h n (omega arith), tt)))
+    let (there, back) = every-append P (upTo f n) (f n ∷ []) in
+    (
+      λ e i l. let h = there e in elim (decLt i n) [ yes m ↦ up-to-exactly P f n .0 (h .0) i m | no m ↦ last h i (omega arith) ],
+      λ h. back (up-to-exactly P f n .1 (λ i l. h i (omega arith)), (h n (omega arith), tt)),
+    )
   where
     last : Every P (upTo f n) × (P (f n) × Unit {0}) → (i : ℕ) → i ≡ n → P (f i)
     last h i e = rw e (h .1 .0)
 
 -- five zeros
-blank-exactly : (p : Place) → blank p ≡ true ↔ ((p .content .at ≡ 0) × ((p .content .len ≡ 0) × ((p .protocol ≡ 0) × (p .port ≡ 0))))
+blank-exactly : {G : Type 0} (p : Place) → Tells G (blank p ≡ true) ((p .content .at ≡ 0) × ((p .content .len ≡ 0) × ((p .protocol ≡ 0) × (p .port ≡ 0))))
 unfolding blank
 blank-exactly p =
     and-exactly (equal-exactly (p .content .at) 0)
     (and-exactly (equal-exactly (p .content .len) 0) (and-exactly (equal-exactly (p .protocol) 0) (equal-exactly (p .port) 0)))
 
 -- a list where there is none to be
-list-exactly : (list : List ℕ) → eqb (length list) 0 ≡ true ↔ (list ≡ [])
+list-exactly : {G : Type 0} (list : List ℕ) → Tells G (eqb (length list) 0 ≡ true) (list ≡ [])
 list-exactly list = retold (equal-exactly (length list) 0) (no-bytes list) (ap length)
 
-module _ (source : List ℕ) (b : Bytes source) where
+module _ (source : List ℕ) where
+  -- what a test says of a source of bytes; what says so much passes the test, whatever the source's elements are
+  abbrev Judges : Bool → Type 0 → Type 0
+  Judges t A = Tells (Bytes source) (t ≡ true) A
+
   -- ---- the parts
   -- an item
-  item-exactly : (v : Span) → okItem source v ≡ true ↔ (Inside source v × Valued (held source v))
+  item-exactly : (v : Span) → Judges (okItem source v) (Inside source v × Valued (held source v))
   unfolding okItem
-  item-exactly v = and-exactly (inside-exactly source v) (value-exactly (held source v) (bytes-held source v b))
+  item-exactly v = and-exactly (inside-exactly source v) (λ b. value-is (held source v) (bytes-held source v b), value-ok (held source v))
 
   -- an objective
-  entry-exactly : (o : Entry) → okEntry source o ≡ true ↔ (EntrySays source o × Valued (held source (o .value)))
+  entry-exactly : (o : Entry) → Judges (okEntry source o) (EntrySays source o × Valued (held source (o .value)))
   unfolding okEntry
   entry-exactly o =
       retold (and-exactly (inside-exactly source (o .name)) (item-exactly (o .value)))
@@ -200,7 +208,7 @@ module _ (source : List ℕ) (b : Bytes source) where
       (λ h. (h .0 .name, (h .0 .value, h .1)))
 
   -- a locator
-  place-exactly : (p : Place) → okPlace source p ≡ true ↔ PlaceSays source p
+  place-exactly : (p : Place) → Judges (okPlace source p) (PlaceSays source p)
   unfolding okPlace
   place-exactly p =
       retold (unless-exactly (least-exactly (p .kind) 103) (unless-exactly (least-exactly 106 (p .kind)) (inside-exactly source (p .content))))
@@ -208,29 +216,29 @@ module _ (source : List ℕ) (b : Bytes source) where
       (λ h. (h .least, (h .most, h .content)))
 
   -- a pair's locator or none
-  tag-exactly : (p : Place) → okNoneOr source p ≡ true ↔ (Blank p ⊎ PlaceSays source p)
+  tag-exactly : (p : Place) → Judges (okNoneOr source p) (Blank p ⊎ PlaceSays source p)
   unfolding okNoneOr
   tag-exactly p = (
-    pick-case (λ r. r ≡ true → Blank p ⊎ PlaceSays source p) (eqb (p .kind) 0)
-        (λ e h. let f = blank-exactly p .0 h in inl (record { kind = eqb-true (p .kind) 0 e; at = f .0; len = f .1 .0; protocol = f .1 .1 .0; port = f .1 .1 .1 }))
-        (λ e h. inr (place-exactly p .0 h)),
+    λ b. pick-case (λ r. r ≡ true → Blank p ⊎ PlaceSays source p) (eqb (p .kind) 0)
+        (λ e h. let f = blank-exactly p .0 b h in inl (record { kind = eqb-true (p .kind) 0 e; at = f .0; len = f .1 .0; protocol = f .1 .1 .0; port = f .1 .1 .1 }))
+        (λ e h. inr (place-exactly p .0 b h)),
     back,
   )
     where
       back : Blank p ⊎ PlaceSays source p → pick (eqb (p .kind) 0) (blank p) (okPlace source p) ≡ true
       back (inl h) =
-          pick-case (λ r. r ≡ true) (eqb (p .kind) 0) (λ e. blank-exactly p .1 (h .at, (h .len, (h .protocol, h .port)))) (λ e. absurd (eqb-false (p .kind) 0 e (h .kind)))
+          pick-case (λ r. r ≡ true) (eqb (p .kind) 0) (λ e. blank-exactly {G = Bytes source} p .1 (h .at, (h .len, (h .protocol, h .port)))) (λ e. absurd (eqb-false (p .kind) 0 e (h .kind)))
       back (inr h) =
           pick-case (λ r. r ≡ true) (eqb (p .kind) 0) (λ e. absurd (omega (arith, eqb-true (p .kind) 0 e, h .least))) (λ e. place-exactly p .1 h)
 
   -- the locators of a list
-  rows-exactly : (list : List ℕ) → okRows source list ≡ true ↔ Rows list placeRow (λ k. PlaceSays source (placeAt list (placeRow * k)))
+  rows-exactly : (list : List ℕ) → Judges (okRows source list) (Rows list placeRow (λ k. PlaceSays source (placeAt list (placeRow * k))))
   unfolding okRows okRow
   rows-exactly list =
       each-exactly placeRow (okRow source list) (λ k. PlaceSays source (placeAt list (placeRow * k))) (λ k. place-exactly (placeAt list (placeRow * k))) list
 
   -- a pair's row, with its value
-  pair-exactly : (list : List ℕ) (i : ℕ) → okPair source list i ≡ true ↔ (PairSays source list i × ValuedPair (rowPair source list i))
+  pair-exactly : (list : List ℕ) (i : ℕ) → Judges (okPair source list i) (PairSays source list i × ValuedPair (rowPair source list i))
   unfolding okPair rowPair objOf
   pair-exactly list i =
       retold
@@ -240,7 +248,7 @@ module _ (source : List ℕ) (b : Bytes source) where
       (λ h. (h .0 .kept, ((h .0 .objective, h .1), h .0 .locator)))
 
   -- the pairs of a list
-  pairs-exactly : (list : List ℕ) → okPairs source list ≡ true ↔ (Rows list pairRow (PairSays source list) × Every ValuedPair (pairsOf source list))
+  pairs-exactly : (list : List ℕ) → Judges (okPairs source list) (Rows list pairRow (PairSays source list) × Every ValuedPair (pairsOf source list))
   unfolding okPairs pairsOf
   pairs-exactly list =
       retold (each-exactly pairRow (okPair source list) (λ i. PairSays source list i × ValuedPair (rowPair source list i)) (pair-exactly list) list)
@@ -248,26 +256,26 @@ module _ (source : List ℕ) (b : Bytes source) where
       (λ h. record { whole = h .0 .whole; each = λ i l. (h .0 .each i l, up-to-exactly ValuedPair (rowPair source list) (length list / pairRow) .0 (h .1) i l) })
 
   -- an objective that may be left out
-  extra-exactly : (o : Extra) → okExtra source o ≡ true ↔ (ExtraSays source o × Each ValuedObj (extraOf source o))
+  extra-exactly : (o : Extra) → Judges (okExtra source o) (ExtraSays source o × Each ValuedObj (extraOf source o))
   unfolding okExtra extraOf objOf
-  extra-exactly X.Without = (λ h. (tt, tt), λ h. refl)
+  extra-exactly X.Without = (λ b h. (tt, tt), λ h. refl)
   extra-exactly (X.With o) = entry-exactly (entryOf o)
 
   -- how a negotiation ends
-  outcome-exactly : (e : Outcome) → okOutcome source e ≡ true ↔ OutcomeSays source e
+  outcome-exactly : (e : Outcome) → Judges (okOutcome source e) (OutcomeSays source e)
   unfolding okOutcome
-  outcome-exactly E.Accept = (λ h. tt, λ h. refl)
-  outcome-exactly E.Decline = (λ h. tt, λ h. refl)
+  outcome-exactly E.Accept = (λ b h. tt, λ h. refl)
+  outcome-exactly E.Decline = (λ b h. tt, λ h. refl)
   outcome-exactly (E.Reason t) = inside-exactly source t
 
   -- ---- descriptions
   -- an objective, and no list
-  exchange-exactly : (list : List ℕ) (o : Entry) → pick (eqb (length list) 0) (okEntry source o) false ≡ true ↔ (((list ≡ []) × EntrySays source o) × Valued (held source (o .value)))
+  exchange-exactly : (list : List ℕ) (o : Entry) → Judges (pick (eqb (length list) 0) (okEntry source o) false) (((list ≡ []) × EntrySays source o) × Valued (held source (o .value)))
   exchange-exactly list o =
       retold (and-exactly (list-exactly list) (entry-exactly o)) (λ h. ((h .0, h .1 .0), h .1 .1)) (λ h. (h .0 .0, (h .0 .1, h .1)))
 
   -- Those that the judge passes say something, and their values are items.
-  pub described-exactly : (list : List ℕ) (d : Description) → okDescribed source list d ≡ true ↔ (PartsSay source list d × ValuedMsg (msgOf source list d))
+  pub described-exactly : (list : List ℕ) (d : Description) → Judges (okDescribed source list d) (PartsSay source list d × ValuedMsg (msgOf source list d))
   unfolding okDescribed okList okParts okDiscovery okResponse okFlood msgOf objOf pick
   described-exactly list D.Noop = retold (and-exactly (list-exactly list) always) (λ h. (h .0, tt)) (λ h. (h .0, tt))
   described-exactly list (D.Discovery s i o) =

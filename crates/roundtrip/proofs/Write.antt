@@ -67,7 +67,7 @@ module _ (source list : List ℕ) (d : Description) (b : Bytes source) where
   unfolding draftOf
   drafted ok a =
       message-once (plain-small (a .message .is))
-      (plain-valued (a .message .good) (a .message .shallow) (a .message .is)) (described-exactly source b list d .0 ok .1)
+      (plain-valued (a .message .good) (a .message .shallow) (a .message .is)) (described-exactly source list d .0 b ok .1)
       (rw (read-encoded _ a) (a .message .most)) (read-encoded _ a)
 
   -- one that passes the tests is
@@ -87,20 +87,20 @@ module _ (source list : List ℕ) (d : Description) (b : Bytes source) where
   passes-says : Passes source list d → (s : List ℕ) × (a : Accepted s) × Says source list d (plain (a .message .msg))
   passes-says p =
       let r = passes-back p in
-      (draftOf source list d, r .accepted, record { parts = described-exactly source b list d .0 (p .described) .0; is = sym (r .same (r .accepted)) })
+      (draftOf source list d, r .accepted, record { parts = described-exactly source list d .0 b (p .described) .0; is = sym (r .same (r .accepted)) })
 
-  -- and back
-  says-passes : {s : List ℕ} (a : Accepted s) → Says source list d (plain (a .message .msg)) → Passes source list d
-  unfolding accepts
-  says-passes {s} a h =
-      let same : draftOf source list d ≡ s = read-drafted s source list d a (h .is) in
-      let values : ValuedMsg (msgOf source list d) = subst ValuedMsg (sym (h .is)) (plain-valued (a .message .good) (a .message .shallow) (a .message .is)) in
-      let (m, q) = accepted-exactly s (accepted-bytes s a) .1 a in
-      record {
-        described = described-exactly source b list d .1 (h .parts, values);
-        few = rw same (a .message .most);
-        read = rw (same, q);
-      }
+-- and back, whatever the source's elements are
+says-passes : {s : List ℕ} (source list : List ℕ) (d : Description) (a : Accepted s) → Says source list d (plain (a .message .msg)) → Passes source list d
+unfolding accepts
+says-passes {s} source list d a h =
+    let same : draftOf source list d ≡ s = read-drafted s source list d a (h .is) in
+    let values : ValuedMsg (msgOf source list d) = subst ValuedMsg (sym (h .is)) (plain-valued (a .message .good) (a .message .shallow) (a .message .is)) in
+    let (m, q) = accepted-exactly s (accepted-bytes s a) .1 a in
+    record {
+      described = described-exactly source list d .1 (h .parts, values);
+      few = rw same (a .message .most);
+      read = rw (same, q);
+    }
 
 -- for readers
 
@@ -118,12 +118,12 @@ written-reads source list d out n b =
         ap (take n) (handed (draftOf source list d) out room .1) ∙ take-at (draftOf source list d) (drop (length (draftOf source list d)) out) n (sym long)
 
 -- A description that says a message that was read is written as the bytes that were read, where the output has room for them.
-pub read-written : (s source list : List ℕ) (d : Description) (out : List ℕ) → Bytes source → (a : Accepted s) → Says source list d (plain (a .message .msg)) → length s ≤ length out
+pub read-written : (s source list : List ℕ) (d : Description) (out : List ℕ) (a : Accepted s) → Says source list d (plain (a .message .msg)) → length s ≤ length out
     → (writeAnswer source list d out ≡ Written.Length (length s)) × (writeOut source list d out ≡ s ++ drop (length s) out)
-read-written s source list d out b a h room =
+read-written s source list d out a h room =
     write-case source list d out (λ r o. (r ≡ Written.Length (length s)) × (o ≡ s ++ drop (length s) out))
     (λ p. rw (read-drafted s source list d a (h .is)) (handed s out room))
-    (λ fails. absurd (fails (says-passes source list d b a h)))
+    (λ fails. absurd (fails (says-passes source list d a h)))
 
 -- 18 is answered exactly if there are no accepted bytes whose message the description says.
 pub refused-18 : (source list : List ℕ) (d : Description) (out : List ℕ) → Bytes source
@@ -131,7 +131,7 @@ pub refused-18 : (source list : List ℕ) (d : Description) (out : List ℕ) →
 refused-18 source list d out b = (
   write-case source list d out (λ r o. r ≡ Written.Refused 18 → ((s : List ℕ) × (a : Accepted s) × Says source list d (plain (a .message .msg))) → ⊥)
       (λ p q _. hand-not-18 (draftOf source list d) out q)
-      (λ fails q (s, a, h). fails (says-passes source list d b a h)),
+      (λ fails q (s, a, h). fails (says-passes source list d a h)),
   λ none. write-case source list d out (λ r o. r ≡ Written.Refused 18) (λ p. absurd (none (passes-says source list d b p))) (λ _. refl),
 )
 
@@ -146,5 +146,5 @@ refused-19 source list d out b = (
       (λ _ q. absurd (let z : _≡_ {A = ℕ} 18 19 = cc in omega arith)),
   λ (s, a, h, room). write-case source list d out (λ r o. r ≡ Written.Refused 19)
       (λ p. rw (read-drafted s source list d a (h .is)) (hand-19 s out .1 room))
-      (λ fails. absurd (fails (says-passes source list d b a h))),
+      (λ fails. absurd (fails (says-passes source list d a h))),
 )
