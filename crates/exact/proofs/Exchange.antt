@@ -16,7 +16,7 @@ use Rattle.syntax.specs.Message.{Obj, Msg}
 use Rattle.grammar.specs.Cddl.{uint, list, array, Number, Initiator, ObjectiveItem, MessageItem, Value}
 use Rattle.grammar.specs.Limits.{textsOf, namesOf}
 use Rattle.grammar.specs.Stands.{StandAll, ObjectiveIs}
-use Rattle.grammar.proofs.Objectives.{objective-sound, objective-complete}
+use Rattle.grammar.proofs.Objectives.{objective-sound, objective-read}
 use Rattle.grammar.proofs.Bridge.{join, last, only}
 use Rattle.message.specs.declared.shape.Shape.{Shape}
 use Rattle.message.specs.Opening.{objectiveLevels}
@@ -54,7 +54,7 @@ discovery-sound {s} {n} {at} k =
 pub objective-reads : {s : List ℕ} {p e : ℕ} {x : Item} {obj : Obj Value} → StandAll s p e (list (x ∷ [])) → depth x ≤ partLevels → ObjectiveItem x obj
     → (f : ObjectiveRead → Shape) → ((o : Objective) (size bad long : ℕ) → Reads (f (ObjectiveRead.Got o size bad long))) → Reads (f (objectiveAt objectiveLevels s p))
 objective-reads {s} a d i f reads =
-    let (o, bad, long, same) = objective-complete objectiveLevels (only a) d i in
+    let (o, bad, long, same, _, _, _) = objective-read objectiveLevels (only a) d i in
     subst (λ (r : ObjectiveRead). Reads (f r)) (sym same) (reads o _ bad long)
 
 -- a Discovery is read

@@ -24,7 +24,7 @@ use Rattle.cbor.specs.Token.{nothingAt, tokenOf, tokenFrom, tokenAt}
 use Rattle.cbor.proofs.HeadExact.{head-read, length-head, Spelt, HeadIs, head-is}
 use Rattle.cbor.proofs.Tokens.{head-fits}
 use Rattle.cbor.proofs.Unique.{unique}
-use Rattle.grammar.specs.Stands.{Stands, StandAll}
+use Rattle.grammar.specs.Stands.{Stands, StandAll, ArrayHead}
 
 -- ---- items one after the other
 -- the bytes h stand at p: then the rest begins after them
@@ -192,9 +192,10 @@ text-token {s} {p} {e} {t} {w} {bs} a =
       content = ap (take (length bs)) rest ∙ take-at bs (drop e s) (length bs) refl;
     }
 
--- an array: where its items begin
+-- an array: its head, and where its items begin
 pub record Arrayed (s : List ℕ) (p e : ℕ) (xs : Items) : Type 0 where
   pub body : ℕ
+  pub head : ArrayHead s p body (count xs)
   pub token : tokenAt s p ≡ record { at = p; major = 4; arg = count xs; body = body; next = body }
   pub items : StandAll s body e xs
 
@@ -203,13 +204,21 @@ unfolding encode
 array-token {s} {p} {e} {w} {xs} a =
     let h = headBytes 4 w (count xs) in
     let joined : drop p s ≡ h ++ (encodes xs ++ drop e s) = a .is ∙ append-assoc h (encodes xs) (drop e s) in
+    let rest : drop (p + (1 + w)) s ≡ encodes xs ++ drop e s = rw (length-head 4 w (count xs)) at (after s p h (encodes xs ++ drop e s) joined) in
     record {
       body = p + (1 + w);
+      head =
+          record {
+            width = w;
+            right = a .good .0;
+            is = joined ∙ ap (λ (r : List ℕ). h ++ r) (sym rest);
+            end = ap (λ (k : ℕ). p + k) (sym (length-head 4 w (count xs)));
+          };
       token = leaf-token s p 4 w (count xs) (encodes xs ++ drop e s) (a .good .0) joined (inr (lit≤ tt));
       items =
           record {
             good = a .good .1;
-            is = rw (length-head 4 w (count xs)) at (after s p h (encodes xs ++ drop e s) joined);
+            is = rest;
             end = omega (arith, a .end, length-append h (encodes xs), length-head 4 w (count xs));
             within = a .within;
           };

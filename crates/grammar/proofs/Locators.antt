@@ -1,5 +1,5 @@
 -- A locator that is read stands in the message as an item that the CDDL calls this locator (`locator-sound`), and every such item is read, wherever it
--- stands (`locator-complete`), and as this locator (`locator-read`).
+-- stands, and as this locator (`locator-read`).
 -- Assumes nothing.
 use mathlib.Core.Path.{_≡_, refl, sym, ap, _∙_, subst}
 use mathlib.Core.Logic.{_↔_}
@@ -28,8 +28,8 @@ use Rattle.syntax.specs.Message.{Loc}
 use Rattle.grammar.specs.Cddl.{LocatorItem}
 use Rattle.grammar.specs.Limits.{Utf8, locTexts}
 use Rattle.grammar.specs.Stands.{Stands, locOf}
-use Rattle.grammar.proofs.Bridge.{split, join, last, only, stands-once, lift-first, sink-first, advances, string-major, token-heading, number-token, text-token, array-token}
-use Rattle.grammar.proofs.Pieces.{is-array, array-items, number-is, number-here, text-size, text-at, array-at}
+use Rattle.grammar.proofs.Bridge.{split, join, last, only, lift-first, sink-first, advances, string-major, token-heading, number-token, text-token, array-token}
+use Rattle.grammar.proofs.Pieces.{is-array, array-items, number-is, number-here, text-size, text-at, array-at, content-there}
 use Rattle.grammar.proofs.One.{locator-one}
 use Rattle.grammar.proofs.LocatorParts.{AddressIs, Shape, shape-of, shape-item, shape-texts, protocol-here, port-here, address-here, protocol-reads, port-reads, address-reads}
 
@@ -116,7 +116,7 @@ pub locator-sound : (m : List ℕ) (base : ℕ) (l : Locator) (size bad : ℕ) �
     → LocatorStands m base (base + size) l bad
 locator-sound m base l size bad low by q = subst (Sound m base) q (sound m base low by)
 
--- ---- complete
+-- ---- read
 -- the reader's tests, over plain tokens
 accept : (base : ℕ) (s : List ℕ) (a k b p q : Token) (kind pn qn : ℕ) → a ≡ tokenAt s 0 → k ≡ tokenAt s (a .next) → b ≡ tokenAt s (k .next)
     → p ≡ tokenAt s (b .next) → q ≡ tokenAt s (p .next) → upTo 106 k ≡ kind → protocolOf kind p ≡ pn → portOf kind q ≡ qn
@@ -126,7 +126,8 @@ unfolding locatorIn pick
 accept base s a k b p q kind pn qn ea ek eb ep eq e₁ e₂ e₃ t₁ t₂ t₃ t₄ t₅ t₆ t₇ =
     rw (← ea, ← ek, ← eb, ← ep, ← eq, e₁, e₂, e₃, ne-eqb _ _ t₁, le-ltb _ _ t₂, le-ltb _ _ t₃, eq-eqb _ _ t₄, t₅, ne-eqb _ _ t₆, le-ltb _ _ t₇)
 
-reads : {m : List ℕ} {base e : ℕ} {x : Item} → Stands m base e x → Shape x → (l : Locator) × (bad : ℕ) × (locatorAt m base ≡ LocatorRead.Got l (e - base) bad)
+reads : {m : List ℕ} {base e : ℕ} {x : Item} → Stands m base e x → Shape x
+    → (l : Locator) × (bad : ℕ) × (locatorAt m base ≡ LocatorRead.Got l (e - base) bad) × LocatorItem x (locOf m l) × (bad ≡ 0 ↔ Every Utf8 (locTexts (locOf m l)))
 unfolding count
 reads {m} {base} {e} st (Shape.shape {kind = kind} {t} {a} {pn = pn} {qn} address protocol port) =
     let s : List ℕ = drop base m in
@@ -142,19 +143,21 @@ reads {m} {base} {e} st (Shape.shape {kind = kind} {t} {a} {pn = pn} {qn} addres
     let read =
     accept base s _ _ b (tokenAt s (c₂ .mid)) (tokenAt s (c₃ .mid)) kind pn qn (sym (top .token)) (sym (number-token (c₁ .first))) (sym (string .token)) refl
     (ap (tokenAt s) (sym p-next)) (number-is 106 _ refl hi) is-protocol is-port (array-items _ 3 refl refl) lo hi refl fits some-protocol some-port in
-    (locatorOf kind (base + b .body) (b .next - b .body) pn qn, textOf kind (contentIn s b) (base + b .at), rw q-next at read)
-
--- an item that is a locator is read
-pub locator-complete : {m : List ℕ} {base e : ℕ} {x : Item} {loc : Loc} → Stands m base e x → LocatorItem x loc
-    → (l : Locator) × (bad : ℕ) × (locatorAt m base ≡ LocatorRead.Got l (e - base) bad)
-locator-complete st is = reads st (shape-of is)
+    let (size, inside, content) = content-there m base (string .body) (c₂ .mid) a (string .end) (string .content) in
+    let far : base + b .at ≡ 0 → ⊥ = (λ z. omega (arith, advances (c₁ .first))) in
+    (
+      locatorOf kind (base + b .body) (b .next - b .body) pn qn,
+      textOf kind (contentIn s b) (base + b .at),
+      rw q-next at read,
+      shape-item m (base + b .body) (b .next - b .body) size content address protocol port,
+      rw inside (shape-texts m (base + b .body) (b .next - b .body) pn qn a (base + b .at) (sym content) far address),
+    )
 
 -- for readers
--- and as the locator that it is
-pub locator-read : {m : List ℕ} {base e : ℕ} {x : Item} {loc : Loc} → Stands m base e x → LocatorItem x loc → Bytes m
+-- an item that is a locator is read, and as the locator that it is
+pub locator-read : {m : List ℕ} {base e : ℕ} {x : Item} {loc : Loc} → Stands m base e x → LocatorItem x loc
     → (l : Locator) × (bad : ℕ) × (locatorAt m base ≡ LocatorRead.Got l (e - base) bad) × (locOf m l ≡ loc) × (bad ≡ 0 ↔ Every Utf8 (locTexts loc))
-locator-read {m} {base} {e} {x} {loc} st is by =
-    let (l, bad, read) = locator-complete st is in
-    let i = locator-sound m base l (e - base) bad (omega (arith, st .within, advances st)) by read in
-    let same : i .loc ≡ loc = locator-one (rw (stands-once (i .stands) st) at (i .is)) is in
-    (l, bad, read, i .described ∙ same, rw same at (i .texts))
+locator-read {loc = loc} st is =
+    let (l, bad, read, described, texts) = reads st (shape-of is) in
+    let same : locOf _ l ≡ loc = locator-one described is in
+    (l, bad, read, same, rw same at texts)

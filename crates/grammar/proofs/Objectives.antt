@@ -1,5 +1,5 @@
 -- An objective that is read stands in the message as an item that the CDDL calls this objective (`objective-sound`), and every such item of no more levels than
--- may open is read, wherever it stands (`objective-complete`), and as this objective (`objective-read`).
+-- may open is read, wherever it stands, and as this objective (`objective-read`).
 -- Assumes nothing.
 use mathlib.Core.Path.{_≡_, refl, sym, ap₂, _∙_, subst}
 use mathlib.Core.Logic.{_↔_, inr}
@@ -20,6 +20,7 @@ use Rattle.cbor.specs.declared.token.Token.{Token}
 use Rattle.cbor.specs.Item.{leftUnder}
 use Rattle.cbor.specs.Tree.{Item, Items, count, depth, depths}
 use Rattle.cbor.specs.Token.{tokenAt, sizeAt, itemsIn, upTo}
+use Rattle.cbor.proofs.HeadExact.{length-head}
 use Rattle.cbor.proofs.Tokens.{token-is, token-end}
 use Rattle.options.specs.declared.objective.Objective.{Objective}
 use Rattle.options.specs.declared.objective.ObjectiveRead.{ObjectiveRead}
@@ -29,11 +30,10 @@ use Rattle.syntax.specs.Message.{Obj}
 use Rattle.grammar.specs.Cddl.{uint, text, ObjectiveItem, Value}
 use Rattle.grammar.specs.Limits.{Utf8, Short}
 use Rattle.grammar.specs.Stands.{Stands, StandAll, ArrayHead, ValueIs, itemsWith, ObjectiveIs}
-use Rattle.grammar.proofs.Bridge.{split, join, none as no-more, none-end, only, last, stands-once, lift, lift-first, sink-first, advances, token-heading, number-token, text-token, array-token}
-use Rattle.grammar.proofs.Pieces.{is-array, array-items, number-is, number-here, text-size, text-at, array-at, array-head, lift-head}
+use Rattle.grammar.proofs.Bridge.{split, join, none as no-more, none-end, only, last, lift, lift-first, sink-first, advances, token-heading, number-token, text-token, array-token}
+use Rattle.grammar.proofs.Pieces.{is-array, array-items, number-is, number-here, text-size, text-at, array-at, array-head, lift-head, content-there}
 use Rattle.grammar.proofs.Texts.{bad-text, long-name}
 use Rattle.grammar.proofs.Sizes.{sized-item, item-sized}
-use Rattle.grammar.proofs.One.{objective-one}
 
 -- the objective o, read from p to e of the message m with a name that is a bad text at `bad` or too long at `long`: the item that stands there, and the
 -- objective that it is
@@ -154,7 +154,7 @@ pub objective-sound : (levels : ℕ) (m : List ℕ) (base : ℕ) (o : Objective)
     → objectiveAt levels m base ≡ ObjectiveRead.Got o size bad long → ObjectiveStands levels m base (base + size) o bad long
 objective-sound levels m base o size bad long low by q = subst (Sound levels m base) q (sound levels m base low by)
 
--- ---- complete
+-- ---- read
 -- the reader's tests but for the value, over plain tokens
 unfoldable ending : ℕ → ℕ → List ℕ → ℕ → Token → Token → Token → ObjectiveRead
 ending levels base s items n f c =
@@ -167,20 +167,25 @@ unfolding objectiveIn ending pick
 accept levels base s a n f c ea en ef ec t₁ t₂ t₃ t₄ t₅ t₆ =
     rw (← ea, ← en, ← ef, ← ec, ne-eqb _ _ t₁, eq-eqb _ _ t₂, le-ltb _ _ t₃, le-ltb _ _ t₄, le-ltb _ _ t₅, le-ltb _ _ t₆)
 
--- the first three items, and what is left
-record Begun (levels : ℕ) (m : List ℕ) (base e : ℕ) (rest : Items) : Type 0 where
+-- the first three items, what is left, and the objective with such a value
+record Begun (levels : ℕ) (m : List ℕ) (base e : ℕ) (name : List ℕ) (flags number : ℕ) (rest : Items) : Type 0 where
   n : Token
   f : Token
   c : Token
   read : objectiveAt levels m base ≡ ending levels base (drop base m) (suc (suc (suc (count rest)))) n f c
   left : StandAll (drop base m) (c .next) (e - base) rest
+  described : (len : ℕ) (v : Value) → suc (suc (suc (count rest))) ≡ itemsWith v → ValueIs m (spanOf (base + c .next) len) v → e ≡ base + c .next + len
+      → ObjectiveIs m base e (objectiveOf base n (upTo 15 f) c (upTo 255 c) len) (record { name = name; flags = flags; count = number; value = v })
+  texts : badText (contentIn (drop base m) n) (base + n .at) ≡ 0 ↔ Utf8 name
+  names : longName n (base + n .at) ≡ 0 ↔ Short name
 
 begun : (levels : ℕ) {m : List ℕ} {base e w u i j flags number : ℕ} {name : List ℕ} {rest : Items}
     → Stands m base e (Item.array w (Items.more (text u name) (Items.more (uint i flags) (Items.more (uint j number) rest))))
-    → flags ≤ 15 → number ≤ 255 → count rest ≤ 1 → Begun levels m base e rest
-unfolding count
-begun levels {m} {base} {e} {flags = flags} {number} {name} {rest} st few byte short =
+    → flags ≤ 15 → number ≤ 255 → count rest ≤ 1 → Begun levels m base e name flags number rest
+unfolding count objectiveOf
+begun levels {m} {base} {e} {u = u} {i} {j} {flags} {number} {name} {rest} st few byte short =
     let s : List ℕ = drop base m in
+    let low : base ≤ length m = omega (arith, st .within, advances st) in
     let top = array-token (sink-first st) in
     let c₁ = split (top .items) in
     let c₂ = split (c₁ .rest) in
@@ -189,6 +194,8 @@ begun levels {m} {base} {e} {flags = flags} {number} {name} {rest} st few byte s
     let n : Token = record { at = top .body; major = 3; arg = length name; body = string .body; next = c₁ .mid } in
     let f : Token = record { at = c₁ .mid; major = 0; arg = flags; body = c₂ .mid; next = c₂ .mid } in
     let c : Token = record { at = c₂ .mid; major = 0; arg = number; body = c₃ .mid; next = c₃ .mid } in
+    let (size, inside, _) = content-there m base (string .body) (c₁ .mid) name (string .end) (string .content) in
+    let far : base + top .body ≡ 0 → ⊥ = (λ z. omega (arith, top .head .end, length-head 4 (top .head .width) (suc (suc (suc (count rest)))))) in
     record {
       n = n;
       f = f;
@@ -197,6 +204,26 @@ begun levels {m} {base} {e} {flags = flags} {number} {name} {rest} st few byte s
           accept levels base s _ n f c (sym (top .token)) (sym (string .token)) (sym (number-token (c₂ .first))) (sym (number-token (c₃ .first))) (array-items _ _ refl refl) refl
           (omega arith) (omega arith) (rw (number-is 15 f refl few) few) (rw (number-is 255 c refl byte) byte);
       left = c₃ .rest;
+      described =
+          λ len v counted value ends.
+          record {
+            name-width = u;
+            flags-width = i;
+            count-width = j;
+            name-at = base + top .body;
+            flags-at = base + c₁ .mid;
+            opened = subst (ArrayHead m base (base + top .body)) counted (lift-head (top .head));
+            name-item = lift low (c₁ .first);
+            name = ap₂ spanOf (omega (arith, string .end)) size;
+            flags-item = lift low (c₂ .first);
+            flags = number-is 15 f refl few;
+            count-item = lift low (c₃ .first);
+            count = number-is 255 c refl byte;
+            value = value;
+            ends = ends;
+          };
+      texts = rw inside (bad-text name (base + top .body) far);
+      names = long-name n (base + top .body) name far refl;
     }
 
 ends-bare : (levels base : ℕ) (s : List ℕ) (n f c : Token) {size : ℕ} → size ≡ c .next → ending levels base s 3 n f c ≡ answer base s n f c 0 size
@@ -208,27 +235,36 @@ ends-valued : (levels base : ℕ) (s : List ℕ) (n f c : Token) {size : ℕ} �
 unfolding ending pick
 ends-valued levels base s n f c has-value e = rw (ne-eqb _ _ has-value, e)
 
--- an item that is an objective is read
-pub objective-complete : (levels : ℕ) {m : List ℕ} {base e : ℕ} {x : Item} {obj : Obj Value} → Stands m base e x → depth x ≤ suc (leftUnder levels) → ObjectiveItem x obj
-    → (o : Objective) × (bad : ℕ) × (long : ℕ) × (objectiveAt levels m base ≡ ObjectiveRead.Got o (e - base) bad long)
+-- for readers
+-- an item that is an objective is read, and as the objective that it is
+pub objective-read : (levels : ℕ) {m : List ℕ} {base e : ℕ} {x : Item} {obj : Obj Value} → Stands m base e x → depth x ≤ suc (leftUnder levels) → ObjectiveItem x obj
+    → (o : Objective) × (bad : ℕ) × (long : ℕ) × (objectiveAt levels m base ≡ ObjectiveRead.Got o (e - base) bad long) × ObjectiveIs m base e o obj × (bad ≡ 0 ↔ Utf8 (obj .name)) × (long ≡ 0 ↔ Short (obj .name))
 unfolding count depth
-objective-complete levels {m} {base} {e} st d (ObjectiveItem.bare few byte) =
+objective-read levels {m} {base} {e} st d (ObjectiveItem.bare few byte) =
     let b = begun levels st few byte (omega arith) in
-    (_, _, _, b .read ∙ ends-bare levels base (drop base m) (b .n) (b .f) (b .c) (none-end (b .left)))
-objective-complete levels {m} {base} {e} st d (ObjectiveItem.valued few byte) =
+    let end = none-end (b .left) in
+    (
+      _,
+      _,
+      _,
+      b .read ∙ ends-bare levels base (drop base m) (b .n) (b .f) (b .c) end,
+      b .described 0 none refl (ValueIs.absent refl) (omega (arith, advances st)),
+      b .texts,
+      b .names,
+    )
+objective-read levels {m} {base} {e} st d (ObjectiveItem.valued {x = x} few byte) =
     let b = begun levels st few byte (omega arith) in
     let value = only (b .left) in
     let (size, has-value) = item-sized levels value (omega arith) in
-    (_, _, _, b .read ∙ ends-valued levels base (drop base m) (b .n) (b .f) (b .c) has-value (omega (arith, advances value)))
-
--- for readers
--- and as the objective that it is
-pub objective-read : (levels : ℕ) {m : List ℕ} {base e : ℕ} {x : Item} {obj : Obj Value} → Stands m base e x → depth x ≤ suc (leftUnder levels) → ObjectiveItem x obj → Bytes m
-    → (o : Objective) × (bad : ℕ) × (long : ℕ) × (objectiveAt levels m base ≡ ObjectiveRead.Got o (e - base) bad long) × ObjectiveIs m base e o obj × (bad ≡ 0 ↔ Utf8 (obj .name)) × (long ≡ 0 ↔ Short (obj .name))
-objective-read levels {m} {base} {e} {x} {obj} st d is by =
-    let (o, bad, long, read) = objective-complete levels st d is in
-    let ahead = advances st in
-    let i = objective-sound levels m base o (e - base) bad long (omega (arith, st .within)) by read in
-    let same : i .obj ≡ obj = objective-one (rw (stands-once (i .stands) st) at (i .is)) is in
-    let sum : base + (e - base) ≡ e = omega arith in
-    (o, bad, long, read, rw (same, sum) at (i .described), rw same at (i .texts), rw same at (i .names))
+    let low : base ≤ length m = omega (arith, st .within, advances st) in
+    let sum : base + (e - base) ≡ base + b .c .next + sizeAt levels (drop base m) (b .c .next) = omega (arith, advances value) in
+    (
+      _,
+      _,
+      _,
+      b .read ∙ ends-valued levels base (drop base m) (b .n) (b .f) (b .c) has-value (omega (arith, advances value)),
+      b .described (sizeAt levels (drop base m) (b .c .next)) (some x) refl
+          (ValueIs.present (subst (λ (k : ℕ). Stands m (base + b .c .next) k x) sum (lift low value))) (omega (arith, sum, advances st)),
+      b .texts,
+      b .names,
+    )

@@ -1,5 +1,5 @@
 -- A pair of a Flood that is read stands in the message as an item that the CDDL calls this pair (`pair-sound`), and every such item of 7 levels at most is
--- read, wherever it stands (`pair-complete`), and as this pair (`pair-read`).
+-- read, wherever it stands, and as this pair (`pair-read`).
 -- Assumes nothing.
 use mathlib.Core.Path.{_≡_, refl, sym, ap, _∙_, subst}
 use mathlib.Core.Logic.{_↔_}
@@ -35,14 +35,13 @@ use Rattle.syntax.specs.Message.{Loc, Obj, Pair}
 use Rattle.grammar.specs.Cddl.{array, LocatorItem, ObjectiveItem, PairItem, Value}
 use Rattle.grammar.specs.Limits.{Utf8, Short, tagTexts, pairTexts}
 use Rattle.grammar.specs.Stands.{Stands, ArrayHead, tagOf, ObjectiveIs}
-use Rattle.grammar.proofs.Bridge.{split, join, none as no-more, none-end, only, last, stands-once, lift, lift-first, sink-sized, sink-first, advances, Heading, token-heading, array-token}
+use Rattle.grammar.proofs.Bridge.{split, join, none as no-more, none-end, only, last, lift, lift-first, sink-sized, sink-first, advances, Heading, token-heading, array-token}
 use Rattle.grammar.proofs.Pieces.{both-hold, is-array, array-items, array-at, array-head, lift-head}
 use Rattle.grammar.proofs.Texts.{first-zero}
-use Rattle.grammar.proofs.One.{pair-one}
 use Rattle.grammar.proofs.Depths.{locator-depth}
 use Rattle.grammar.proofs.LocatorParts.{Shape, shape-of}
-use Rattle.grammar.proofs.Locators.{locator-sound, locator-complete}
-use Rattle.grammar.proofs.Objectives.{ObjectiveStands, objective-sound, objective-complete}
+use Rattle.grammar.proofs.Locators.{locator-sound, locator-read}
+use Rattle.grammar.proofs.Objectives.{ObjectiveStands, objective-sound, objective-read}
 
 -- how many levels a pair may have, in a message
 abbrev pub pairLevels : ℕ
@@ -157,7 +156,7 @@ pub pair-sound : (m : List ℕ) (base : ℕ) (o : Objective) (t : Tag) (size bad
     → pairAt m base ≡ PairRead.Got o t size bad long → PairStands m base (base + size) o t bad long
 pair-sound m base o t size bad long low by q = subst (Sound m base) q (sound m base low by)
 
--- ---- complete
+-- ---- read
 -- the reader's tests, over plain tokens
 accept : (base : ℕ) (s : List ℕ) (a : Token) (r : PairRead) (o : Objective) (size bad long : ℕ) → a ≡ tokenAt s 0 → (itemsIn a ≡ 0 → ⊥) → a .arg ≡ 2
     → objectiveIn 3 (base + a .next) (drop (a .next) s) ≡ ObjectiveRead.Got o size bad long → pairTail base s (a .next + size) o bad long ≡ r → pairIn base s ≡ r
@@ -185,25 +184,31 @@ unfolding count
 locator-items a (Shape.shape address protocol port) z = omega (arith, z, ap (λ (v : Token). v .arg) (array-token a .token))
 
 -- the objective is read, and the second item stands after it
-record Begun (m : List ℕ) (base e : ℕ) (y : Item) : Type 0 where
+record Begun (m : List ℕ) (base e : ℕ) (obj : Obj Value) (y : Item) : Type 0 where
+  at : ℕ
   mid : ℕ
   objective : Objective
   bad : ℕ
   long : ℕ
   read : (r : PairRead) → pairTail base (drop base m) mid objective bad long ≡ r → pairAt m base ≡ r
+  opened : ArrayHead m base at 2
+  described : ObjectiveIs m at (base + mid) objective obj
+  texts : bad ≡ 0 ↔ Utf8 (obj .name)
+  names : long ≡ 0 ↔ Short (obj .name)
   second : Stands (drop base m) mid (e - base) y
 
-begun : {m : List ℕ} {base e w : ℕ} {x y : Item} {obj : Obj Value} → Stands m base e (array w (x ∷ y ∷ [])) → depth x ≤ suc (leftUnder 3) → ObjectiveItem x obj → Begun m base e y
+begun : {m : List ℕ} {base e w : ℕ} {x y : Item} {obj : Obj Value} → Stands m base e (array w (x ∷ y ∷ [])) → depth x ≤ suc (leftUnder 3) → ObjectiveItem x obj → Begun m base e obj y
 unfolding count
 begun {m} {base} {e} st d is =
     let s : List ℕ = drop base m in
     let low : base ≤ length m = omega (arith, st .within, advances st) in
     let top = array-token (sink-first st) in
     let c = split (top .items) in
-    let (o, bad, long, got) = objective-complete 3 (lift low (c .first)) d is in
+    let (o, bad, long, got, described, texts, names) = objective-read 3 (lift low (c .first)) d is in
     let size : ℕ = base + c .mid - (base + top .body) in
     let sum : top .body + size ≡ c .mid = omega (arith, advances (c .first)) in
     record {
+      at = base + top .body;
       mid = c .mid;
       objective = o;
       bad = bad;
@@ -211,42 +216,58 @@ begun {m} {base} {e} st d is =
       read =
           λ r tail. accept base s _ r o size bad long (sym (top .token)) (array-items _ 1 refl refl) refl (ap (objectiveIn 3 (base + top .body)) (drop-drop (top .body) base m) ∙ got)
           (ap (λ (k : ℕ). pairTail base s k o bad long) sum ∙ tail);
+      opened = lift-head (top .head);
+      described = described;
+      texts = texts;
+      names = names;
       second = only (c .rest);
     }
 
-abbrev Read : List ℕ → ℕ → ℕ → Type 0
-Read m base e = (o : Objective) × (t : Tag) × (bad : ℕ) × (long : ℕ) × (pairAt m base ≡ PairRead.Got o t (e - base) bad long)
+-- a pair that is read
+abbrev Read : List ℕ → ℕ → ℕ → Pair Value → Type 0
+Read m base e pair =
+    (o : Objective) × (t : Tag) × (bad : ℕ) × (long : ℕ) × (pairAt m base ≡ PairRead.Got o t (e - base) bad long)
+    × (at : ℕ) × (mid : ℕ) × ArrayHead m base at 2 × ObjectiveIs m at mid o (pair .0) × (tagOf m t ≡ pair .1)
+    × (bad ≡ 0 ↔ Every Utf8 (pairTexts pair)) × (long ≡ 0 ↔ Short (pair .0 .name))
 
-untagged-read : {m : List ℕ} {base e v : ℕ} → Begun m base e (array v []) → Read m base e
-unfolding count
+untagged-read : {m : List ℕ} {base e v : ℕ} {obj : Obj Value} → Begun m base e obj (array v []) → Read m base e (obj, none)
+unfolding count tagOf tagTexts pairTexts
 untagged-read {m} {base} b =
     let empty = array-token (b .second) in
-    (b .objective, Tag.Empty, b .bad, b .long, b .read _ (empty-tail base (drop base m) (b .mid) _ _ _ _ (sym (empty .token)) refl refl (none-end (empty .items))))
+    let (there, back) = b .texts in
+    let read = b .read _ (empty-tail base (drop base m) (b .mid) (b .objective) (b .bad) (b .long) _ (sym (empty .token)) refl refl (none-end (empty .items))) in
+    (b .objective, Tag.Empty, b .bad, b .long, read, b .at, base + b .mid, b .opened, b .described, refl, (λ z. (there z, tt), λ h. back (h .0)), b .names)
 
-tagged-read : {m : List ℕ} {base e : ℕ} {y : Item} {loc : Loc} → base ≤ length m → Begun m base e y → LocatorItem y loc → Read m base e
+tagged-read : {m : List ℕ} {base e : ℕ} {y : Item} {obj : Obj Value} {loc : Loc} → base ≤ length m → Begun m base e obj y → LocatorItem y loc → Read m base e (obj, some loc)
+unfolding tagOf tagTexts pairTexts
 tagged-read {m} {base} {e} low b is =
-    let (l, bad′, got) = locator-complete (lift low (b .second)) is in
+    let (l, bad′, got, located, texts) = locator-read (lift low (b .second)) is in
     let n : ℕ = base + (e - base) - (base + b .mid) in
     let sum : e - base ≡ b .mid + n = omega (arith, advances (b .second)) in
     let tail = tagged-tail base (drop base m) (b .mid) (b .objective) (b .bad) (b .long) l n bad′ (locator-items (b .second) (shape-of is))
     (ap (locatorIn (base + b .mid)) (drop-drop (b .mid) base m) ∙ got) sum in
-    (b .objective, Tag.At l, firstOf (b .bad) bad′, b .long, b .read _ tail)
-
--- an item that is a pair is read
-pub pair-complete : {m : List ℕ} {base e : ℕ} {x : Item} {pair : Pair Value} → Stands m base e x → depth x ≤ pairLevels → PairItem x pair
-    → (o : Objective) × (t : Tag) × (bad : ℕ) × (long : ℕ) × (pairAt m base ≡ PairRead.Got o t (e - base) bad long)
-unfolding depth
-pair-complete st d (PairItem.untagged is) = untagged-read (begun st (omega arith) is)
-pair-complete st d (PairItem.tagged is loc) = tagged-read (omega (arith, st .within, advances st)) (begun st (omega arith) is) loc
+    let (there, back) = first-zero (b .bad) bad′ in
+    (
+      b .objective,
+      Tag.At l,
+      firstOf (b .bad) bad′,
+      b .long,
+      b .read _ tail,
+      b .at,
+      base + b .mid,
+      b .opened,
+      b .described,
+      ap some located,
+      (λ z. let (x, y) = there z in (b .texts .0 x, texts .0 y), λ h. back (b .texts .1 (h .0), texts .1 (h .1))),
+      b .names,
+    )
 
 -- for readers
--- and as the pair that it is
-pub pair-read : {m : List ℕ} {base e : ℕ} {x : Item} {pair : Pair Value} → Stands m base e x → depth x ≤ pairLevels → PairItem x pair → Bytes m
+-- an item that is a pair is read, and as the pair that it is
+pub pair-read : {m : List ℕ} {base e : ℕ} {x : Item} {pair : Pair Value} → Stands m base e x → depth x ≤ pairLevels → PairItem x pair
     → (o : Objective) × (t : Tag) × (bad : ℕ) × (long : ℕ) × (pairAt m base ≡ PairRead.Got o t (e - base) bad long)
     × (at : ℕ) × (mid : ℕ) × ArrayHead m base at 2 × ObjectiveIs m at mid o (pair .0) × (tagOf m t ≡ pair .1)
     × (bad ≡ 0 ↔ Every Utf8 (pairTexts pair)) × (long ≡ 0 ↔ Short (pair .0 .name))
-pair-read {m} {base} {e} {x} {pair} st d is by =
-    let (o, t, bad, long, read) = pair-complete st d is in
-    let i = pair-sound m base o t (e - base) bad long (omega (arith, st .within, advances st)) by read in
-    let same : i .pair ≡ pair = pair-one (rw (stands-once (i .stands) st) at (i .is)) is in
-    (o, t, bad, long, read, i .at, i .mid, i .opened, rw same at (i .objective), rw same at (i .tag), rw same at (i .texts), rw same at (i .names))
+unfolding depth
+pair-read st d (PairItem.untagged is) = untagged-read (begun st (omega arith) is)
+pair-read st d (PairItem.tagged is loc) = tagged-read (omega (arith, st .within, advances st)) (begun st (omega arith) is) loc

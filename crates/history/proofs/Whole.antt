@@ -205,18 +205,46 @@ interfaces-on r t c b (stayed nb tb e) = ap (λ (n : Record). n .interfaces) nb
 interfaces-on r t c b (ended p nb tb e) = ap (λ (n : Record). n .interfaces) nb
 interfaces-on r t c b (went s f e) = ap (λ (z : After). z .called .node .interfaces) e
 
-module _ (x : Step) (s : Spread) (k : Known x s) where
-  outgoing : ℕ
-  outgoing = x .node .links - 2 ^ x .call .interface
+-- the links that a relay goes out by
+outgoing : Step → ℕ
+outgoing x = x .node .links - 2 ^ x .call .interface
 
-  known-mask : maskOf (x .after .called .reply) ≡ outgoing
+-- one that was answered RELAY, whatever its message's elements are
+module _ (x : Step) (s : Spread) (facts : Relays (x .node) (x .table) (x .call) s)
+    (is : x .after ≡ relayed (clocked (x .node) (x .call .clock)) (freed (x .call .clock) (x .table)) (x .call) s) where
+  went-mask : maskOf (x .after .called .reply) ≡ outgoing x
   unfolding maskOf relayed others clocked outgoing
-  known-mask = ap (λ (z : After). maskOf (z .called .reply)) (k .is)
+  went-mask = ap (λ (z : After). maskOf (z .called .reply)) is
 
-  known-copies : copies x ≡ interfacesIn 8 outgoing
+  went-copies : copies x ≡ interfacesIn 8 (outgoing x)
   unfolding copies
-  known-copies = ap (interfacesIn 8) known-mask
+  went-copies = ap (interfacesIn 8) went-mask
 
+  small-mask : outgoing x < 2 ^ x .node .interfaces
+  unfolding outgoing
+  small-mask = let f = record-links (x .node) (facts .passes .good) .small in omega arith
+
+  copies-differ : Every (λ j. j ≢ x .call .interface) (interfacesIn 8 (outgoing x))
+  unfolding outgoing
+  copies-differ =
+      let up = arrives (x .node) (x .call .interface) (facts .passes .good) (facts .passes .arrives) .up in
+      every-imp (λ j. (j < 8) × (isUp (outgoing x) j ≡ true)) (λ j. j ≢ x .call .interface)
+      (λ j h e. not-both (isUp (outgoing x) (x .call .interface)) (subst (λ (z : ℕ). isUp (outgoing x) z ≡ true) e (h .1)) (taken-down (x .node .links) (x .call .interface) up))
+      (interfacesIn 8 (outgoing x)) (interfaces-up 8 (outgoing x))
+
+  copies-below : Every (λ j. j < x .node .interfaces) (interfacesIn 8 (outgoing x))
+  copies-below =
+      every-imp (λ j. (j < 8) × (isUp (outgoing x) j ≡ true)) (λ j. j < x .node .interfaces) (λ j h. up-below (x .node .interfaces) (outgoing x) j small-mask (h .1))
+      (interfacesIn 8 (outgoing x)) (interfaces-up 8 (outgoing x))
+
+  went-tally : x .after .called .node .tally ≡ x .node .tally + length (copies x)
+  unfolding relayed tallied clocked others outgoing
+  went-tally =
+      let fits : outgoing x < 2 ^ 8 = le-trans small-mask (pow-mono (record-links (x .node) (facts .passes .good) .most)) in
+      ap (λ (z : After). z .called .node .tally) is
+      ∙ ap (λ (z : ℕ). x .node .tally + z) (sym (length-interfaces 8 (outgoing x) fits) ∙ ap length (sym went-copies))
+
+module _ (x : Step) (s : Spread) (k : Known x s) where
   known-sent : sent x .count ≡ s .objective .count - 1
   unfolding sent lengthOf relayed written
   known-sent =
@@ -225,47 +253,24 @@ module _ (x : Step) (s : Spread) (k : Known x s) where
       ∙ ap (λ (z : List ℕ). told z .count) (take-append-seam bytes (drop (length bytes) (x .call .output)))
       ∙ onward-count (x .call .message) s (k .bytes) (k .facts .role)
 
-  small-mask : outgoing < 2 ^ x .node .interfaces
-  unfolding outgoing
-  small-mask = let f = record-links (x .node) (k .facts .passes .good) .small in omega arith
-
-  copies-differ : Every (λ j. j ≢ x .call .interface) (interfacesIn 8 outgoing)
-  unfolding outgoing
-  copies-differ =
-      let up = arrives (x .node) (x .call .interface) (k .facts .passes .good) (k .facts .passes .arrives) .up in
-      every-imp (λ j. (j < 8) × (isUp outgoing j ≡ true)) (λ j. j ≢ x .call .interface)
-      (λ j h e. not-both (isUp outgoing (x .call .interface)) (subst (λ (z : ℕ). isUp outgoing z ≡ true) e (h .1)) (taken-down (x .node .links) (x .call .interface) up))
-      (interfacesIn 8 outgoing) (interfaces-up 8 outgoing)
-
-  copies-below : Every (λ j. j < x .node .interfaces) (interfacesIn 8 outgoing)
-  copies-below =
-      every-imp (λ j. (j < 8) × (isUp outgoing j ≡ true)) (λ j. j < x .node .interfaces) (λ j h. up-below (x .node .interfaces) outgoing j small-mask (h .1))
-      (interfacesIn 8 outgoing) (interfaces-up 8 outgoing)
-
   known-sound : Sound (x .node .interfaces) x
   unfolding arrivedOn rowOf
   known-sound =
       let below = arrives (x .node) (x .call .interface) (k .facts .passes .good) (k .facts .passes .arrives) .below in
-      let others-differ = every-imp (λ j. j ≢ x .call .interface) (λ j. x .call .interface ≢ j) (λ j d e. d (sym e)) (interfacesIn 8 outgoing) copies-differ in
+      let others-differ = every-imp (λ j. j ≢ x .call .interface) (λ j. x .call .interface ≢ j) (λ j d e. d (sym e)) (interfacesIn 8 (outgoing x)) (copies-differ x s (k .facts) (k .is)) in
+      let same = went-copies x s (k .facts) (k .is) in
       record {
         out = record {
-          once = rw known-copies (interfaces-distinct 8 outgoing);
-          there = rw known-copies copies-below;
-          onward = rw known-copies copies-differ;
+          once = rw same (interfaces-distinct 8 (outgoing x));
+          there = rw same (copies-below x s (k .facts) (k .is));
+          onward = rw same (copies-differ x s (k .facts) (k .is));
           positive = rw known-sent (omega (arith, k .facts .counts));
           lower = rw (known-sent, known-given x s k) (omega (arith, k .facts .counts));
         };
         row = k .facts .room;
         some-left =
-            rw known-copies (omega (arith, pigeonhole (x .node .interfaces) (x .call .interface ∷ interfacesIn 8 outgoing) (others-differ, interfaces-distinct 8 outgoing) (below, copies-below)));
+            rw same (omega (arith, pigeonhole (x .node .interfaces) (x .call .interface ∷ interfacesIn 8 (outgoing x)) (others-differ, interfaces-distinct 8 (outgoing x)) (below, copies-below x s (k .facts) (k .is))));
       }
-
-  known-tally : x .after .called .node .tally ≡ x .node .tally + length (copies x)
-  unfolding relayed tallied clocked others outgoing
-  known-tally =
-      let fits : outgoing < 2 ^ 8 = le-trans small-mask (pow-mono (record-links (x .node) (k .facts .passes .good) .most)) in
-      ap (λ (z : After). z .called .node .tally) (k .is)
-      ∙ ap (λ (z : ℕ). x .node .tally + z) (sym (length-interfaces 8 outgoing fits) ∙ ap length (sym known-copies))
 
 sound : (n : ℕ) (es : List Event) → Every Fits es → (r : Record) (t : List ℕ) → r .interfaces ≡ n → Every (Sound n) (relaysOf (steps r t es))
 unfolding steps relaysOf
@@ -279,22 +284,21 @@ sound n (links mask ∷ es) fits r t e = sound n es (fits .1) (setLinks r mask .
 
 -- ---- the tally
 
-tally-on : (r : Record) (t : List ℕ) (c : Call) (b : After) (rest : List Step) → Bytes (c .message) → View r t c b
+tally-on : (r : Record) (t : List ℕ) (c : Call) (b : After) (rest : List Step) → View r t c b
     → b .called .node .tally + copiesOf rest ≡ r .tally + copiesOf (pick (saysRelay (b .called .reply)) (stepOf r t c b ∷ rest) rest)
 unfolding pick clocked copiesOf
-tally-on r t c b rest fits (stayed nb tb e) = rw (e, nb) refl
-tally-on r t c b rest fits (ended p nb tb e) = rw (e, nb) refl
-tally-on r t c b rest fits (went s k e) =
-    rw (says-relay r t c s b e) (omega (arith, known-tally (stepOf r t c b) s (record { bytes = fits; facts = k; is = e })))
+tally-on r t c b rest (stayed nb tb e) = rw (e, nb) refl
+tally-on r t c b rest (ended p nb tb e) = rw (e, nb) refl
+tally-on r t c b rest (went s k e) = rw (says-relay r t c s b e) (omega (arith, went-tally (stepOf r t c b) s k e))
 
-total : (es : List Event) → Every Fits es → (r : Record) (t : List ℕ) → finally r t es .tally ≡ r .tally + copiesOf (relaysOf (steps r t es))
+total : (es : List Event) (r : Record) (t : List ℕ) → finally r t es .tally ≡ r .tally + copiesOf (relaysOf (steps r t es))
 unfolding steps relaysOf finally copiesOf
-total [] fits r t = omega arith
-total (call c ∷ es) fits r t =
+total [] r t = omega arith
+total (call c ∷ es) r t =
     let b = nodeCall r t c in
-    total es (fits .1) (b .called .node) (b .table) ∙ tally-on r t c b (relaysOf (steps (b .called .node) (b .table) es)) (fits .0) (view r t c)
-total (links mask ∷ es) fits r t =
-    total es (fits .1) (setLinks r mask .node) t ∙ ap (λ (z : ℕ). z + copiesOf (relaysOf (steps (setLinks r mask .node) t es))) (links-keep r mask .tally)
+    total es (b .called .node) (b .table) ∙ tally-on r t c b (relaysOf (steps (b .called .node) (b .table) es)) (view r t c)
+total (links mask ∷ es) r t =
+    total es (setLinks r mask .node) t ∙ ap (λ (z : ℕ). z + copiesOf (relaysOf (steps (setLinks r mask .node) t es))) (links-keep r mask .tally)
 
 -- ---- relays that are near one another
 
@@ -347,7 +351,7 @@ whole r t events none fits =
       apart = every-pair Behind Apart (λ x y b. b .apart) (relaysOf (steps r t events)) p;
       each = every-imp (Sound (r .interfaces)) (GoesOut (r .interfaces)) (λ x b. b .out) (relaysOf (steps r t events)) h;
       few = λ chosen sub near. few-of (r .interfaces) chosen (every-chosen (Sound (r .interfaces)) sub h) (pairs-chosen Behind sub p) near;
-      tally = total events fits r t ∙ ap (λ (z : ℕ). z + copiesOf (relaysOf (steps r t events))) none ∙ omega arith;
+      tally = total events r t ∙ ap (λ (z : ℕ). z + copiesOf (relaysOf (steps r t events))) none ∙ omega arith;
     }
 
 -- Demand 3, entire.

@@ -3,7 +3,7 @@
 -- Assumes nothing.
 use mathlib.Core.Path.{_≡_, refl, subst}
 use mathlib.Core.List.{List}
-use Prim.Native.Nat.{ℕ, _+_, _≤_}
+use Prim.Native.Nat.{ℕ, _≤_}
 use native.Mathlib.Omega.{arith}
 use lib.ListN.{drop}
 use lib.Dec.{ltb, eqb, lit≤}
@@ -29,7 +29,7 @@ use Rattle.message.specs.declared.opening.Opening.{Opening}
 use Rattle.message.specs.declared.opening.OpeningRead.{OpeningRead}
 use Rattle.message.specs.declared.sequence.LocatorsRead.{LocatorsRead}
 use Rattle.message.specs.declared.sequence.PairsRead.{PairsRead}
-use Rattle.message.specs.Opening.{most, objectiveLevels, openingAt}
+use Rattle.message.specs.Opening.{objectiveLevels, openingAt}
 use Rattle.message.specs.Sequence.{locatorsFrom, pairsFrom}
 use Rattle.message.specs.Shape.{noopAt, discovered, discoveryAt, exchangeOf, exchanged, exchangeAt, waitAt, invalidAt, optionAt, endAt}
 use Rattle.message.specs.Response.{restOf, restAt, divertOf, divertAt, locatedOf, locatedAt, targetsAt, responseBy, responseAt}

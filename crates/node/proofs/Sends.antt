@@ -39,7 +39,7 @@ pub onward-given : (message out : List ℕ) (s : Spread) → Bytes message → R
     × (lowerOut message (s .objective .«count_at») (s .objective .value .at) (s .objective .count) out ≡ written (onward message (s .objective)) out)
 unfolding onward written
 onward-given message out s b r some room =
-    let fits : length message ≤ length out = omega (arith, read-most message (Role.Spreads s) b r) in
+    let fits : length message ≤ length out = omega (arith, read-most message (Role.Spreads s) r) in
     lowered-given message (r .is) (s .objective) out b (r .read) (role-spreading message s b r .lowers) some fits
 
 -- ---- an answer

@@ -1,13 +1,16 @@
 -- A Discovery or a Flood that was read: its parts lie in the message, its session is a number of 32 bits, and its count is the one that a relay lowers.
 -- Assumes nothing.
 use mathlib.Core.Path.{_≡_, ap, _∙_, subst}
-use mathlib.Core.Bool.{true, false}
+use mathlib.Core.Bool.{Bool, true, false}
 use mathlib.Core.Logic.{_⊎_, inl, inr}
 use mathlib.Core.List.{List}
 use Prim.Native.Nat.{ℕ, _+_, _-_, _^_, _≤_, _<_}
 use native.Mathlib.Omega.{arith}
 use lib.ListN.{length}
+use lib.Dec.{ltb, eqb}
+use borrow.Author.Tests.{ltb-false}
 use Rattle.base.specs.BigEndian.{Bytes}
+use Rattle.base.proofs.Picks.{pick-case}
 use Rattle.cbor.specs.Tree.{Item}
 use Rattle.options.specs.declared.Span.{Span}
 use Rattle.options.specs.declared.objective.Objective.{Objective}
@@ -18,7 +21,9 @@ use Rattle.grammar.specs.Stands.{ObjectiveIs}
 use Rattle.grammar.proofs.Bridge.{text-token}
 use Rattle.message.specs.declared.Message.{Message}
 use Rattle.message.specs.declared.Message.the-variants as M
-use Rattle.message.specs.Read.{mostBytes}
+use Rattle.message.specs.declared.Reading.{Reading}
+use Rattle.message.specs.declared.Examined.{Examined}
+use Rattle.message.specs.Read.{mostBytes, examined, placeless, readOf}
 use Rattle.exact.specs.Describes.{InitiatorIs, Describes}
 use Rattle.exact.proofs.Exact.{accepted-exactly, accepted-described}
 use Rattle.roundtrip.specs.Lower.{Lowers}
@@ -93,5 +98,13 @@ role-spreading message s b r =
     spreading s (accepted-described message (r .is) (r .read) a) (a .message .is) (r .plays)
 
 -- a message that was read has at most 2,048 bytes
-pub read-most : (message : List ℕ) (role : Role) → Bytes message → RoleIn message role → length message ≤ mostBytes
-read-most message role b r = accepted-exactly message b .0 (r .is, r .read) .message .most
+pub read-most : (message : List ℕ) (role : Role) → RoleIn message role → length message ≤ mostBytes
+unfolding readOf examined placeless
+read-most message role r =
+    pick-case Most (eqb (length message) 0) refused (λ _. pick-case Most (ltb mostBytes (length message)) refused (λ e _. ltb-false mostBytes (length message) e)) (r .read)
+  where
+    Most : Examined → Type 0
+    Most x = placeless x ≡ Reading.Read (r .is) → length message ≤ mostBytes
+
+    refused : {t : Bool} → t ≡ true → Most (Examined.Refused 1 0)
+    refused _ e = absurd (let z : _≡_ {A = ℕ} 0 1 = cc in omega arith)

@@ -9,7 +9,7 @@ use Rattle.message.specs.declared.Message.{Message}
 use Rattle.message.specs.declared.Reading.{Reading}
 use Rattle.message.specs.Read.{readOf}
 use Rattle.exact.specs.Accepted.{Accepted}
-use Rattle.exact.proofs.Exact.{accepted-exactly, accepted-bytes, accepted-described}
+use Rattle.exact.proofs.Exact.{accepted-exactly, accepted-described}
 use Rattle.writer.specs.declared.Written.{Written}
 use Rattle.writer.specs.Write.{writeAnswer, writeOut}
 use Rattle.describe.specs.Describe.{descriptionOf}
@@ -27,7 +27,7 @@ use Rattle.rewrite.proofs.ByKind.{kind-says}
 pub described-says : (s list : List ℕ) (m : Message) → readOf s ≡ Reading.Read m → rowsEnd m list ≤ length list → (a : Accepted s)
     → Says s (rowsLent s m list) (descriptionOf m) (plain (a .message .msg))
 described-says s list m q room a =
-    kind-says s (accepted-bytes s a) list (accepted-described s m q a) (a .message .is) (a .message .good) (a .message .shallow) (a .message .bytes) (read-encoded s a) room
+    kind-says s list (accepted-described s m q a) (a .message .is) (a .message .good) (a .message .shallow) (a .message .bytes) (read-encoded s a) room
 
 -- So what was read, described and written again is the same bytes, where the output has room for them.
 pub described-written : (s list out : List ℕ) (m : Message) → Bytes s → readOf s ≡ Reading.Read m → rowsEnd m list ≤ length list → length s ≤ length out

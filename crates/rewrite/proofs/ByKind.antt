@@ -7,7 +7,6 @@ use Prim.Native.Nat.{ℕ, _*_, _/_, _≤_}
 use native.Mathlib.Omega.{arith}
 use lib.Dec.{ltb, lit<}
 use lib.ListN.{length, take}
-use Rattle.base.specs.BigEndian.{Bytes}
 use Rattle.cbor.specs.Item.{mostLevels}
 use Rattle.cbor.specs.Put.{head}
 use Rattle.cbor.specs.Tree.{Item, Items, encode, depth, depths, Good}
@@ -36,13 +35,13 @@ use Rattle.rewrite.proofs.Spans.{string-cuts, value-cuts, end-cuts, obj
 use Rattle.rewrite.proofs.Locators.{placeOf, place-behind, Locators, locators-rows}
 use Rattle.rewrite.proofs.Pairs.{rowAt, rowOf, row-behind, pairOf, InOrder, Pairs, pairs-rows}
 
-module _ (s : List ℕ) (by : Bytes s) where
+module _ (s : List ℕ) where
   -- a list of locators
   record Placed (list : List ℕ) (ls : List Loc) : Type 0 where
     says : Rows list placeRow (λ k. PlaceSays s (placeAt list (placeRow * k)))
     are : locsOf s list ≡ ls
 
-  placed-rows : {at : ℕ} {rows : List (List ℕ)} {ls : List Loc} → Locators s by at rows ls → Placed (joined rows) ls
+  placed-rows : {at : ℕ} {rows : List (List ℕ)} {ls : List Loc} → Locators s at rows ls → Placed (joined rows) ls
   unfolding locsOf rowLoc
   placed-rows chain =
       let (says, are) = told-rows placeOf (locOf s) (PlaceSays s) place-behind (lit< tt) chain in
@@ -53,7 +52,7 @@ module _ (s : List ℕ) (by : Bytes s) where
     says : Rows list pairRow (PairSays s list)
     are : pairsOf s list ≡ ps
 
-  paired-rows : {at : ℕ} {rows : List (List ℕ)} {ps : List (Pair (List ℕ))} → Pairs s by at rows ps → Paired (joined rows) ps
+  paired-rows : {at : ℕ} {rows : List (List ℕ)} {ps : List (Pair (List ℕ))} → Pairs s at rows ps → Paired (joined rows) ps
   unfolding pairsOf rowPair rowAt
   paired-rows chain =
       let (says, are) = told-rows rowOf (pairOf s) (InOrder s) row-behind (lit< tt) chain in
@@ -68,7 +67,7 @@ module _ (s : List ℕ) (by : Bytes s) where
       → Placed (take (R.seriesEnd placeRow series list) (R.seriesFilled placeRow (R.locatorNext s) (R.locatorStored s) series list)) ls
   unfolding R.seriesEnd R.seriesFilled
   locators-lent {series = series} {ls} list i room =
-      let (rows, chain) = locators-rows s by (i .stand) (i .are) in
+      let (rows, chain) = locators-rows s (i .stand) (i .are) in
       let many = i .many ∙ locators-count (i .are) ∙ sym (rows-many chain) in
       subst (λ (l : List ℕ). Placed l ls) (sym (lent chain (series .many) list (ltb (length list / placeRow) (series .many)) many room)) (placed-rows chain)
 
@@ -77,7 +76,7 @@ module _ (s : List ℕ) (by : Bytes s) where
       → series .many ≡ length ps → R.seriesEnd pairRow series list ≤ length list → Paired (take (R.seriesEnd pairRow series list) (R.seriesFilled pairRow (R.pairNext s) (R.pairStored s) series list)) (map (valuedPair valueBytes) ps)
   unfolding R.seriesEnd R.seriesFilled
   pairs-lent {series = series} {ps = ps} list d a i many room =
-      let (rows, chain) = pairs-rows s by d a i in
+      let (rows, chain) = pairs-rows s d a i in
       subst (λ (l : List ℕ). Paired l (map (valuedPair valueBytes) ps)) (sym (lent chain (series .many) list (ltb (length list / pairRow) (series .many)) (many ∙ pairs-many ps ∙ sym (rows-many chain)) room)) (paired-rows chain)
 
   -- ---- the parts of a description

@@ -11,7 +11,6 @@ use lib.Dec.{eqb, lit≤}
 use lib.ListN.{length, take, drop, length-take, length-drop}
 use lib.Seq.{sets, getD-append-add}
 use Rattle.base.specs.Pick.{pick}
-use Rattle.base.specs.BigEndian.{Bytes}
 use Rattle.base.proofs.Picks.{both}
 use Rattle.cbor.specs.Tree.{Item, Items}
 use Rattle.cbor.specs.Token.{tokenAt}
@@ -106,7 +105,7 @@ placed (L.Uri uri protocol port) t i rest =
 abbrev pub placeOf : List ℕ → ℕ → Place
 placeOf list i = placeAt list (placeRow * i)
 
-module _ (s : List ℕ) (by : Bytes s) where
+module _ (s : List ℕ) where
   -- rows of locators
   abbrev pub Locators : ℕ → List (List ℕ) → List Loc → Type 0
   Locators = Chain placeRow (locatorNext s) (locatorStored s) (Tells placeOf (locOf s) (PlaceSays s))
@@ -127,7 +126,7 @@ module _ (s : List ℕ) (by : Bytes s) where
   locators-rows a LocatorItems.empty = ([], Chain.end)
   locators-rows {p} a (LocatorItems.more {x = x} {ls = ls} i is) =
       let c = split a in
-      let (l, bad, read, described, _) = locator-read (c .first) i by in
+      let (l, bad, read, described, _) = locator-read (c .first) i in
       let text : TextIn s l = subst (TextOk s) read (text-ok s p (drop p s) (omega (arith, length-drop p s, c .first .within, advances (c .first)))) in
       let told = placed l text (subst (LocatorItem x) (sym described) i) in
       let (rows, more) = locators-rows (c .rest) is in (

@@ -11,7 +11,6 @@ use borrow.Author.Tests.{ne-eqb}
 use lib.ListN.{length, drop, getD, length-drop}
 use lib.Seq.{sets, getD-append-add}
 use Rattle.base.specs.Pick.{pick}
-use Rattle.base.specs.BigEndian.{Bytes}
 use Rattle.base.proofs.Picks.{both}
 use Rattle.cbor.specs.Tree.{Item, Items, depth, depths}
 use Rattle.cbor.specs.Token.{tokenAt}
@@ -154,7 +153,7 @@ pub record InOrder (s : List ℕ) (r : Row) : Type 0 where
   pub objective : EntrySays s (r .entry)
   pub locator : Blank (r .place) ⊎ PlaceSays s (r .place)
 
-module _ (s : List ℕ) (by : Bytes s) where
+module _ (s : List ℕ) where
   -- rows of pairs
   abbrev pub Pairs : ℕ → List (List ℕ) → List (Pair (List ℕ)) → Type 0
   Pairs = Chain pairRow (R.pairNext s) (R.pairStored s) (Tells rowOf (pairOf s) (InOrder s))
@@ -184,7 +183,7 @@ module _ (s : List ℕ) (by : Bytes s) where
   pairs-rows d a PairItems.empty = ([], Chain.end)
   pairs-rows {p} d a (PairItems.more {ps = ps} i is) =
       let c = split a in
-      let (o, tag, bad, long, read, at, mid, opened, objective, described, _, _) = pair-read (c .first) (omega (arith, d)) i by in
+      let (o, tag, bad, long, read, at, mid, opened, objective, described, _, _) = pair-read (c .first) (omega (arith, d)) i in
       let text : TagIn s tag = subst (TagOk s) read (tag-ok s p (drop p s) (omega (arith, length-drop p s, c .first .within, advances (c .first)))) in
       let (rows, more) = pairs-rows (omega (arith, d)) (c .rest) is in (
         R.pairCells o tag ∷ rows,

@@ -10,7 +10,6 @@ use native.Mathlib.Omega.{arith}
 use lib.Dec.{ltb, leb}
 use lib.Pow.{pow-mono}
 use borrow.Author.Tests.{ltb-true, leb-true, le-leb}
-use Rattle.base.specs.Pick.{pick}
 use Rattle.base.proofs.Picks.{pick-case}
 use Rattle.base.proofs.Bools.{or-true, not-both}
 use Rattle.node_state.specs.declared.Record.{Record}
