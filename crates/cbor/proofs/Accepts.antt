@@ -1,13 +1,13 @@
 -- The walk passes every encoding: where so many levels may open, an item of no more levels is passed, whatever follows it.
 -- Assumes nothing.
-use mathlib.Core.Path.{_≡_, refl, ap, _∙_}
+use mathlib.Core.Path.{_≡_, refl, sym, ap, _∙_}
 use mathlib.Core.List.{List, [], _∷_, _++_, append-assoc}
 use mathlib.Core.Bool.{Bool, true, false}
 use Prim.Native.Nat.{ℕ, suc, _+_, _-_, _*_, _/_, _≤_, _<_}
 use native.Mathlib.Nat.{add-zero, zero-add, add-assoc, suc-add}
 use native.Mathlib.Omega.{arith}
-use lib.ListN.{length, length-append}
-use lib.Seq.{drop-append-seam, drop-append-add}
+use lib.ListN.{length, drop, length-append, take-append-drop}
+use lib.Seq.{drop-append-seam, drop-append-add, length-take-le}
 use lib.Dec.{lit<, lit≤}
 use borrow.Author.Tests.{le-leb, lt-leb, ne-eqb}
 use Rattle.base.specs.Pick.{pick}
@@ -16,7 +16,7 @@ use Rattle.cbor.specs.declared.item.ItemRead.{ItemRead}
 use Rattle.cbor.specs.declared.head.HeadRead.{HeadRead}
 use Rattle.cbor.specs.Head.{headAt}
 use Rattle.cbor.specs.Item.{opens, stepOf, stepFrom, stepAt, itemsOf, leftUnder, next, firstItem}
-use Rattle.cbor.specs.Tree.{Item, Items, headBytes, Right, count, encode, encodes, depth, depths, Good, Goods}
+use Rattle.cbor.specs.Tree.{Item, Items, headBytes, Right, count, encode, encodes, depth, depths, Good, Goods, ItemIs}
 use Rattle.cbor.proofs.HeadExact.{head-read}
 use Rattle.cbor.proofs.Runs.{runs, runs-end, runs-close, runs-step}
 
@@ -97,3 +97,10 @@ unfolding firstItem
 item-accepts levels x rest g d =
     let most = leftUnder levels in
     pass most x 0 0 rest [] g (omega arith) ∙ runs-close most _ rest [] ∙ runs-end most _ rest ∙ ap ItemRead.Ends (zero-add (length (encode x)))
+
+-- so bytes that begin with its encoding are
+pub item-found : (levels : ℕ) (s : List ℕ) (e : ℕ) → ItemIs (leftUnder levels) s e → firstItem levels s ≡ ItemRead.Ends e
+item-found levels s e i =
+    ap (firstItem levels) (sym (take-append-drop e s) ∙ ap (λ (l : List ℕ). l ++ drop e s) (i .bytes))
+    ∙ item-accepts levels (i .item) (drop e s) (i .good) (i .shallow)
+    ∙ ap ItemRead.Ends (ap length (sym (i .bytes)) ∙ length-take-le e s (i .within))

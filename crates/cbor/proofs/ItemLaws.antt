@@ -2,33 +2,24 @@
 -- Assumes nothing.
 use mathlib.Core.Path.{_≡_, sym, ap, _∙_, subst}
 use mathlib.Core.Logic.{_↔_, _≢_}
-use mathlib.Core.List.{List, [], _++_, append-assoc, append-nil}
+use mathlib.Core.List.{List, [], _++_}
 use Prim.Native.Nat.{ℕ, _≤_}
-use lib.ListN.{length, drop, take-append-drop}
-use lib.Seq.{length-take-le}
 use Rattle.base.specs.BigEndian.{Bytes}
 use Rattle.cbor.specs.declared.item.ItemRead.{ItemRead}
 use Rattle.cbor.specs.Item.{leftUnder, firstItem}
 use Rattle.cbor.specs.Tree.{ItemIs}
 use Rattle.cbor.specs.Fault.{FirstFault}
-use Rattle.cbor.proofs.Accepts.{item-accepts}
+use Rattle.cbor.proofs.Accepts.{item-found}
 use Rattle.cbor.proofs.Exact.{item-exact}
 use Rattle.cbor.proofs.Unique.{unique}
 use Rattle.cbor.proofs.Followed.{Stays, item-stays}
 use Rattle.cbor.proofs.Refuses.{refusal-sound, refusal-complete}
 
--- an item's encoding, whatever follows it
-in-front : (levels : ℕ) (s t : List ℕ) (e : ℕ) → ItemIs (leftUnder levels) s e → firstItem levels (s ++ t) ≡ ItemRead.Ends e
-in-front levels s t e i =
-    ap (λ (l : List ℕ). firstItem levels (l ++ t)) (sym (take-append-drop e s) ∙ ap (λ (l : List ℕ). l ++ drop e s) (i .bytes))
-    ∙ rw append-assoc (item-accepts levels (i .item) (drop e s ++ t) (i .good) (i .shallow))
-    ∙ ap ItemRead.Ends (ap length (sym (i .bytes)) ∙ length-take-le e s (i .within))
-
 -- for readers
 
 -- An item is accepted exactly if the bytes up to its end are the encoding of one without fault, of no more levels than may open.
 pub accepted-exactly : (levels : ℕ) (s : List ℕ) (e : ℕ) → Bytes s → firstItem levels s ≡ ItemRead.Ends e ↔ ItemIs (leftUnder levels) s e
-accepted-exactly levels s e b = (item-exact levels s e b, λ i. rw append-nil at (in-front levels s [] e i))
+accepted-exactly levels s e b = (item-exact levels s e b, item-found levels s e)
 
 -- It is the encoding of no other.
 pub accepted-once : {left e : ℕ} {s : List ℕ} (i j : ItemIs left s e) → i .item ≡ j .item

@@ -36,6 +36,7 @@ use Rattle.exact.specs.Accepted.{IsMessage, Accepted}
 use Rattle.exact.specs.Rows.{Fits, OneItem, UnknownKind}
 use Rattle.exact.proofs.Whole.{WholeIs, fills}
 use Rattle.exact.proofs.Shaped.{shaped-case, unknown-there, shape-complete}
+use Rattle.exact.proofs.Bytes.{bytes-encode}
 use Rattle.exact.proofs.Once.{message-one}
 
 -- ---- one item that is the whole
@@ -55,6 +56,9 @@ module _ {s : List ℕ} (one : OneItem s) where
         end = omega (arith, ap length (one .bytes));
         within = le-refl (length s);
       }
+
+  pub one-bytes : Bytes s
+  one-bytes = subst Bytes (one .bytes) (bytes-encode (one .item) (one .good))
 
   pub walked : firstItem 0 s ≡ ItemRead.Ends (length s)
   walked =
@@ -90,9 +94,10 @@ judged-number m end bad long {number} {place} =
     P r = r ≡ E.Refused number place → 10 ≤ number
 
 -- a message is described by what is read of it
-pub message-shape : {s : List ℕ} → Bytes s → (i : IsMessage s) → MessageShape s (i .msg)
-message-shape {s} b i =
+pub message-shape : {s : List ℕ} (i : IsMessage s) → MessageShape s (i .msg)
+message-shape {s} i =
     let one = one-item i in
+    let b = one-bytes one in
     let r = shape-complete (stands one) (i .shallow) (i .is) in
     shaped-case b (λ (x : Examined). shaped s ≡ x → MessageShape s (i .msg))
     (λ place u e. absurd (omega (arith, judged-number (r .message) (r .end) (r .bad) (r .long) (sym (r .is) ∙ e))))

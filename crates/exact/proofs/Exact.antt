@@ -41,7 +41,7 @@ unfolding readOf placeless
 accepted-exactly s b = (
   λ (m, q). read-answer (examined s) (answer b) q .0,
   λ a.
-      let h = message-shape b (a .message) in
+      let h = message-shape (a .message) in
       (h .message, ap placeless (h .is ∙ judged-good (h .texts .1 (a .texts)) (h .names .1 (a .names)))),
 )
 

@@ -11,7 +11,8 @@ use Rattle.base.specs.Pick.{pick}
 use Rattle.base.specs.BigEndian.{Bytes}
 use Rattle.cbor.specs.Item.{firstItem}
 use Rattle.cbor.specs.Tree.{Item}
-use Rattle.cbor.proofs.ItemLaws.{refused-exactly as item-refused, accepted-exactly as item-accepted}
+use Rattle.cbor.proofs.Accepts.{item-found}
+use Rattle.cbor.proofs.Refuses.{refusal-complete}
 use Rattle.grammar.specs.Cddl.{MessageItem}
 use Rattle.message.specs.declared.Message.{Message}
 use Rattle.message.specs.declared.Examined.{Examined}
@@ -23,7 +24,7 @@ use Rattle.exact.specs.Accepted.{IsMessage, Accepted}
 use Rattle.exact.specs.Rows.{Fits, Row}
 use Rattle.exact.proofs.Whole.{fills}
 use Rattle.exact.proofs.Shaped.{shaped-case, unknown-there, unknown-complete}
-use Rattle.exact.proofs.Answers.{item-once, stands, walked, examined-one, judged-number, message-shape, Answer, answer}
+use Rattle.exact.proofs.Answers.{item-once, stands, one-bytes, walked, examined-one, judged-number, message-shape, Answer, answer}
 use Rattle.exact.proofs.Exact.{accepted-exactly, accepted-bytes}
 
 -- ---- the row's refusal is given
@@ -43,20 +44,21 @@ unfolding examined pick
 examined-fit {s} f = rw (ne-eqb (length s) 0 (f .some), le-ltb mostBytes (length s) (f .most))
 
 -- row by row
-row-given : (s : List ℕ) (n : ℕ) → Bytes s → Row s n → readOf s ≡ Reading.Refused n
+row-given : (s : List ℕ) (n : ℕ) → Row s n → readOf s ≡ Reading.Refused n
 unfolding readOf placeless examined framed pick
-row-given s _ b (Row.size (inl e)) = rw (eq-eqb (length s) 0 e)
-row-given s _ b (Row.size (inr h)) = rw (ne-eqb (length s) 0 (λ z. omega arith), lt-ltb mostBytes (length s) h)
-row-given s n b (Row.head {place = place} fits f) = ap placeless (examined-fit fits ∙ ap (framed s) (item-refused 0 s n place b .1 f))
-row-given s _ b (Row.more {e} fits i less) =
-    ap placeless (examined-fit fits ∙ ap (framed s) (item-accepted 0 s e b .1 i)) ∙ rw (ne-eqb e (length s) (λ z. omega arith))
-row-given s _ b (Row.kind one u) = ap placeless (examined-one one ∙ unknown-complete (stands one) u .1)
-row-given s _ b (Row.shape one known none) =
+row-given s _ (Row.size (inl e)) = rw (eq-eqb (length s) 0 e)
+row-given s _ (Row.size (inr h)) = rw (ne-eqb (length s) 0 (λ z. omega arith), lt-ltb mostBytes (length s) h)
+row-given s n (Row.head {place = place} fits f) = ap placeless (examined-fit fits ∙ ap (framed s) (refusal-complete 0 s n place f))
+row-given s _ (Row.more {e} fits i less) =
+    ap placeless (examined-fit fits ∙ ap (framed s) (item-found 0 s e i)) ∙ rw (ne-eqb e (length s) (λ z. omega arith))
+row-given s _ (Row.kind one u) = ap placeless (examined-one one ∙ unknown-complete (stands one) u .1)
+row-given s _ (Row.shape one known none) =
+    let b = one-bytes one in
     ap placeless (examined-one one)
     ∙ shaped-case b (λ (r : Examined). placeless r ≡ Reading.Refused 9) (λ place u. absurd (known (unknown-there b (stands one) u))) (λ place. refl)
     (λ m end bad long shape. let h = fills b (walked one) shape in absurd (none (h .msg) (subst (λ (x : Item). MessageItem x (h .msg)) (item-once (h .item) (one .item) (h .good) (one .good) (h .bytes) (one .bytes)) (h .is))))
-row-given s _ b (Row.text i bad) = let h = message-shape b i in ap placeless (h .is) ∙ judged-bad (h .message) (h .end) (h .bad) (h .long) (λ z. bad (h .texts .0 z))
-row-given s _ b (Row.name i texts long) = let h = message-shape b i in ap placeless (h .is) ∙ judged-long (h .message) (h .end) (h .bad) (h .long) (h .texts .1 texts) (λ z. long (h .names .0 z))
+row-given s _ (Row.text i bad) = let h = message-shape i in ap placeless (h .is) ∙ judged-bad (h .message) (h .end) (h .bad) (h .long) (λ z. bad (h .texts .0 z))
+row-given s _ (Row.name i texts long) = let h = message-shape i in ap placeless (h .is) ∙ judged-long (h .message) (h .end) (h .bad) (h .long) (h .texts .1 texts) (λ z. long (h .names .0 z))
 
 -- ---- a refusal has its row
 -- an answer has one number
@@ -64,30 +66,30 @@ refused-8-9 : {r : Reading} → r ≡ Reading.Refused 8 → r ≡ Reading.Refuse
 refused-8-9 e f = let z : _≡_ {A = ℕ} 8 9 = cc in omega arith
 
 -- refusal by refusal
-row-of : {s : List ℕ} {number place : ℕ} → Bytes s → examined s ≡ E.Refused number place → Answer s (E.Refused number place) → Row s number
+row-of : {s : List ℕ} {number place : ℕ} → examined s ≡ E.Refused number place → Answer s (E.Refused number place) → Row s number
 unfolding readOf placeless
-row-of b e (Answer.size h) = Row.size h
-row-of b e (Answer.head fits f) = Row.head fits f
-row-of b e (Answer.more fits i less) = Row.more fits i less
-row-of b e (Answer.kind one u) = Row.kind one u
-row-of {s} b e (Answer.shape one) =
-    Row.shape one (λ u. refused-8-9 (row-given s 8 b (Row.kind one u)) (ap placeless e))
+row-of e (Answer.size h) = Row.size h
+row-of e (Answer.head fits f) = Row.head fits f
+row-of e (Answer.more fits i less) = Row.more fits i less
+row-of e (Answer.kind one u) = Row.kind one u
+row-of {s} e (Answer.shape one) =
+    Row.shape one (λ u. refused-8-9 (row-given s 8 (Row.kind one u)) (ap placeless e))
     (λ msg is.
     let i : IsMessage s = record { item = one .item; msg = msg; bytes = one .bytes; most = one .most; good = one .good; shallow = one .shallow; is = is } in
-    let h = message-shape b i in
+    let h = message-shape i in
     omega (arith, judged-number (h .message) (h .end) (h .bad) (h .long) (sym (h .is) ∙ e)))
-row-of b e (Answer.text m bad) = Row.text m bad
-row-of b e (Answer.name m texts long) = Row.name m texts long
+row-of e (Answer.text m bad) = Row.text m bad
+row-of e (Answer.name m texts long) = Row.name m texts long
 
 -- for readers
 
 -- Each refusal is given exactly where its row says.
 pub refused-exactly : (s : List ℕ) (n : ℕ) → Bytes s → readOf s ≡ Reading.Refused n ↔ Row s n
 unfolding readOf placeless
-refused-exactly s n b = (by (examined s) refl, row-given s n b)
+refused-exactly s n b = (by (examined s) refl, row-given s n)
   where
     by : (r : Examined) → examined s ≡ r → placeless r ≡ Reading.Refused n → Row s n
-    by (E.Refused number place) e q = let same : number ≡ n = cc in subst (Row s) same (row-of b e (subst (Answer s) e (answer b)))
+    by (E.Refused number place) e q = let same : number ≡ n = cc in subst (Row s) same (row-of e (subst (Answer s) e (answer b)))
     by (E.Accepted m end) e q = absurd (let z : _≡_ {A = ℕ} 0 1 = cc in omega arith)
 
 -- Any bytes are accepted or have a row.
@@ -101,15 +103,14 @@ accepted-or-refused s b = by (readOf s) refl
 -- Accepted bytes have no row.
 pub accepted-not-refused : (s : List ℕ) (n : ℕ) → Accepted s → Row s n → ⊥
 accepted-not-refused s n a row =
-    let b = accepted-bytes s a in
-    let (m, e) = accepted-exactly s b .1 a in
-    let f = row-given s n b row in
+    let (m, e) = accepted-exactly s (accepted-bytes s a) .1 a in
+    let f = row-given s n row in
     let z : _≡_ {A = ℕ} 0 1 = cc in
     omega arith
 
 -- No bytes have two rows.
-pub refused-once : (s : List ℕ) (n n′ : ℕ) → Bytes s → Row s n → Row s n′ → n ≡ n′
-refused-once s n n′ b row row′ =
-    let e = row-given s n b row in
-    let e′ = row-given s n′ b row′ in
+pub refused-once : (s : List ℕ) (n n′ : ℕ) → Row s n → Row s n′ → n ≡ n′
+refused-once s n n′ row row′ =
+    let e = row-given s n row in
+    let e′ = row-given s n′ row′ in
     cc
