@@ -51,7 +51,7 @@ module _ {s : List ℕ} (o : OwnNames s) where
   pub read : TextsRead s (o .names)
   read = texts-read (stands (o .one)) (o .are)
 
-  few-read : tokenAt s 0 .arg ≤ mostNames
+  pub few-read : tokenAt s 0 .arg ≤ mostNames
   few-read = omega (arith, read .arg, texts-counted (read .are), o .few)
 
   array-good : arrayBad s ≡ false

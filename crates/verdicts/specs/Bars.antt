@@ -30,7 +30,7 @@ Earlier r c = c .clock < r .clock
 abbrev pub GoodTable : List ℕ → Call → Type 0
 GoodTable t c = (length t ≡ 256) × ((i : ℕ) → i < 64 → Free t i ⊎ Used (c .clock) t i)
 
--- the own names are bad
+-- the own names are bad: no list of names is what these bytes are (`names-refused` of `own_names` proofs/Exact)
 abbrev pub BadNames : Call → Type 0
 BadNames c = namesBad (c .names) ≡ true
 

@@ -39,7 +39,7 @@ unfoldable pub namesFrom : List ℕ → ℕ → ℕ → List (List ℕ)
 namesFrom s zero at = []
 namesFrom s (suc n) at = contentIn s (tokenAt s at) ∷ namesFrom s n (tokenAt s at .next)
 
--- the names in an array of at most 16
+-- the names in an array of at most 16: of own names, the list of names that they are (`names-are` of proofs/Names)
 unfoldable pub namesIn : List ℕ → List (List ℕ)
 namesIn s = pick (ltb mostNames (tokenAt s 0 .arg)) [] (namesFrom s (tokenAt s 0 .arg) (tokenAt s 0 .next))
 
