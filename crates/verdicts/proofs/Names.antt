@@ -1,10 +1,9 @@
 -- The own names of a call, held against the list of names that their bytes are. For readers: each statement at the end stands alone.
 -- Assumes nothing.
-use mathlib.Core.Path.{_≡_, refl, sym, ap₂, _∙_, subst}
+use mathlib.Core.Path.{_≡_, refl, sym, ap₂, subst}
 use mathlib.Core.Logic.{_↔_}
 use mathlib.Core.List.{List, _∷_, List·Memᴰ}
 use Prim.Native.Nat.{ℕ}
-use lib.Dec.{ltb}
 use borrow.Author.Tests.{le-ltb}
 use Rattle.options.specs.Text.{held}
 use Rattle.base.specs.Pick.{pick}
