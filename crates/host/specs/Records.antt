@@ -1,23 +1,20 @@
 -- A node's record as a host keeps it: beside its address a record's numbers are its port, ttl, interfaces, links, clock and tally.
-use Prim.Native.Nat.{ℕ}
+use Prim.Native.Nat.{ℕ, _^_}
 use mathlib.Core.List.{List, [], _∷_}
-use lib.ListN.{getD, replicate}
-use lib.Dec.{ltb, eqb}
+use lib.ListN.{getD}
+use lib.Dec.{leb, eqb}
 use Rattle.base.specs.Pick.{pick}
 use Rattle.node_state.specs.declared.Record.{Record}
 use Rattle.node_state.specs.declared.Kept.{Kept}
-use Rattle.node_state.specs.Record.{keeps, begun, fresh}
+use Rattle.node_state.specs.Record.{keeps, blank, fresh}
 
-unfoldable pub blank : Record
-blank = begun (replicate 16 0) 0 0 0 0
-
--- the record that the numbers say; where one is too wide for a record, all zeros, which is refused by 12
+-- the record that the numbers say; where one is too wide for a record, a blank one, which is refused by 12
 unfoldable pub nodeOf : List ℕ → List ℕ → Record
 nodeOf address f =
-    pick (ltb 65535 (getD f 0 0)) blank
-    (pick (ltb 4294967295 (getD f 1 0)) blank
-    (pick (ltb 255 (getD f 2 0)) blank
-    (pick (ltb 255 (getD f 3 0)) blank
+    pick (leb (2 ^ 16) (getD f 0 0)) blank
+    (pick (leb (2 ^ 32) (getD f 1 0)) blank
+    (pick (leb (2 ^ 8) (getD f 2 0)) blank
+    (pick (leb (2 ^ 8) (getD f 3 0)) blank
     (record {
       address = address;
       port = getD f 0 0;

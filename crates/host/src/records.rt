@@ -1,6 +1,7 @@
 // A node's record as a host keeps it: its address, 16 bytes, and six numbers, its port, ttl, interfaces, links, clock and tally.
 ghost use mathlib.Core.Path.{_≡_};
-ghost use Rattle.host.specs.Records.{blank, nodeOf, nodeNumbers, numbersAfter, freshOver};
+ghost use Rattle.node_state.specs.Record.{blank};
+ghost use Rattle.host.specs.Records.{nodeOf, nodeNumbers, numbersAfter, freshOver};
 use node_state::Kept;
 use node_state::Record;
 

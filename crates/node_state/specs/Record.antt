@@ -25,10 +25,14 @@ abbrev pub begun : List ℕ → ℕ → ℕ → ℕ → ℕ → Record
 begun address port ttl interfaces mask =
     record { address = address; port = port; ttl = ttl; interfaces = interfaces; links = mask; clock = 0; tally = 0 }
 
--- asking for a fresh record: 12, with all zeros for the record, or the record with refusal 0
+-- all zeros
+abbrev pub blank : Record
+blank = begun (replicate 16 0) 0 0 0 0
+
+-- asking for a fresh record: 12, with a blank one for the record, or the record with refusal 0
 unfoldable pub fresh : List ℕ → ℕ → ℕ → ℕ → ℕ → Kept
 fresh address port ttl interfaces mask =
-    pick (linksBad interfaces mask) (keeps 12 (begun (replicate 16 0) 0 0 0 0)) (keeps 0 (begun address port ttl interfaces mask))
+    pick (linksBad interfaces mask) (keeps 12 blank) (keeps 0 (begun address port ttl interfaces mask))
 
 -- the record with another mask
 unfoldable pub linked : Record → ℕ → Record

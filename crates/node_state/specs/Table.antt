@@ -11,12 +11,16 @@ use Rattle.node_state.specs.declared.table.Key.{Key}
 abbrev pub mostRows : ℕ
 mostRows = 64
 
+-- how many numbers the table has, four to a row
+abbrev pub tableNumbers : ℕ
+tableNumbers = 4 * mostRows
+
 unfoldable pub freshTable : List ℕ
-freshTable = replicate (4 * mostRows) 0
+freshTable = replicate tableNumbers 0
 
 -- the first for a table of 256 numbers, the second for a list of another length, which has no rows
 unfoldable pub whereSized : {A : Type 0} → List ℕ → A → A → A
-whereSized t x y = pick (eqb (length t) (4 * mostRows)) x y
+whereSized t x y = pick (eqb (length t) tableNumbers) x y
 
 -- number j of row i
 unfoldable pub cell : List ℕ → ℕ → ℕ → ℕ
@@ -66,7 +70,7 @@ someRow p = ltb (firstFrom p mostRows 0) mostRows
 
 -- 15: not 256 numbers, or a bad row
 unfoldable pub tableBad : ℕ → List ℕ → Bool
-tableBad now t = not (eqb (length t) (4 * mostRows)) || someRow (rowBad now t)
+tableBad now t = not (eqb (length t) tableNumbers) || someRow (rowBad now t)
 
 -- house limits: how long a row lives, in ms
 abbrev pub discoveryLife : ℕ

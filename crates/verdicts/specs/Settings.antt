@@ -3,19 +3,18 @@ use Prim.Native.Nat.{ℕ, _≤_}
 use mathlib.Core.Bool.{true}
 use mathlib.Core.List.{List}
 use mathlib.Core.Path.{_≡_}
-use lib.ListN.{replicate}
 use Rattle.node_state.specs.declared.Record.{Record}
 use Rattle.node_state.specs.declared.Kept.{Kept}
-use Rattle.node_state.specs.Record.{keeps, begun, linked, isUp}
+use Rattle.node_state.specs.Record.{keeps, begun, blank, linked, isUp}
 use Rattle.verdicts.specs.Bars.{BadRecord}
 
 -- a bit of the mask is set at or above the count
 abbrev pub HighLink : ℕ → ℕ → Type 0
 HighLink interfaces mask = (j : ℕ) × (interfaces ≤ j) × (isUp mask j ≡ true)
 
--- 12, beside a record of zeros, where the record would be bad; else the record, with clock and tally 0
+-- 12, beside a blank record, where the record would be bad; else the record, with clock and tally 0
 pub data Begun (address : List ℕ) (port ttl interfaces mask : ℕ) : Kept → Type 0 where
-  refused : BadRecord (begun address port ttl interfaces mask) → Begun address port ttl interfaces mask (keeps 12 (begun (replicate 16 0) 0 0 0 0))
+  refused : BadRecord (begun address port ttl interfaces mask) → Begun address port ttl interfaces mask (keeps 12 blank)
   made : (BadRecord (begun address port ttl interfaces mask) → ⊥) → Begun address port ttl interfaces mask (keeps 0 (begun address port ttl interfaces mask))
 
 -- 12 for a bad record; 13 for a mask with a bit at or above the count; else the mask in the old one's place, and nothing else changed
