@@ -3,7 +3,7 @@
 use Prim.Native.Nat.{ℕ}
 use mathlib.Core.Path.{_≡_, refl, ap, _∙_}
 use mathlib.Core.List.{List, [], _∷_}
-use lib.ListN.{length, replicate}
+use lib.ListN.{length}
 use borrow.Author.Tests.{eq-eqb, ne-eqb, eqb-true}
 use Rattle.base.specs.Pick.{pick}
 use Rattle.base.proofs.Picks.{pick-case, both}
@@ -20,7 +20,7 @@ use Rattle.node_state.specs.Table.{freed}
 use Rattle.node.specs.Role.{roleOf}
 use Rattle.node.specs.Call.{Call, After, afterOf, refuse, quiet, verdictOn, answered, relayed, carriedOut, taken, judged, nodeCall}
 use Rattle.host.specs.declared.call.Answer as A
-use Rattle.host.specs.Table.{loadedUpTo, numbersIn, savedUpTo, bytesWith}
+use Rattle.host.specs.Table.{tableBytes, loaded, saved}
 use Rattle.host.specs.Call.{answerFrom, tableIn, afterCall, callAnswer, callTable, callOutput, answerNumbers, replyNumbers, leftOf, callLeft}
 
 module _ (r : Record) (bytes : List ℕ) (c : Call) (b : Called) (t out : List ℕ) (a : A.Answer) (is : a ≡ answerFrom b) where
@@ -29,30 +29,30 @@ module _ (r : Record) (bytes : List ℕ) (c : Call) (b : Called) (t out : List �
   unfolding callAnswer callOutput
   answers e = (is ∙ ap (λ (z : After). answerFrom (z .called)) e, ap (λ (z : After). z .output) e)
 
-  pub other-length : (length bytes ≡ 2048 → ⊥) → afterOf b t out ≡ nodeCall r (0 ∷ []) c
+  pub other-length : (length bytes ≡ tableBytes → ⊥) → afterOf b t out ≡ nodeCall r (0 ∷ []) c
       → (a ≡ callAnswer r bytes c) × (bytes ≡ callTable r bytes c) × (out ≡ callOutput r bytes c)
   unfolding callTable afterCall tableIn pick
   other-length ne e =
-      let same : afterOf b t out ≡ afterCall r bytes c = rw (ne-eqb (length bytes) 2048 ne) e in
+      let same : afterOf b t out ≡ afterCall r bytes c = rw (ne-eqb (length bytes) tableBytes ne) e in
       let (answered, left) = answers same in
-      (answered, rw (ne-eqb (length bytes) 2048 ne) refl, left)
+      (answered, rw (ne-eqb (length bytes) tableBytes ne) refl, left)
 
-  module _ (numbers : List ℕ) (sized : length bytes ≡ 2048) (loaded : numbers ≡ loadedUpTo 256 bytes (replicate 256 0)) (e : afterOf b t out ≡ nodeCall r numbers c) where
+  module _ (numbers : List ℕ) (sized : length bytes ≡ tableBytes) (numbers-are : numbers ≡ loaded bytes) (e : afterOf b t out ≡ nodeCall r numbers c) where
     same-call : afterOf b t out ≡ afterCall r bytes c
-    unfolding afterCall tableIn numbersIn pick
-    same-call = rw (eq-eqb (length bytes) 2048 sized, ← loaded) e
+    unfolding afterCall tableIn pick
+    same-call = rw (eq-eqb (length bytes) tableBytes sized, ← numbers-are) e
 
     pub call-refused : (a .refusal ≡ 0 → ⊥) → (a ≡ callAnswer r bytes c) × (bytes ≡ callTable r bytes c) × (out ≡ callOutput r bytes c)
     unfolding callTable pick
     call-refused ne =
         let (answered, left) = answers same-call in
-        (answered, rw (eq-eqb (length bytes) 2048 sized, ← answered, ne-eqb (a .refusal) 0 ne) refl, left)
+        (answered, rw (eq-eqb (length bytes) tableBytes sized, ← answered, ne-eqb (a .refusal) 0 ne) refl, left)
 
-    pub call-given : (after : List ℕ) → a .refusal ≡ 0 → after ≡ savedUpTo 256 t bytes → (a ≡ callAnswer r bytes c) × (after ≡ callTable r bytes c) × (out ≡ callOutput r bytes c)
-    unfolding callTable bytesWith pick
-    call-given after none saved =
+    pub call-given : (after : List ℕ) → a .refusal ≡ 0 → after ≡ saved t → (a ≡ callAnswer r bytes c) × (after ≡ callTable r bytes c) × (out ≡ callOutput r bytes c)
+    unfolding callTable pick
+    call-given after none after-is =
         let (answered, left) = answers same-call in
-        (answered, rw (eq-eqb (length bytes) 2048 sized, ← answered, eq-eqb (a .refusal) 0 none) (saved ∙ ap (λ (z : After). savedUpTo 256 (z .table) bytes) same-call), left)
+        (answered, rw (eq-eqb (length bytes) tableBytes sized, ← answered, eq-eqb (a .refusal) 0 none) (after-is ∙ ap (λ (z : After). saved (z .table)) same-call), left)
 
 -- ---- what a refusal leaves
 

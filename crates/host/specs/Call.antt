@@ -13,7 +13,7 @@ use Rattle.node.specs.declared.Reply.the-variants.{Refused, Given}
 use Rattle.node.specs.declared.Called.{Called}
 use Rattle.node.specs.Call.{Call, After, nodeCall}
 use Rattle.host.specs.declared.call.Answer as A
-use Rattle.host.specs.Table.{numbersIn, bytesWith}
+use Rattle.host.specs.Table.{tableBytes, loaded, saved}
 
 -- the verdicts in the rules' order, from 1
 abbrev pub verdictNumber : Verdict → ℕ
@@ -41,7 +41,7 @@ answerFrom b = replyNumbers (b .reply) (b .node)
 
 -- the table that the bytes hold; of another length, one that is refused with 15 in its turn
 unfoldable pub tableIn : List ℕ → List ℕ
-tableIn bytes = pick (eqb (length bytes) 2048) (numbersIn bytes) (0 ∷ [])
+tableIn bytes = pick (eqb (length bytes) tableBytes) (loaded bytes) (0 ∷ [])
 
 module _ (r : Record) (bytes : List ℕ) (c : Call) where
   unfoldable pub afterCall : After
@@ -52,7 +52,7 @@ module _ (r : Record) (bytes : List ℕ) (c : Call) where
 
   -- the bytes stay where the call is refused
   unfoldable pub callTable : List ℕ
-  callTable = pick (eqb (length bytes) 2048) (pick (eqb (callAnswer .refusal) 0) (bytesWith (afterCall .table) bytes) bytes) bytes
+  callTable = pick (eqb (length bytes) tableBytes) (pick (eqb (callAnswer .refusal) 0) (saved (afterCall .table)) bytes) bytes
 
   unfoldable pub callOutput : List ℕ
   callOutput = afterCall .output

@@ -1,12 +1,15 @@
 // The relay table for C: 2,048 bytes, 256 numbers of eight bytes each, the most significant first.
 ghost use mathlib.Core.Path.{_≡_};
-ghost use Prim.Native.Nat.{_<_};
-ghost use lib.ListN.{length};
-ghost use Rattle.host.specs.Table.{spelledBy, numberAt, loadedUpTo, putNumber, savedUpTo};
+ghost use Prim.Native.Nat.{_+_, _*_, _^_, _<_};
+ghost use lib.ListN.{length, drop};
+ghost use Rattle.base.specs.BigEndian.{bigEndian, bytesOf};
+ghost use Rattle.cbor.specs.Put.{put};
+ghost use Rattle.node_state.specs.Table.{tableNumbers};
+ghost use Rattle.host.specs.Table.{tableBytes, loaded, saved};
 
 // The number that eight bytes spell. The two halves are added last: so it is compiled to one load of eight bytes.
 fn spelled_by(a: u8, b: u8, c: u8, d: u8, e: u8, f: u8, g: u8, h: u8) -> u64
-    ensures { λ r. ⌜ r ≡ spelledBy a b c d e f g h ⌝ }
+    ensures { λ r. ⌜ r ≡ a * 2 ^ 56 + b * 2 ^ 48 + c * 2 ^ 40 + d * 2 ^ 32 + e * 2 ^ 24 + f * 2 ^ 16 + g * 2 ^ 8 + h ⌝ }
 {
     let high = (a as u64) * 72_057_594_037_927_936
         + (b as u64) * 281_474_976_710_656
@@ -18,8 +21,8 @@ fn spelled_by(a: u8, b: u8, c: u8, d: u8, e: u8, f: u8, g: u8, h: u8) -> u64
 
 // Number i of the table.
 fn number_at(bytes: &[u8], i: usize) -> u64
-    requires { ⌜ length (now bytes) ≡ 2048 ⌝ ∗ ⌜ i < 256 ⌝ }
-    ensures { λ r. ⌜ r ≡ numberAt (now (bytes .entry)) i ⌝ }
+    requires { ⌜ length (now bytes) ≡ tableBytes ⌝ ∗ ⌜ i < tableNumbers ⌝ }
+    ensures { λ r. ⌜ r ≡ bigEndian (drop (8 * i) (now (bytes .entry))) 8 ⌝ }
 {
     let at = 8 * i;
     spelled_by(
@@ -36,8 +39,8 @@ fn number_at(bytes: &[u8], i: usize) -> u64
 
 // The table's numbers, from its bytes; four to a turn, which is faster than one.
 pub(crate) fn load(bytes: &[u8], table: &mut [u64])
-    requires { ⌜ length (now bytes) ≡ 2048 ⌝ ∗ ⌜ length (now table) ≡ 256 ⌝ }
-    ensures { λ r. ⌜ now (table .exit) ≡ loadedUpTo 256 (now (bytes .entry)) (now (table .entry)) ⌝ }
+    requires { ⌜ length (now bytes) ≡ tableBytes ⌝ ∗ ⌜ length (now table) ≡ tableNumbers ⌝ }
+    ensures { λ r. ⌜ now (table .exit) ≡ loaded (now (bytes .entry)) ⌝ }
 {
     let mut i: usize = 0;
     while i < 256 {
@@ -51,8 +54,8 @@ pub(crate) fn load(bytes: &[u8], table: &mut [u64])
 
 // A number's eight bytes.
 fn put_number(bytes: &mut [u8], i: usize, x: u64)
-    requires { ⌜ length (now bytes) ≡ 2048 ⌝ ∗ ⌜ i < 256 ⌝ }
-    ensures { λ r. ⌜ now (bytes .exit) ≡ putNumber i x (now (bytes .entry)) ⌝ }
+    requires { ⌜ length (now bytes) ≡ tableBytes ⌝ ∗ ⌜ i < tableNumbers ⌝ }
+    ensures { λ r. ⌜ now (bytes .exit) ≡ put (now (bytes .entry)) (8 * i) (bytesOf 8 x) ⌝ }
 {
     let at = 8 * i;
     bytes[at] = (x / 72_057_594_037_927_936 % 256) as u8;
@@ -67,8 +70,8 @@ fn put_number(bytes: &mut [u8], i: usize, x: u64)
 
 // The table's bytes, from its numbers; four to a turn.
 pub(crate) fn save(table: &[u64], bytes: &mut [u8])
-    requires { ⌜ length (now table) ≡ 256 ⌝ ∗ ⌜ length (now bytes) ≡ 2048 ⌝ }
-    ensures { λ r. ⌜ now (bytes .exit) ≡ savedUpTo 256 (now (table .entry)) (now (bytes .entry)) ⌝ }
+    requires { ⌜ length (now table) ≡ tableNumbers ⌝ ∗ ⌜ length (now bytes) ≡ tableBytes ⌝ }
+    ensures { λ r. ⌜ now (bytes .exit) ≡ saved (now (table .entry)) ⌝ }
 {
     let mut i: usize = 0;
     while i < 256 {

@@ -1,13 +1,13 @@
--- `host::table::load` meets its contract. The loop's invariant: the numbers passed are those of the bytes.
+-- `host::table::load` meets its contract. The loop's invariant: with the numbers that are left the table is the whole one.
 -- Assumes nothing.
-use mathlib.Core.Path.{_≡_, refl, sym, _∙_}
+use mathlib.Core.Path.{_≡_, sym, _∙_}
 use Prim.Native.Nat.{_-_, _%_, _≤_}
 use native.Mathlib.Nat.{le-antisymm}
 use native.Mathlib.Omega.{arith}
 use borrow.Author.Needs.{needs}
 use lib.ListN.{length, length-set}
-use Rattle.host.specs.Table.{loadedUpTo}
-use Rattle.host.proofs.Numbers.{load-turn}
+use Rattle.node_state.specs.Table.{tableNumbers}
+use Rattle.host.proofs.Numbers.{Loading, load-begun, load-turn, load-done}
 use Rattle.host.proofs.table.load.Statement.{statement}
 use Rattle.host.proofs.table.load.Tie as tie
 use Rattle.host.proofs.table.load.Reads as reads
@@ -15,107 +15,106 @@ use Rattle.host.proofs.table.load.Lts as lts
 use Rattle.host.proofs.table.number_at.Reads as number-at-reads
 
 abbrev Inv-loop : tie.InvT-loop
-Inv-loop bytes table₀ i₀ table i = (i ≤ 256) × (i % 4 ≡ 0) × (length table ≡ 256) × (table ≡ loadedUpTo i bytes table₀)
+Inv-loop bytes table₀ i₀ table i = (i ≤ tableNumbers) × (i % 4 ≡ 0) × (length table ≡ tableNumbers) × Loading bytes i table
 
 abbrev μ-loop : tie.MeasureT-loop
-μ-loop bytes table₀ i₀ table i = 256 - i
+μ-loop bytes table₀ i₀ table i = tableNumbers - i
 
--- src/table.rt:43:5
+-- src/table.rt:46:5
 loop-holds : tie.Need-loop-holds Inv-loop μ-loop
-unfolding loadedUpTo
-loop-holds c = (omega arith, omega arith, c .before .before .pre .1, refl)
+loop-holds c = (omega arith, omega arith, c .before .before .pre .1, load-begun _ _ (c .before .before .pre .1))
 
--- src/table.rt:44:20
+-- src/table.rt:47:20
 number-at-requires : tie.Need-number-at-requires Inv-loop μ-loop
 number-at-requires c κs = search needs
 
--- src/table.rt:44:9
+-- src/table.rt:47:9
 mul-table : tie.Need-mul-table Inv-loop μ-loop
 mul-table c = omega arith
 
--- src/table.rt:44:9
+-- src/table.rt:47:9
 slice-write-table : tie.Need-slice-write-table Inv-loop μ-loop
 slice-write-table c = omega arith
 
--- src/table.rt:45:41
+-- src/table.rt:48:41
 add-number-at : tie.Need-add-number-at Inv-loop μ-loop
 add-number-at c = omega arith
 
--- src/table.rt:45:24
+-- src/table.rt:48:24
 number-at-requires-2 : tie.Need-number-at-requires-2 Inv-loop μ-loop
 number-at-requires-2 c κs = (c .before .before .before .before .before .pre .0, omega (arith, c .before .before .loop .inv .1))
 
--- src/table.rt:45:15
+-- src/table.rt:48:15
 add-table : tie.Need-add-table Inv-loop μ-loop
 add-table c = omega arith
 
--- src/table.rt:45:9
+-- src/table.rt:48:9
 mul-table-2 : tie.Need-mul-table-2 Inv-loop μ-loop
 mul-table-2 c = omega arith
 
--- src/table.rt:45:9
+-- src/table.rt:48:9
 slice-write-table-2 : tie.Need-slice-write-table-2 Inv-loop μ-loop
 slice-write-table-2 c = simp length-set (omega (arith, c .before .before .before .loop .inv .1, c .before .before .before .loop .inv .2))
 
--- src/table.rt:46:41
+-- src/table.rt:49:41
 add-number-at-2 : tie.Need-add-number-at-2 Inv-loop μ-loop
 add-number-at-2 c = omega arith
 
--- src/table.rt:46:24
+-- src/table.rt:49:24
 number-at-requires-3 : tie.Need-number-at-requires-3 Inv-loop μ-loop
 number-at-requires-3 c κs = (c .before .before .before .before .before .before .pre .0, omega (arith, c .before .before .before .loop .inv .1))
 
--- src/table.rt:46:15
+-- src/table.rt:49:15
 add-table-2 : tie.Need-add-table-2 Inv-loop μ-loop
 add-table-2 c = omega arith
 
--- src/table.rt:46:9
+-- src/table.rt:49:9
 mul-table-3 : tie.Need-mul-table-3 Inv-loop μ-loop
 mul-table-3 c = omega arith
 
--- src/table.rt:46:9
+-- src/table.rt:49:9
 slice-write-table-3 : tie.Need-slice-write-table-3 Inv-loop μ-loop
 slice-write-table-3 c = simp length-set (omega (arith, c .before .before .before .before .loop .inv .1, c .before .before .before .before .loop .inv .2))
 
--- src/table.rt:47:41
+-- src/table.rt:50:41
 add-number-at-3 : tie.Need-add-number-at-3 Inv-loop μ-loop
 add-number-at-3 c = omega arith
 
--- src/table.rt:47:24
+-- src/table.rt:50:24
 number-at-requires-4 : tie.Need-number-at-requires-4 Inv-loop μ-loop
 number-at-requires-4 c κs = (c .before .before .before .before .before .before .before .pre .0, omega (arith, c .before .before .before .before .loop .inv .1))
 
--- src/table.rt:47:15
+-- src/table.rt:50:15
 add-table-3 : tie.Need-add-table-3 Inv-loop μ-loop
 add-table-3 c = omega arith
 
--- src/table.rt:47:9
+-- src/table.rt:50:9
 mul-table-4 : tie.Need-mul-table-4 Inv-loop μ-loop
 mul-table-4 c = omega arith
 
--- src/table.rt:47:9
+-- src/table.rt:50:9
 slice-write-table-4 : tie.Need-slice-write-table-4 Inv-loop μ-loop
 slice-write-table-4 c = simp length-set (omega (arith, c .before .before .before .before .before .loop .inv .1, c .before .before .before .before .before .loop .inv .2))
 
--- src/table.rt:48:9
+-- src/table.rt:51:9
 add-i : tie.Need-add-i Inv-loop μ-loop
 add-i c = omega arith
 
--- src/table.rt:43:5
+-- src/table.rt:46:5
 loop-less : tie.Need-loop-less Inv-loop μ-loop
 loop-less c = omega arith
 
--- src/table.rt:43:5
+-- src/table.rt:46:5
 loop-again : tie.Need-loop-again Inv-loop μ-loop
-loop-again c = (omega arith, omega arith, simp length-set (c .before .before .before .before .before .loop .inv .2), load-turn _ _ _ _ _ _ _ _ (c .before .before .before .before .before .loop .inv .3) (c .before .before .before .number-at .ensures) (c .before .before .number-at2 .ensures) (c .before .number-at3 .ensures) (c .number-at4 .ensures))
+loop-again c = (omega arith, omega arith, simp length-set (c .before .before .before .before .before .loop .inv .2), load-turn _ _ _ _ _ _ _ (omega arith) (c .before .before .before .before .before .loop .inv .3) (c .before .before .before .number-at .ensures) (c .before .before .number-at2 .ensures) (c .before .number-at3 .ensures) (c .number-at4 .ensures))
 
--- src/table.rt:38:1
+-- src/table.rt:41:1
 same-length : tie.Need-same-length Inv-loop μ-loop
 same-length c = c .before .loop .inv .2 ∙ sym (c .before .before .before .before .pre .1)
 
--- src/table.rt:38:1
+-- src/table.rt:41:1
 returns : tie.Need-returns Inv-loop μ-loop
-returns c = rw (le-antisymm (c .loop-test .left) (c .before .loop .inv .0)) (c .before .loop .inv .3)
+returns c = load-done _ _ (rw (le-antisymm (c .before .loop .inv .0) (c .loop-test .left)) at (c .before .loop .inv .3))
 
 pub load-spec : {M : Type 1} → statement M
 load-spec =
