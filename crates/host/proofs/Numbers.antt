@@ -7,7 +7,7 @@ use native.Mathlib.Nat.{add-zero, mul-suc, div-div-eq-div-mul}
 use native.Mathlib.Numerals.{towards-suc}
 use native.Mathlib.Omega.{arith}
 use lib.ListN.{length, getD, set, take, drop, length-append, length-drop}
-use lib.Seq.{sets-eq, length-sets, take-all, take-add, drop-at, drop-cons, drop-drop, getD-drop}
+use lib.Seq.{sets-eq, take-all, take-add, drop-at, drop-cons, drop-drop, getD-drop}
 use Rattle.base.specs.BigEndian.{Bytes, bigEndian, bytesOf}
 use Rattle.base.specs.Lists.{Every}
 use Rattle.base.proofs.Digits.{length-bytes, read-back, spelled}
@@ -32,10 +32,6 @@ pub number-put : (s : List ℕ) (at x : ℕ)
     ≡ put s at (bytesOf 8 x)
 unfolding put bytesOf
 number-put s at x = simp (div-div-eq-div-mul, towards-suc)
-
-pub length-put : (s s′ : List ℕ) (at : ℕ) (vs : List ℕ) → s′ ≡ put s at vs → length s ≡ tableBytes → length s′ ≡ tableBytes
-unfolding put
-length-put s s′ at vs q l = ap length q ∙ length-sets s at vs ∙ l
 
 -- ---- the loops: what is left of the whole, put from here on, gives the whole
 

@@ -1,6 +1,6 @@
 -- `host::table::load` meets its contract. The loop's invariant: with the numbers that are left the table is the whole one.
 -- Assumes nothing.
-use mathlib.Core.Path.{_≡_, sym, _∙_}
+use mathlib.Core.Path.{_≡_}
 use Prim.Native.Nat.{_-_, _%_, _≤_}
 use native.Mathlib.Nat.{le-antisymm}
 use native.Mathlib.Omega.{arith}
@@ -42,7 +42,7 @@ add-number-at c = omega arith
 
 -- src/table.rt:48:24
 number-at-requires-2 : tie.Need-number-at-requires-2 Inv-loop μ-loop
-number-at-requires-2 c κs = (c .before .before .before .before .before .pre .0, omega (arith, c .before .before .loop .inv .1))
+number-at-requires-2 c κs = (omega arith, omega arith)
 
 -- src/table.rt:48:15
 add-table : tie.Need-add-table Inv-loop μ-loop
@@ -54,7 +54,7 @@ mul-table-2 c = omega arith
 
 -- src/table.rt:48:9
 slice-write-table-2 : tie.Need-slice-write-table-2 Inv-loop μ-loop
-slice-write-table-2 c = simp length-set (omega (arith, c .before .before .before .loop .inv .1, c .before .before .before .loop .inv .2))
+slice-write-table-2 c = simp length-set (omega arith)
 
 -- src/table.rt:49:41
 add-number-at-2 : tie.Need-add-number-at-2 Inv-loop μ-loop
@@ -62,7 +62,7 @@ add-number-at-2 c = omega arith
 
 -- src/table.rt:49:24
 number-at-requires-3 : tie.Need-number-at-requires-3 Inv-loop μ-loop
-number-at-requires-3 c κs = (c .before .before .before .before .before .before .pre .0, omega (arith, c .before .before .before .loop .inv .1))
+number-at-requires-3 c κs = (omega arith, omega arith)
 
 -- src/table.rt:49:15
 add-table-2 : tie.Need-add-table-2 Inv-loop μ-loop
@@ -74,7 +74,7 @@ mul-table-3 c = omega arith
 
 -- src/table.rt:49:9
 slice-write-table-3 : tie.Need-slice-write-table-3 Inv-loop μ-loop
-slice-write-table-3 c = simp length-set (omega (arith, c .before .before .before .before .loop .inv .1, c .before .before .before .before .loop .inv .2))
+slice-write-table-3 c = simp length-set (omega arith)
 
 -- src/table.rt:50:41
 add-number-at-3 : tie.Need-add-number-at-3 Inv-loop μ-loop
@@ -82,7 +82,7 @@ add-number-at-3 c = omega arith
 
 -- src/table.rt:50:24
 number-at-requires-4 : tie.Need-number-at-requires-4 Inv-loop μ-loop
-number-at-requires-4 c κs = (c .before .before .before .before .before .before .before .pre .0, omega (arith, c .before .before .before .before .loop .inv .1))
+number-at-requires-4 c κs = (omega arith, omega arith)
 
 -- src/table.rt:50:15
 add-table-3 : tie.Need-add-table-3 Inv-loop μ-loop
@@ -94,7 +94,7 @@ mul-table-4 c = omega arith
 
 -- src/table.rt:50:9
 slice-write-table-4 : tie.Need-slice-write-table-4 Inv-loop μ-loop
-slice-write-table-4 c = simp length-set (omega (arith, c .before .before .before .before .before .loop .inv .1, c .before .before .before .before .before .loop .inv .2))
+slice-write-table-4 c = simp length-set (omega arith)
 
 -- src/table.rt:51:9
 add-i : tie.Need-add-i Inv-loop μ-loop
@@ -106,11 +106,11 @@ loop-less c = omega arith
 
 -- src/table.rt:46:5
 loop-again : tie.Need-loop-again Inv-loop μ-loop
-loop-again c = (omega arith, omega arith, simp length-set (c .before .before .before .before .before .loop .inv .2), load-turn _ _ _ _ _ _ _ (omega arith) (c .before .before .before .before .before .loop .inv .3) (c .before .before .before .number-at .ensures) (c .before .before .number-at2 .ensures) (c .before .number-at3 .ensures) (c .number-at4 .ensures))
+loop-again c = (omega arith, omega arith, simp length-set (omega arith), load-turn _ _ _ _ _ _ _ (omega arith) (c .before .before .before .before .before .loop .inv .3) (c .before .before .before .number-at .ensures) (c .before .before .number-at2 .ensures) (c .before .number-at3 .ensures) (c .number-at4 .ensures))
 
 -- src/table.rt:41:1
 same-length : tie.Need-same-length Inv-loop μ-loop
-same-length c = c .before .loop .inv .2 ∙ sym (c .before .before .before .before .pre .1)
+same-length c = omega arith
 
 -- src/table.rt:41:1
 returns : tie.Need-returns Inv-loop μ-loop

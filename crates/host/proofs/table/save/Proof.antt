@@ -1,6 +1,6 @@
 -- `host::table::save` meets its contract. The loop's invariant: with those of the numbers that are left the bytes are the whole table's.
 -- Assumes nothing.
-use mathlib.Core.Path.{_≡_, sym, _∙_}
+use mathlib.Core.Path.{_≡_}
 use Prim.Native.Nat.{_-_, _%_, _≤_}
 use native.Mathlib.Nat.{le-antisymm}
 use native.Mathlib.Omega.{arith}
@@ -8,7 +8,7 @@ use borrow.Author.Needs.{needs}
 use lib.ListN.{length}
 use Rattle.node_state.specs.Table.{tableNumbers}
 use Rattle.host.specs.Table.{tableBytes}
-use Rattle.host.proofs.Numbers.{Saving, save-begun, save-turn, save-done, length-put}
+use Rattle.host.proofs.Numbers.{Saving, save-begun, save-turn, save-done}
 use Rattle.host.proofs.table.save.Statement.{statement}
 use Rattle.host.proofs.table.save.Tie as tie
 use Rattle.host.proofs.table.save.Reads as reads
@@ -51,11 +51,11 @@ mul-put-number-2 c = omega arith
 
 -- src/table.rt:79:34
 shared-slice-read-put-number-2 : tie.Need-shared-slice-read-put-number-2 Inv-loop μ-loop
-shared-slice-read-put-number-2 c = omega (arith, c .before .before .before .before .before .before .before .before .loop .inv .1)
+shared-slice-read-put-number-2 c = omega arith
 
 -- src/table.rt:79:9
 put-number-requires-2 : tie.Need-put-number-requires-2 Inv-loop μ-loop
-put-number-requires-2 c κs = ((length-put _ _ _ _ (c .before .before .before .before .put-number .ensures) (c .before .before .before .before .before .before .before .before .loop .inv .2)), omega (arith, c .before .before .before .before .before .before .before .before .loop .inv .1))
+put-number-requires-2 c κs = (omega arith, omega arith)
 
 -- src/table.rt:80:27
 add-put-number-3 : tie.Need-add-put-number-3 Inv-loop μ-loop
@@ -71,11 +71,11 @@ mul-put-number-3 c = omega arith
 
 -- src/table.rt:80:34
 shared-slice-read-put-number-3 : tie.Need-shared-slice-read-put-number-3 Inv-loop μ-loop
-shared-slice-read-put-number-3 c = omega (arith, c .before .before .before .before .before .before .before .before .before .before .before .before .before .loop .inv .1)
+shared-slice-read-put-number-3 c = omega arith
 
 -- src/table.rt:80:9
 put-number-requires-3 : tie.Need-put-number-requires-3 Inv-loop μ-loop
-put-number-requires-3 c κs = ((length-put _ _ _ _ (c .before .before .before .before .put-number2 .ensures) (length-put _ _ _ _ (c .before .before .before .before .before .before .before .before .before .put-number .ensures) (c .before .before .before .before .before .before .before .before .before .before .before .before .before .loop .inv .2))), omega (arith, c .before .before .before .before .before .before .before .before .before .before .before .before .before .loop .inv .1))
+put-number-requires-3 c κs = (omega arith, omega arith)
 
 -- src/table.rt:81:27
 add-put-number-5 : tie.Need-add-put-number-5 Inv-loop μ-loop
@@ -91,11 +91,11 @@ mul-put-number-4 c = omega arith
 
 -- src/table.rt:81:34
 shared-slice-read-put-number-4 : tie.Need-shared-slice-read-put-number-4 Inv-loop μ-loop
-shared-slice-read-put-number-4 c = omega (arith, c .before .before .before .before .before .before .before .before .before .before .before .before .before .before .before .before .before .before .loop .inv .1)
+shared-slice-read-put-number-4 c = omega arith
 
 -- src/table.rt:81:9
 put-number-requires-4 : tie.Need-put-number-requires-4 Inv-loop μ-loop
-put-number-requires-4 c κs = ((length-put _ _ _ _ (c .before .before .before .before .put-number3 .ensures) (length-put _ _ _ _ (c .before .before .before .before .before .before .before .before .before .put-number2 .ensures) (length-put _ _ _ _ (c .before .before .before .before .before .before .before .before .before .before .before .before .before .before .put-number .ensures) (c .before .before .before .before .before .before .before .before .before .before .before .before .before .before .before .before .before .before .loop .inv .2)))), omega (arith, c .before .before .before .before .before .before .before .before .before .before .before .before .before .before .before .before .before .before .loop .inv .1))
+put-number-requires-4 c κs = (omega arith, omega arith)
 
 -- src/table.rt:82:9
 add-i : tie.Need-add-i Inv-loop μ-loop
@@ -107,11 +107,11 @@ loop-less c = omega arith
 
 -- src/table.rt:77:5
 loop-again : tie.Need-loop-again Inv-loop μ-loop
-loop-again c = (omega arith, omega arith, (length-put _ _ _ _ (c .before .before .put-number4 .ensures) (length-put _ _ _ _ (c .before .before .before .before .before .before .before .put-number3 .ensures) (length-put _ _ _ _ (c .before .before .before .before .before .before .before .before .before .before .before .before .put-number2 .ensures) (length-put _ _ _ _ (c .before .before .before .before .before .before .before .before .before .before .before .before .before .before .before .before .before .put-number .ensures) (c .before .before .before .before .before .before .before .before .before .before .before .before .before .before .before .before .before .before .before .before .before .loop .inv .2))))), save-turn _ _ _ _ _ _ _ (omega arith) (c .before .before .before .before .before .before .before .before .before .before .before .before .before .before .before .before .before .before .before .before .before .loop .inv .3) (c .before .before .before .before .before .before .before .before .before .before .before .before .before .before .before .before .before .put-number .ensures) (c .before .before .before .before .before .before .before .before .before .before .before .before .put-number2 .ensures) (c .before .before .before .before .before .before .before .put-number3 .ensures) (c .before .before .put-number4 .ensures))
+loop-again c = (omega arith, omega arith, omega arith, save-turn _ _ _ _ _ _ _ (omega arith) (c .before .before .before .before .before .before .before .before .before .before .before .before .before .before .before .before .before .before .before .before .before .loop .inv .3) (c .before .before .before .before .before .before .before .before .before .before .before .before .before .before .before .before .before .put-number .ensures) (c .before .before .before .before .before .before .before .before .before .before .before .before .put-number2 .ensures) (c .before .before .before .before .before .before .before .put-number3 .ensures) (c .before .before .put-number4 .ensures))
 
 -- src/table.rt:72:1
 same-length : tie.Need-same-length Inv-loop μ-loop
-same-length c = c .before .loop .inv .2 ∙ sym (c .before .before .before .before .pre .1)
+same-length c = omega arith
 
 -- src/table.rt:72:1
 returns : tie.Need-returns Inv-loop μ-loop
