@@ -1,13 +1,13 @@
 -- The relay table between its bytes and its numbers.
 -- Assumes nothing.
-use Prim.Native.Nat.{ℕ, zero, suc, _+_, _*_, _-_, _/_, _%_, _^_, _≤_, _<_}
+use Prim.Native.Nat.{ℕ, zero, suc, _+_, _*_, _-_, _^_, _≤_, _<_}
 use mathlib.Core.Path.{_≡_, refl, sym, ap, _∙_}
 use mathlib.Core.List.{List, [], _∷_, flatMap, append-nil}
-use native.Mathlib.Nat.{add-zero, mul-suc, div-div-eq-div-mul}
+use native.Mathlib.Nat.{mul-suc}
 use native.Mathlib.Numerals.{towards-suc}
 use native.Mathlib.Omega.{arith}
 use lib.ListN.{length, getD, set, take, drop, length-append, length-drop}
-use lib.Seq.{sets-eq, take-all, take-add, drop-at, drop-cons, drop-drop, getD-drop}
+use lib.Seq.{sets-eq, take-all, take-add, drop-at, drop-cons, drop-drop}
 use Rattle.base.specs.BigEndian.{Bytes, bigEndian, bytesOf}
 use Rattle.base.specs.Lists.{Every}
 use Rattle.base.proofs.Digits.{length-bytes, read-back, spelled}
@@ -15,23 +15,6 @@ use Rattle.base.proofs.Parts.{bytes-drop, drop-past}
 use Rattle.cbor.specs.Put.{put}
 use Rattle.node_state.specs.Table.{tableNumbers}
 use Rattle.host.specs.Table.{tableBytes, numbersIn, loaded, saved}
-
--- ---- one number
-
--- the number that eight bytes spell, as `number_at` adds it up
-pub number-here : (s : List ℕ) (at : ℕ)
-    → getD s at 0 * 2 ^ 56 + getD s (at + 1) 0 * 2 ^ 48 + getD s (at + 2) 0 * 2 ^ 40 + getD s (at + 3) 0 * 2 ^ 32 + getD s (at + 4) 0 * 2 ^ 24 + getD s (at + 5) 0 * 2 ^ 16
-    + getD s (at + 6) 0 * 2 ^ 8 + getD s (at + 7) 0 ≡ bigEndian (drop at s) 8
-unfolding bigEndian
-number-here s at = simp (getD-drop, add-zero) (omega arith)
-
--- its eight bytes, as `put_number` stores them
-pub number-put : (s : List ℕ) (at x : ℕ)
-    → set (set (set (set (set (set (set (set s at (x / 72057594037927936 % 256)) (at + 1) (x / 281474976710656 % 256)) (at + 2) (x / 1099511627776 % 256))
-    (at + 3) (x / 4294967296 % 256)) (at + 4) (x / 16777216 % 256)) (at + 5) (x / 65536 % 256)) (at + 6) (x / 256 % 256)) (at + 7) (x % 256)
-    ≡ put s at (bytesOf 8 x)
-unfolding put bytesOf
-number-put s at x = simp (div-div-eq-div-mul, towards-suc)
 
 -- ---- the loops: what is left of the whole, put from here on, gives the whole
 

@@ -1,6 +1,9 @@
--- `host::table::number_at` meets its contract.
+-- `host::table::number_at` meets its contract: `bigEndian` of eight bytes is the sum that `spelled_by` gives.
 -- Assumes nothing.
-use Rattle.host.proofs.Numbers.{number-here}
+use native.Mathlib.Nat.{add-zero}
+use native.Mathlib.Omega.{arith}
+use lib.Seq.{getD-drop}
+use Rattle.base.specs.BigEndian.{bigEndian}
 use borrow.Author.Needs.{needs}
 use Rattle.host.proofs.table.number_at.Statement.{statement}
 use Rattle.host.proofs.table.number_at.Tie as tie
@@ -78,7 +81,8 @@ spelled-by-requires c κs = search needs
 
 -- src/table.rt:23:1
 returns : tie.Need-returns
-returns c = rw (← number-here) (c .spelled-by .ensures)
+unfolding bigEndian
+returns c = simp (getD-drop, add-zero) (omega (arith, c .spelled-by .ensures))
 
 pub number-at-spec : {M : Type 1} → statement M
 number-at-spec =

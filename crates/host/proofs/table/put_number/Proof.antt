@@ -1,8 +1,11 @@
--- `host::table::put_number` meets its contract.
+-- `host::table::put_number` meets its contract: `bytesOf` divides by 256 again and again, the code by each power at once.
 -- Assumes nothing.
 use native.Mathlib.Omega.{arith}
 use lib.ListN.{length-set}
-use Rattle.host.proofs.Numbers.{number-put}
+use native.Mathlib.Nat.{div-div-eq-div-mul}
+use native.Mathlib.Numerals.{towards-suc}
+use Rattle.base.specs.BigEndian.{bytesOf}
+use Rattle.cbor.specs.Put.{put}
 use borrow.Author.Needs.{needs}
 use Rattle.host.proofs.table.put_number.Statement.{statement}
 use Rattle.host.proofs.table.put_number.Tie as tie
@@ -111,7 +114,8 @@ same-length c = simp length-set
 
 -- src/table.rt:56:1
 returns : tie.Need-returns
-returns c = number-put _ _ _
+unfolding put bytesOf
+returns c = simp (div-div-eq-div-mul, towards-suc)
 
 pub put-number-spec : {M : Type 1} → statement M
 put-number-spec =
