@@ -2,13 +2,12 @@
 -- Assumes nothing.
 use mathlib.Core.Path.{_≡_, refl, sym, ap, _∙_}
 use mathlib.Core.List.{List, [], _∷_, _++_}
-use Prim.Native.Nat.{ℕ, _+_, _-_, _≤_}
+use Prim.Native.Nat.{ℕ, zero, suc, _+_, _-_, _≤_}
 use native.Mathlib.Nat.{le-of-eq}
-use native.Mathlib.Decide.{decLt}
 use native.Mathlib.Omega.{arith}
 use lib.Dec.{lit<}
-use lib.ListN.{length, take, drop, length-drop, List·getD-eq-default}
-use lib.Seq.{take-all, length-take-le, getD-take, getD-drop, drop-append-seam}
+use lib.ListN.{length, take, drop, length-drop}
+use lib.Seq.{take-all, getD-drop, drop-append-seam}
 use Rattle.base.specs.BigEndian.{Bytes}
 
 -- `&s[k..]`
@@ -31,6 +30,8 @@ cancel h s t e = sym (drop-append-seam h s) ∙ ap (drop (length h)) e ∙ drop-
 pub bytes-drop : (n : ℕ) (s : List ℕ) → Bytes s → Bytes (drop n s)
 bytes-drop n s b i = rw (getD-drop n s i 0) (b (n + i))
 
-pub bytes-take : (n : ℕ) (s : List ℕ) → n ≤ length s → Bytes s → Bytes (take n s)
-bytes-take n s h b i =
-    elim (decLt i n) [ yes l ↦ rw (getD-take n s i 0 l) (b i) | no l ↦ rw (List·getD-eq-default (take n s) 0 {n = i} (omega (arith, length-take-le n s h))) (lit< tt) ]
+pub bytes-take : (n : ℕ) (s : List ℕ) → Bytes s → Bytes (take n s)
+bytes-take zero s b i = lit< tt
+bytes-take (suc n) [] b i = lit< tt
+bytes-take (suc n) (x ∷ s) b zero = b 0
+bytes-take (suc n) (x ∷ s) b (suc i) = bytes-take n s (λ j. b (suc j)) i

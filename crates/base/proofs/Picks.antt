@@ -19,3 +19,9 @@ pub past : {A : Type 0} (t : Bool) {x y z : A} → pick t x y ≡ z → (x ≡ z
 unfolding pick
 past true q no-first = absurd (no-first q)
 past false q no-first = (refl, q)
+
+-- a test as a choice
+pub pick-same : (t : Bool) → pick t true false ≡ t
+unfolding pick
+pick-same true = refl
+pick-same false = refl

@@ -1,4 +1,4 @@
--- The choice by a test. It stays shut, so that a proof goes by a test's two cases without naming the test.
+-- The choice by a test; a proof goes by the test's two cases without naming it, as `pick` doesn't unfold by itself.
 use mathlib.Core.Bool.{Bool, true, false}
 
 unfoldable pub pick {ℓ} : {A : Type ℓ} → Bool → A → A → A

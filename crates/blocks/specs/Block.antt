@@ -1,5 +1,5 @@
 -- What was read, as numbers in fixed places (`include/grasp.h` names them).
-use Prim.Native.Nat.{ℕ}
+use Prim.Native.Nat.{ℕ, _-_}
 use mathlib.Core.List.{List, [], _∷_}
 use lib.ListN.{replicate}
 use lib.Seq.{sets}
@@ -14,9 +14,13 @@ use Rattle.options.specs.declared.Outcome.{Outcome}
 use Rattle.message.specs.declared.Message.{Message}
 use Rattle.message.specs.declared.Message.the-variants as M
 
+-- how many places a block has
+abbrev pub mostPlaces : ℕ
+mostPlaces = 19
+
 -- places 0 to 4: kind, session, initiator, ttl or waiting time
 unfoldable pub openedBlock : ℕ → ℕ → Span → ℕ → List ℕ
-openedBlock kind session initiator ttl = kind ∷ session ∷ initiator .at ∷ initiator .len ∷ ttl ∷ replicate 14 0
+openedBlock kind session initiator ttl = kind ∷ session ∷ initiator .at ∷ initiator .len ∷ ttl ∷ replicate (mostPlaces - 5) 0
 
 -- places 5 to 12: an objective
 unfoldable pub withObjective : List ℕ → Objective → List ℕ

@@ -1,7 +1,8 @@
 // What a message's block says is to be written; the block is laid out as `block::block_of` fills it.
 ghost use mathlib.Core.Path.{_≡_};
+ghost use Prim.Native.Nat.{_<_};
 ghost use Rattle.options.specs.Text.{spanOf};
-ghost use Rattle.blocks.specs.Told.{allowedIn, fieldFits, allFit, isBlank, goalOf, responseBy, toldResponse, toldEnd, toldFlood, toldObjective, byKind, toldBy};
+ghost use Rattle.blocks.specs.Told.{allowedIn, fieldFits, allFit, isBlank, toldGoal, toldTargets, toldResponse, toldEnd, toldFlood, toldObjective, toldKind, toldBy};
 use description::Description;
 use description::Extra;
 use description::Goal;
@@ -55,7 +56,7 @@ pub fn told_by(fields: &[u64; 19], numbers: usize) -> Told
 }
 
 fn by_kind(fields: &[u64; 19], numbers: usize, n: Narrow) -> Told
-    ensures { λ r. ⌜ r ≡ byKind (now (fields .entry)) numbers n ⌝ }
+    ensures { λ r. ⌜ r ≡ toldKind (now (fields .entry)) numbers n ⌝ }
 {
     let kind = fields[0];
     if kind == 0 {
@@ -164,24 +165,22 @@ fn allowed(kind: u64) -> u32
 
 // Whether each number but 0 stands at a place of the mask.
 fn all_fit(fields: &[u64; 19], mask: u32) -> bool
-    ensures { λ r. ⌜ r ≡ allFit (now (fields .entry)) mask 19 0 ⌝ }
+    ensures { λ r. ⌜ r ≡ allFit (now (fields .entry)) mask ⌝ }
 {
     for i in 0..19 {
-        if !field_fits(fields[i], mask, i) {
+        if !field_fits(fields, mask, i) {
             return false;
         }
     }
     true
 }
 
-fn field_fits(field: u64, mask: u32, i: usize) -> bool
-    ensures { λ r. ⌜ r ≡ fieldFits field mask i ⌝ }
+fn field_fits(fields: &[u64; 19], mask: u32, i: usize) -> bool
+    requires { ⌜ i < 19 ⌝ }
+    ensures { λ r. ⌜ r ≡ fieldFits (now (fields .entry)) mask i ⌝ }
 {
-    if field == 0 {
+    if fields[i] == 0 {
         return true;
-    }
-    if 31 < i {
-        return false;
     }
     (mask >> i) % 2 == 1
 }
@@ -190,11 +189,11 @@ fn field_fits(field: u64, mask: u32, i: usize) -> bool
 fn is_blank(fields: &[u64; 19]) -> bool
     ensures { λ r. ⌜ r ≡ isBlank (now (fields .entry)) ⌝ }
 {
-    all_fit(fields, 0xffff_e01f)
+    all_fit(fields, 0x0007_e01f)
 }
 
 fn response(sort: u64, n: Narrow, initiator: Span, extra: Extra) -> Told
-    ensures { λ r. ⌜ r ≡ responseBy sort n initiator extra ⌝ }
+    ensures { λ r. ⌜ r ≡ toldTargets sort n initiator extra ⌝ }
 {
     let session = n.session;
     let ttl = n.ttl;
@@ -268,7 +267,7 @@ fn told_flood(fields: &[u64; 19], numbers: usize, n: Narrow) -> Told
 }
 
 fn goal(fields: &[u64; 19], n: Narrow) -> Goal
-    ensures { λ r. ⌜ r ≡ goalOf (now (fields .entry)) n ⌝ }
+    ensures { λ r. ⌜ r ≡ toldGoal (now (fields .entry)) n ⌝ }
 {
     Goal {
         name: span(fields[6], fields[7]),

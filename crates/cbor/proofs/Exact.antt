@@ -13,6 +13,7 @@ use Rattle.cbor.specs.declared.item.ItemRead.{ItemRead}
 use Rattle.cbor.specs.Item.{stepAt, itemsOf, leftUnder, next, run, enough, firstItem}
 use Rattle.cbor.specs.Tree.{Item, Items, count, encode, encodes, depth, depths, Good, Goods, ItemIs}
 use Rattle.cbor.proofs.Bounds.{StepOk, step-ok}
+use Rattle.cbor.proofs.Within.{never}
 use Rattle.cbor.proofs.Steps.{LeafIs, NodeIs, StepIs, step-is}
 
 -- the first `used` bytes of s are n items, of so many levels at most, and then what P says of the rest
@@ -80,9 +81,6 @@ module _ (most : ℕ) where
   -- what an accepted walk has passed
   abbrev Passed : ℕ → List ℕ → List ℕ → ℕ → Type 0
   Passed at s stack e = (used : ℕ) × (e ≡ at + used) × Lacks stack s used
-
-  never : (number place e : ℕ) → ItemRead.Refused number place ≡ ItemRead.Ends e → ⊥
-  never number place e q = let z : _≡_ {A = ℕ} 0 1 = cc in omega arith
 
   -- a step, where what follows it is known
   stepped : (f at n e : ℕ) (s stack : List ℕ) → Bytes s

@@ -96,7 +96,7 @@ module _ (left : ℕ) (s : List ℕ) (b : Bytes s) (major arg len : ℕ) (h : Sp
       let long : length (take arg (drop len s)) ≡ arg = length-take-le arg (drop len s) there in
       record {
         item = Item.string text (k .width) (take arg (drop len s));
-        good = (rw long (k .right), bytes-take arg (drop len s) there (bytes-drop len s b));
+        good = (rw long (k .right), bytes-take arg (drop len s) (bytes-drop len s b));
         flat = refl;
         bytes = rw (long, ← k .bytes) (sym (take-add len arg s));
       }

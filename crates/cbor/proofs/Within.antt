@@ -11,7 +11,8 @@ use Rattle.cbor.specs.declared.item.ItemRead.{ItemRead}
 use Rattle.cbor.specs.Item.{stepAt, itemsOf, leftUnder, next, run, enough, firstItem}
 use Rattle.cbor.proofs.Bounds.{StepOk, step-ok}
 
-never : (number place e : ℕ) → ItemRead.Refused number place ≡ ItemRead.Ends e → ⊥
+-- a refusal isn't an end
+pub never : (number place e : ℕ) → ItemRead.Refused number place ≡ ItemRead.Ends e → ⊥
 never number place e q = let z : _≡_ {A = ℕ} 0 1 = cc in omega arith
 
 module _ (most e : ℕ) where

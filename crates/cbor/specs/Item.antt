@@ -83,3 +83,8 @@ enough s stack = suc (2 * length s + length stack)
 -- the first whole item at the start of s, under so many open levels: where it ends, or its refusal
 unfoldable pub firstItem : ℕ → List ℕ → ItemRead
 firstItem levels s = run (leftUnder levels) (enough s (1 ∷ [])) 0 s (1 ∷ [])
+
+-- So many bytes, by their first item: the answer to its refusal, to 7 where bytes follow the item, or the one that is due where it fills them.
+abbrev pub framedBy : {A : Type 0} → (ℕ → ℕ → A) → A → ℕ → ItemRead → A
+framedBy refused due size (ItemRead.Refused number place) = refused number place
+framedBy refused due size (ItemRead.Ends end) = pick (eqb end size) due (refused 7 end)

@@ -1,8 +1,8 @@
 -- The shortest head written (RFC 8949, section 4.1), from a position of a buffer on.
 use Prim.Native.Nat.{ℕ, _+_}
-use mathlib.Core.List.{List}
+use mathlib.Core.List.{List, _++_}
 use mathlib.Core.Bool.{Bool, false}
-use lib.ListN.{length}
+use lib.ListN.{length, drop}
 use lib.Seq.{sets}
 use lib.Dec.{leb, ltb}
 use Rattle.base.specs.Pick.{pick}
@@ -15,6 +15,10 @@ head major arg = headBytes major (shortest arg) arg
 -- l with bs stored from position `at` on
 unfoldable pub put : List ℕ → ℕ → List ℕ → List ℕ
 put l at bs = sets l at bs
+
+-- bytes at the front of an output, the rest as it was
+abbrev pub written : List ℕ → List ℕ → List ℕ
+written bs out = bs ++ drop (length bs) out
 
 -- whether the head is one of major types 0 to 6 and ends inside so many bytes
 unfoldable pub headFits : ℕ → ℕ → ℕ → ℕ → Bool

@@ -59,3 +59,8 @@ objectiveOf (M.Wait session time) = Extra.Without
 objectiveOf (M.Synch session objective) = Extra.With objective
 objectiveOf (M.Flood session initiator ttl first pairs) = Extra.With first
 objectiveOf (M.Invalid session item) = Extra.Without
+
+-- an objective's count, 0 where there is none
+unfoldable pub countIn : Extra → ℕ
+countIn Extra.Without = 0
+countIn (Extra.With o) = o .count

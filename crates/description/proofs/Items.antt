@@ -8,12 +8,12 @@ use mathlib.Core.Option.{Option, none, some}
 use native.Mathlib.Omega.{arith}
 use lib.ListN.{length, length-append}
 use Rattle.description.specs.Encoding.{oneMore, howMany, targetItems}
-use Rattle.description.specs.Describe.{placeRow, upTo, locsOf, targetsOf}
+use Rattle.description.specs.Describe.{placeRow, listOf, locsOf, targetsOf}
 
-pub length-up : {A : Type 0} (f : ℕ → A) (n : ℕ) → length (upTo f n) ≡ n
-unfolding upTo
+pub length-up : {A : Type 0} (f : ℕ → A) (n : ℕ) → length (listOf f n) ≡ n
+unfolding listOf
 length-up f zero = refl
-length-up f (suc n) = length-append (upTo f n) (f n ∷ []) ∙ ap (λ (k : ℕ). k + 1) (length-up f n) ∙ omega arith
+length-up f (suc n) = length-append (listOf f n) (f n ∷ []) ∙ ap (λ (k : ℕ). k + 1) (length-up f n) ∙ omega arith
 
 pub rows-many : (list : List ℕ) → length list / placeRow ≡ targetItems (targetsOf [] list false)
 unfolding targetsOf targetItems locsOf

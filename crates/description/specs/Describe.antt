@@ -8,6 +8,7 @@ use lib.ListN.{length, getD}
 use lib.Dec.{eqb}
 use Rattle.base.specs.Pick.{pick}
 use Rattle.options.specs.Text.{held}
+use Rattle.options.specs.Locator.{nullProtocol, nullPort}
 use Rattle.syntax.specs.Message as Syntax
 use Rattle.syntax.specs.Message.{Loc, orNull, Obj, Pair, Aim, Msg}
 use Rattle.description.specs.declared.Goal.{Goal}
@@ -31,9 +32,9 @@ abbrev pub entryRow : ℕ
 entryRow = 7
 
 -- the first n of f 0, f 1, ..
-unfoldable pub upTo : {A : Type 0} → (ℕ → A) → ℕ → List A
-upTo f zero = []
-upTo f (suc n) = upTo f n ++ (f n ∷ [])
+unfoldable pub listOf : {A : Type 0} → (ℕ → A) → ℕ → List A
+listOf f zero = []
+listOf f (suc n) = listOf f n ++ (f n ∷ [])
 
 -- an objective in the numbers of a row
 unfoldable pub entryOf : Goal → Entry
@@ -43,12 +44,12 @@ unfoldable pub objOf : List ℕ → Entry → Obj (List ℕ)
 objOf source o = record { name = held source (o .name); flags = o .flags; count = o .count; value = held source (o .value) }
 
 -- protocol 0 and port 65,536 stand for null in a URI
-unfoldable pub locOf : List ℕ → Place → Loc
-locOf source p =
+unfoldable pub placeLoc : List ℕ → Place → Loc
+placeLoc source p =
     pick (eqb (p .kind) 103) (Loc.v6 (held source (p .content)) (p .protocol) (p .port))
     (pick (eqb (p .kind) 104) (Loc.v4 (held source (p .content)) (p .protocol) (p .port))
     (pick (eqb (p .kind) 105) (Loc.domain (held source (p .content)) (p .protocol) (p .port))
-    (Loc.uri (held source (p .content)) (orNull 0 (p .protocol)) (orNull 65536 (p .port)))))
+    (Loc.uri (held source (p .content)) (orNull nullProtocol (p .protocol)) (orNull nullPort (p .port)))))
 
 -- a locator in five numbers, from place k on: kind, place and length of its address or text, protocol, port
 unfoldable pub placeAt : List ℕ → ℕ → Place
@@ -61,10 +62,10 @@ placeAt list k =
     }
 
 unfoldable pub rowLoc : List ℕ → List ℕ → ℕ → Loc
-rowLoc source list i = locOf source (placeAt list (placeRow * i))
+rowLoc source list i = placeLoc source (placeAt list (placeRow * i))
 
 unfoldable pub locsOf : List ℕ → List ℕ → List Loc
-locsOf source list = upTo (rowLoc source list) (length list / placeRow)
+locsOf source list = listOf (rowLoc source list) (length list / placeRow)
 
 unfoldable pub targetsOf : List ℕ → List ℕ → Bool → Aim
 targetsOf source list true = Aim.divert (locsOf source list)
@@ -86,13 +87,13 @@ entryAt list k =
 
 -- no locator where its kind is 0
 unfoldable pub locOrNone : List ℕ → Place → Option Loc
-locOrNone source p = pick (eqb (p .kind) 0) none (some (locOf source p))
+locOrNone source p = pick (eqb (p .kind) 0) none (some (placeLoc source p))
 
 unfoldable pub rowPair : List ℕ → List ℕ → ℕ → Pair (List ℕ)
 rowPair source list i = (objOf source (entryAt list (pairRow * i)), locOrNone source (placeAt list (pairRow * i + entryRow)))
 
 unfoldable pub pairsOf : List ℕ → List ℕ → List (Pair (List ℕ))
-pairsOf source list = upTo (rowPair source list) (length list / pairRow)
+pairsOf source list = listOf (rowPair source list) (length list / pairRow)
 
 unfoldable pub endOf : List ℕ → Outcome → Syntax.Ending
 endOf source E.Accept = Syntax.Ending.accept

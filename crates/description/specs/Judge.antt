@@ -8,7 +8,7 @@ use lib.Dec.{ltb, eqb}
 use Rattle.options.specs.Text.{held}
 use Rattle.base.specs.Pick.{pick}
 use Rattle.cbor.specs.declared.item.ItemRead.{ItemRead}
-use Rattle.cbor.specs.Item.{firstItem}
+use Rattle.cbor.specs.Item.{firstItem, framedBy}
 use Rattle.options.specs.declared.Span.{Span}
 use Rattle.description.specs.declared.rows.Entry.{Entry}
 use Rattle.description.specs.declared.rows.Place.{Place}
@@ -22,8 +22,7 @@ use Rattle.description.specs.Describe.{placeRow, pairRow, entryRow, entr
 
 -- the bytes are one item and nothing else
 unfoldable pub alone : ℕ → ItemRead → Bool
-alone n (ItemRead.Refused number place) = false
-alone n (ItemRead.Ends end) = eqb end n
+alone n r = framedBy (λ number place. false) true n r
 
 unfoldable pub whole : List ℕ → Bool
 whole bs = alone (length bs) (firstItem 0 bs)

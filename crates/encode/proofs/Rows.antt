@@ -12,7 +12,7 @@ use Rattle.encode.specs.Put.{Wrote}
 use Rattle.description.specs.Encoding.{targetItems, howMany}
 use Rattle.description.specs.declared.Extra.{Extra}
 use Rattle.description.specs.declared.Extra.the-variants as X
-use Rattle.description.specs.Describe.{placeRow, pairRow, upTo, rowLoc, locsOf, pairsOf, targetsOf, extraOf}
+use Rattle.description.specs.Describe.{placeRow, pairRow, listOf, rowLoc, locsOf, pairsOf, targetsOf, extraOf}
 use Rattle.description.proofs.Items.{length-up, many-le}
 use Rattle.encode.proofs.Puts.{then, still}
 
@@ -26,17 +26,17 @@ flat-more encode (y ∷ xs) x = ap (λ (t : List ℕ). encode y ++ t) (flat-more
 module _ {A : Type 0} (encode : A → List ℕ) (row : ℕ → A) where
   -- the first i
   unfoldable pub firstRows : ℕ → List ℕ
-  firstRows i = flatMap encode (upTo row i)
+  firstRows i = flatMap encode (listOf row i)
 
   pub rows-none : (l : List ℕ) (at : ℕ) → Wrote l l at (firstRows 0) at
-  unfolding firstRows upTo flatMap
+  unfolding firstRows listOf flatMap
   rows-none l at = still l at
 
   pub rows-turn : {l l′ l″ : List ℕ} {at m r : ℕ} (i : ℕ) → Wrote l l′ at (firstRows i) m → Wrote l′ l″ m (encode (row i)) r → Wrote l l″ at (firstRows (i + 1)) r
-  unfolding firstRows upTo
+  unfolding firstRows listOf
   rows-turn i v w = rw (add-one i, flat-more) (then v w)
 
-  pub rows-done : {l l′ : List ℕ} {at r : ℕ} (i n : ℕ) → i ≤ n → n ≤ i → Wrote l l′ at (firstRows i) r → Wrote l l′ at (flatMap encode (upTo row n)) r
+  pub rows-done : {l l′ : List ℕ} {at r : ℕ} (i n : ℕ) → i ≤ n → n ≤ i → Wrote l l′ at (firstRows i) r → Wrote l l′ at (flatMap encode (listOf row n)) r
   unfolding firstRows
   rows-done i n p q v = rw (le-antisymm p q) at v
 

@@ -1,11 +1,11 @@
 -- Bytes put into a buffer. No step asks for room: a step that would end after the buffer answers more than the buffer's length.
 use Prim.Native.Nat.{ℕ, _+_, _≤_, _<_}
 use mathlib.Core.Path.{_≡_}
-use mathlib.Core.List.{List, _++_}
-use lib.ListN.{length, drop, replicate}
+use mathlib.Core.List.{List}
+use lib.ListN.{length, replicate}
 use lib.Dec.{leb}
 use Rattle.base.specs.Pick.{pick}
-use Rattle.cbor.specs.Put.{put}
+use Rattle.cbor.specs.Put.{put, written}
 
 -- ---- `put::all`: bs stored from `at` on, and nothing where they don't fit
 unfoldable pub allEnd : List ℕ → ℕ → List ℕ → ℕ
@@ -19,7 +19,7 @@ unfoldable pub frontEnd : List ℕ → List ℕ → ℕ
 frontEnd l bs = pick (leb (length bs) (length l)) (length bs) (length l + 1)
 
 unfoldable pub frontPut : List ℕ → List ℕ → List ℕ
-frontPut l bs = pick (leb (length bs) (length l)) (bs ++ drop (length bs) l) (replicate (length l) 0)
+frontPut l bs = pick (leb (length bs) (length l)) (written bs l) (replicate (length l) 0)
 
 -- ---- a step among several, of which one that doesn't fit promises nothing of the bytes: from l, bs put at `at` gave l′, and ends at r
 pub record Wrote (l l′ : List ℕ) (at : ℕ) (bs : List ℕ) (r : ℕ) : Type 0 where

@@ -6,7 +6,7 @@ ghost use Rattle.options.specs.Text.{held};
 ghost use Rattle.encode.specs.Put.{Wrote};
 ghost use Rattle.syntax.specs.Message.{orNull};
 ghost use Rattle.description.specs.Encoding.{numberOrNull, reached, fixed, encodeLoc};
-ghost use Rattle.description.specs.Describe.{placeRow, locOf, rowLoc, locsOf};
+ghost use Rattle.description.specs.Describe.{placeRow, placeLoc, rowLoc, locsOf};
 use crate::put;
 use description::rows;
 use description::rows::PLACE_ROW;
@@ -36,7 +36,7 @@ pub(crate) fn put_row(out: &mut [u8], at: usize, source: &[u8], list: &[u64], i:
 }
 
 pub(crate) fn put_place(out: &mut [u8], at: usize, source: &[u8], p: Place) -> usize
-    ensures { λ r. ⌜ Wrote (now (out .entry)) (now (out .exit)) at (encodeLoc (locOf (now (source .entry)) p)) r ⌝ }
+    ensures { λ r. ⌜ Wrote (now (out .entry)) (now (out .exit)) at (encodeLoc (placeLoc (now (source .entry)) p)) r ⌝ }
 {
     let kind = p.kind;
     if kind == 103 {

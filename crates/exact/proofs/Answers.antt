@@ -32,17 +32,14 @@ use Rattle.message.specs.declared.Examined.{Examined}
 use Rattle.message.specs.declared.Examined.the-variants as E
 use Rattle.message.specs.Read.{mostBytes, judged, shaped, framed, examined}
 use Rattle.exact.specs.Describes.{Describes}
-use Rattle.exact.specs.Accepted.{IsMessage, Accepted}
-use Rattle.exact.specs.Rows.{Fits, OneItem, UnknownKind}
+use Rattle.exact.specs.Accepted.{OneItem, IsMessage, Accepted}
+use Rattle.exact.specs.Rows.{Fits, UnknownKind}
 use Rattle.exact.proofs.Whole.{WholeIs, fills}
 use Rattle.exact.proofs.Shaped.{shaped-case, unknown-there, shape-complete}
 use Rattle.exact.proofs.Bytes.{bytes-encode}
 use Rattle.exact.proofs.Once.{message-one}
 
 -- ---- one item that is the whole
-abbrev pub one-item : {s : List ℕ} → IsMessage s → OneItem s
-one-item i = record { item = i .item; bytes = i .bytes; most = i .most; good = i .good; shallow = i .shallow }
-
 -- bytes are the encoding of one item at most
 pub item-once : {s : List ℕ} (x y : Item) → Good x → Good y → encode x ≡ s → encode y ≡ s → x ≡ y
 item-once x y g h e f = unique x y [] [] g h (ap (λ (l : List ℕ). l ++ []) (e ∙ sym f))
@@ -96,15 +93,15 @@ judged-number m end bad long {number} {place} =
 -- a message is described by what is read of it
 pub message-shape : {s : List ℕ} (i : IsMessage s) → MessageShape s (i .msg)
 message-shape {s} i =
-    let one = one-item i in
+    let one = i .one in
     let b = one-bytes one in
-    let r = shape-complete (stands one) (i .shallow) (i .is) in
+    let r = shape-complete (stands one) (one .shallow) (i .is) in
     shaped-case b (λ (x : Examined). shaped s ≡ x → MessageShape s (i .msg))
     (λ place u e. absurd (omega (arith, judged-number (r .message) (r .end) (r .bad) (r .long) (sym (r .is) ∙ e))))
     (λ place e. absurd (omega (arith, judged-number (r .message) (r .end) (r .bad) (r .long) (sym (r .is) ∙ e))))
     (λ m end bad long shape e.
     let h = fills b (walked one) shape in
-    let same : h .msg ≡ i .msg = message-one (subst (λ (x : Item). MessageItem x (h .msg)) (item-once (h .item) (i .item) (h .good) (i .good) (h .bytes) (i .bytes)) (h .is)) (i .is) in
+    let same : h .msg ≡ i .msg = message-one (subst (λ (x : Item). MessageItem x (h .msg)) (item-once (h .item) (one .item) (h .good) (one .good) (h .bytes) (one .bytes)) (h .is)) (i .is) in
     record {
       message = m;
       end = end;
@@ -133,7 +130,8 @@ pub data Answer (s : List ℕ) : Examined → Type 0 where
 judged-answer : {s : List ℕ} (m : Message) (end bad long : ℕ) → length s ≤ mostBytes → WholeIs s m bad long → Answer s (judged (S.Good m end bad long))
 unfolding judged
 judged-answer {s} m end bad long most h =
-    let i : IsMessage s = record { item = h .item; msg = h .msg; bytes = h .bytes; most = most; good = h .good; shallow = h .shallow; is = h .is } in
+    let one : OneItem s = record { item = h .item; bytes = h .bytes; most = most; good = h .good; shallow = h .shallow } in
+    let i : IsMessage s = record { one = one; msg = h .msg; is = h .is } in
     pick-case (Answer s) (eqb bad 0)
     (λ e.
     let texts = h .texts .0 (eqb-true bad 0 e) in

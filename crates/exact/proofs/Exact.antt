@@ -47,12 +47,12 @@ accepted-exactly s b = (
 
 -- Accepted bytes are bytes.
 pub accepted-bytes : (s : List ℕ) → Accepted s → Bytes s
-accepted-bytes s a = subst Bytes (a .message .bytes) (bytes-encode (a .message .item) (a .message .good))
+accepted-bytes s a = subst Bytes (a .message .one .bytes) (bytes-encode (a .message .one .item) (a .message .one .good))
 
 -- Bytes are one message only.
-pub message-once : (s : List ℕ) (a b : IsMessage s) → (a .item ≡ b .item) × (a .msg ≡ b .msg)
+pub message-once : (s : List ℕ) (a b : IsMessage s) → (a .one .item ≡ b .one .item) × (a .msg ≡ b .msg)
 message-once s a b =
-    let same = item-once (a .item) (b .item) (a .good) (b .good) (a .bytes) (b .bytes) in
+    let same = item-once (a .one .item) (b .one .item) (a .one .good) (b .one .good) (a .one .bytes) (b .one .bytes) in
     (same, message-one (subst (λ (x : Item). MessageItem x (a .msg)) same (a .is)) (b .is))
 
 -- And what is read describes it: its numbers, and where its parts stand.

@@ -16,13 +16,13 @@ use Rattle.cbor.specs.declared.token.Token.{Token}
 use Rattle.cbor.specs.Token.{tokenAt, upTo}
 use Rattle.cbor.specs.Tree.{Item, Items, count}
 use Rattle.options.specs.declared.Span.{Span}
-use Rattle.options.specs.Text.{spanOf, contentIn}
+use Rattle.options.specs.Text.{spanOf, contentIn, contentOf}
 use Rattle.grammar.specs.Cddl.{uint, bytes, Number, Initiator}
-use Rattle.grammar.specs.Stands.{Stands, StandAll}
+use Rattle.grammar.specs.Stands.{Stands, StandAll, Before}
 use Rattle.grammar.proofs.Bridge.{Heading, token-heading, split, string-major, number-token, text-token, array-token}
 use Rattle.grammar.proofs.Pieces.{Some, number-at, text-at, number-here, number-is}
-use Rattle.message.specs.Opening.{most, contentOf, isInitiator}
-use Rattle.exact.specs.Describes.{Before, NumberIs, InitiatorIs}
+use Rattle.message.specs.Opening.{most, isInitiator}
+use Rattle.exact.specs.Describes.{NumberIs, InitiatorIs}
 
 -- ---- from tokens to items
 -- a number within the limit of sessions, ttls and waiting times

@@ -11,10 +11,11 @@ use Rattle.cbor.specs.Token.{tokenAt, upTo}
 use Rattle.cbor.specs.Tree.{Item, Items}
 use Rattle.grammar.specs.Cddl.{Number, Initiator}
 use Rattle.grammar.specs.Stands.{StandAll}
+use Rattle.options.specs.Text.{contentOf}
 use Rattle.message.specs.declared.opening.Opening.{Opening}
 use Rattle.message.specs.declared.opening.OpeningRead.{OpeningRead}
 use Rattle.message.specs.declared.opening.OpeningRead.the-variants.{Bad, Got}
-use Rattle.message.specs.Opening.{most, contentOf, openingAt}
+use Rattle.message.specs.Opening.{most, openingAt}
 use Rattle.exact.proofs.Heads.{NumberHere, InitiatorHere, number-at-most, initiator-at, number-passed, initiator-passed}
 
 -- the three stand one after the other

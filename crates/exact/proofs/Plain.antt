@@ -15,21 +15,20 @@ use Rattle.base.proofs.Picks.{pick-case}
 use Rattle.cbor.specs.Token.{tokenAt, sizeAt, itemsIn, upTo}
 use Rattle.cbor.specs.Tree.{Item, Items, count, depth}
 use Rattle.cbor.proofs.Tokens.{token-is, token-end}
-use Rattle.options.specs.Text.{contentIn}
+use Rattle.options.specs.Text.{contentIn, contentOf}
 use Rattle.syntax.specs.Message.{Ending, Msg}
 use Rattle.grammar.specs.Cddl.{uint, list, Number, EndingItem, MessageItem}
 use Rattle.grammar.specs.Limits.{Utf8, textsOf, namesOf, endingTexts}
-use Rattle.grammar.specs.Stands.{Stands, StandAll, ValueIs}
+use Rattle.grammar.specs.Stands.{Stands, StandAll, ValueIs, Before}
 use Rattle.grammar.proofs.Bridge.{token-heading, advances, join, none as no-items, last, only}
 use Rattle.grammar.proofs.Pieces.{is-array, array-at, array-items, number-here, number-is}
 use Rattle.grammar.proofs.Texts.{bad-text}
 use Rattle.grammar.proofs.Sizes.{sized-item, item-sized}
-use Rattle.message.specs.Opening.{contentOf}
 use Rattle.options.specs.declared.Outcome.{Outcome}
 use Rattle.message.specs.declared.Message.the-variants as M
 use Rattle.message.specs.declared.shape.Shape.the-variants as S
 use Rattle.message.specs.Shape.{noopAt, waitAt, invalidAt, optionAt, endAt}
-use Rattle.exact.specs.Describes.{Before, OutcomeIs, Describes}
+use Rattle.exact.specs.Describes.{OutcomeIs, Describes}
 use Rattle.exact.proofs.Noted.{clean, single}
 use Rattle.exact.proofs.Whole.{partLevels, kind-is, ShapeOk, past-case, held-case, Reads, taken, skipped, Kinded, built}
 use Rattle.exact.proofs.Heads.{number-is-here, NumberHere, number-at-most, number-passed, uint-passed, string-passed, array-passed, string-at}

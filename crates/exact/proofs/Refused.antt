@@ -75,8 +75,7 @@ row-of e (Answer.kind one u) = Row.kind one u
 row-of {s} e (Answer.shape one) =
     Row.shape one (λ u. refused-8-9 (row-given s 8 (Row.kind one u)) (ap placeless e))
     (λ msg is.
-    let i : IsMessage s = record { item = one .item; msg = msg; bytes = one .bytes; most = one .most; good = one .good; shallow = one .shallow; is = is } in
-    let h = message-shape i in
+    let h = message-shape (record { one = one; msg = msg; is = is }) in
     omega (arith, judged-number (h .message) (h .end) (h .bad) (h .long) (sym (h .is) ∙ e)))
 row-of e (Answer.text m bad) = Row.text m bad
 row-of e (Answer.name m texts long) = Row.name m texts long

@@ -10,15 +10,19 @@ use Rattle.grammar.specs.Cddl.{MessageItem, Value}
 use Rattle.grammar.specs.Limits.{TextsGood, NamesGood}
 use Rattle.message.specs.Read.{mostBytes}
 
--- s is the encoding of a message, within the limits on bytes, levels and heads
-pub record IsMessage (s : List ℕ) : Type 0 where
+-- s is the encoding of one item, within the limits on bytes, levels and heads
+pub record OneItem (s : List ℕ) : Type 0 where
   pub item : Item
-  pub msg : Msg Value
   pub bytes : encode item ≡ s
   pub most : length s ≤ mostBytes
   pub good : Good item
   pub shallow : depth item ≤ mostLevels
-  pub is : MessageItem item msg
+
+-- and that item is a message
+pub record IsMessage (s : List ℕ) : Type 0 where
+  pub one : OneItem s
+  pub msg : Msg Value
+  pub is : MessageItem (one .item) msg
 
 -- and its texts and names are within their limits
 pub record Accepted (s : List ℕ) : Type 0 where

@@ -1,5 +1,5 @@
 -- What an answer of `reader::read` describes, by the message's bytes s.
-use Prim.Native.Nat.{ℕ, suc, _+_, _-_}
+use Prim.Native.Nat.{ℕ, suc, _+_}
 use mathlib.Core.List.{List, _∷_}
 use mathlib.Core.Path.{_≡_}
 use mathlib.Core.Option.{Option, none, some}
@@ -7,20 +7,15 @@ use lib.ListN.{length}
 use Rattle.cbor.specs.Tree.{Items, count}
 use Rattle.options.specs.declared.Span.{Span}
 use Rattle.options.specs.declared.objective.Objective.{Objective}
-use Rattle.options.specs.Text.{spanOf}
 use Rattle.syntax.specs.Message.{Loc, Obj, Pair, Aim, Ending, Msg}
 use Rattle.grammar.specs.Cddl.{uint, bytes, LocatorItems, PairItems, Value}
-use Rattle.grammar.specs.Stands.{Stands, StandAll, ArrayHead, ValueIs, ObjectiveIs}
+use Rattle.grammar.specs.Stands.{Stands, StandAll, ArrayHead, Before, ValueIs, ObjectiveIs}
 use Rattle.message.specs.declared.Series.{Series}
 use Rattle.message.specs.declared.Targets.{Targets}
 use Rattle.message.specs.declared.Extra.{Extra}
 use Rattle.options.specs.declared.Outcome.{Outcome}
 use Rattle.message.specs.declared.Message.{Message}
 use Rattle.message.specs.declared.Message.the-variants as M
-
--- a span of the content that stands right before p
-abbrev pub Before : ℕ → List ℕ → Span → Type 0
-Before p content span = span ≡ spanOf (p - length content) (length content)
 
 -- the head of the message's array, and then the kind, stand from the start to p
 pub record KindIs (s : List ℕ) (kind p : ℕ) : Type 0 where

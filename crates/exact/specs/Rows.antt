@@ -11,20 +11,12 @@ use Rattle.syntax.specs.Message.{Msg}
 use Rattle.grammar.specs.Cddl.{uint, MessageItem, Value}
 use Rattle.grammar.specs.Limits.{TextsGood, NamesGood}
 use Rattle.message.specs.Read.{mostBytes}
-use Rattle.exact.specs.Accepted.{IsMessage}
+use Rattle.exact.specs.Accepted.{OneItem, IsMessage}
 
 -- s has as many bytes as a message may have
 pub record Fits (s : List ℕ) : Type 0 where
   pub some : length s ≢ 0
   pub most : length s ≤ mostBytes
-
--- s is the encoding of one item, within the limits on bytes, levels and heads
-pub record OneItem (s : List ℕ) : Type 0 where
-  pub item : Item
-  pub bytes : encode item ≡ s
-  pub most : length s ≤ mostBytes
-  pub good : Good item
-  pub shallow : depth item ≤ mostLevels
 
 -- an array whose first item is an unsigned number that is no kind
 pub data UnknownKind : Item → Type 0 where

@@ -117,7 +117,7 @@ module _ {s : List ℕ} {p : ℕ} {w : Token} (h : Heading s p w) where
           width = h .width;
           stands =
               record {
-                good = (rw (long, ← e) (h .right), rw size (bytes-take (w .arg) (drop (w .body) s) left (bytes-drop (w .body) s b)));
+                good = (rw (long, ← e) (h .right), rw size (bytes-take (w .arg) (drop (w .body) s) (bytes-drop (w .body) s b)));
                 is = head ∙ ap (λ (r : List ℕ). front ++ r) rest ∙ sym (append-assoc front bs (drop (w .next) s));
                 end = omega (arith, next, h .body, long, length-append front bs, length-head (cond t 3 2) (h .width) (length bs));
                 within = h .within;

@@ -11,6 +11,7 @@ use Rattle.options.specs.declared.locator.Locator.the-variants as L
 use Rattle.options.specs.declared.objective.Objective.{Objective}
 use Rattle.options.specs.declared.pair.Tag.{Tag}
 use Rattle.options.specs.Text.{spanOf, held}
+use Rattle.options.specs.Locator.{nullProtocol, nullPort}
 use Rattle.syntax.specs.Message.{Loc, orNull, Obj}
 use Rattle.grammar.specs.Cddl.{uint, text, Value}
 
@@ -34,12 +35,16 @@ pub record ArrayHead (s : List ℕ) (p q n : ℕ) : Type 0 where
   pub is : drop p s ≡ headBytes 4 width n ++ drop q s
   pub end : q ≡ p + length (headBytes 4 width n)
 
+-- a span of the content that stands right before p
+abbrev pub Before : ℕ → List ℕ → Span → Type 0
+Before p content span = span ≡ spanOf (p - length content) (length content)
+
 -- the locator that an answer describes; a URI's protocol 0 and port 65,536 stand for null
 unfoldable pub locOf : List ℕ → Locator → Loc
 locOf s (L.V6 at protocol port) = Loc.v6 (take 16 (drop at s)) protocol port
 locOf s (L.V4 at protocol port) = Loc.v4 (take 4 (drop at s)) protocol port
 locOf s (L.Domain name protocol port) = Loc.domain (held s name) protocol port
-locOf s (L.Uri uri protocol port) = Loc.uri (held s uri) (orNull 0 protocol) (orNull 65536 port)
+locOf s (L.Uri uri protocol port) = Loc.uri (held s uri) (orNull nullProtocol protocol) (orNull nullPort port)
 
 unfoldable pub tagOf : List ℕ → Tag → Option Loc
 tagOf s Tag.Empty = none
@@ -66,7 +71,7 @@ pub record ObjectiveIs (s : List ℕ) (p e : ℕ) (o : Objective) (obj : Obj Val
   pub flags-at : ℕ
   pub opened : ArrayHead s p name-at (itemsWith (obj .value))
   pub name-item : Stands s name-at flags-at (text name-width (obj .name))
-  pub name : o .name ≡ spanOf (flags-at - length (obj .name)) (length (obj .name))
+  pub name : Before flags-at (obj .name) (o .name)
   pub flags-item : Stands s flags-at (o .«count_at») (uint flags-width (obj .flags))
   pub flags : o .flags ≡ obj .flags
   pub count-item : Stands s (o .«count_at») (o .value .at) (uint count-width (obj .count))

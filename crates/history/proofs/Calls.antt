@@ -25,7 +25,7 @@ use Rattle.node_state.specs.declared.table.Key.{Key}
 use Rattle.node_state.specs.Record.{setLinks, linked, clocked}
 use Rattle.node_state.specs.Table.{cell, rowLife, freed, putRow, lowestFree, isKnown}
 use Rattle.node.specs.Role.{roleOf, RoleIn, keyIn}
-use Rattle.node.specs.Call.{Call, After, barred, refuse, quiet, laterVerdict, verdictOn, answered, relayed, carriedOut, taken, judged, nodeCall, Passed}
+use Rattle.node.specs.Call.{Call, After, barred, refuse, quiet, laterVerdict, verdictOn, answered, relayed, carriedOut, taken, received, nodeCall, Passed}
 use Rattle.node.specs.History.{isRelay, saysRelay}
 use Rattle.node_state.proofs.Rows.{Holds, put-other, same-holds, free-keeps, lowest-zero, unknown, row-admitted}
 use Rattle.node.proofs.Outcomes.{passed}
@@ -77,17 +77,17 @@ module _ (r : Record) (t : List ℕ) (c : Call) where
     taken-view m read Role.Upward e = quiet-view Hand true refl
     taken-view m read (Role.Spreads s) e = verdict-view s (record { is = m; read = read; plays = e })
 
-    judged-view : (x : Reading) → readOf (c .message) ≡ x → View r t c (judged r t c x)
-    unfolding judged
-    judged-view (Reading.Refused n) e = refuse-view n
-    judged-view (Reading.Read m) e = taken-view m e (roleOf m) refl
+    received-view : (x : Reading) → readOf (c .message) ≡ x → View r t c (received r t c x)
+    unfolding received
+    received-view (Reading.Refused n) e = refuse-view n
+    received-view (Reading.Read m) e = taken-view m e (roleOf m) refl
 
   pub view : View r t c (nodeCall r t c)
   unfolding nodeCall
   view =
       let n = barred r t (c .clock) (c .interface) (c .names) (length (c .output)) in
       pick-case (View r t c) (eqb n 0)
-      (λ e. judged-view (passed r t (c .clock) (c .interface) (c .names) (length (c .output)) (eqb-true n 0 e)) (readOf (c .message)) refl)
+      (λ e. received-view (passed r t (c .clock) (c .interface) (c .names) (length (c .output)) (eqb-true n 0 e)) (readOf (c .message)) refl)
       (λ e. refuse-view n)
 
 -- ---- setting links

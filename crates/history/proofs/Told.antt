@@ -12,14 +12,14 @@ use Rattle.options.specs.declared.objective.Objective.{Objective}
 use Rattle.message.specs.declared.Message.{Message}
 use Rattle.message.specs.declared.Message.the-variants as M
 use Rattle.message.specs.declared.Reading.{Reading}
-use Rattle.contents.specs.Fields.{sessionOf, initiatorOf, objectiveOf}
+use Rattle.contents.specs.Fields.{sessionOf, initiatorOf, objectiveOf, countIn}
 use Rattle.roundtrip.specs.Lower.{Lowers}
 use Rattle.roundtrip.proofs.Relay.{lowered-reads}
 use Rattle.node.specs.declared.role.Spread.{Spread}
 use Rattle.node.specs.declared.role.Role.{Role}
 use Rattle.node.specs.Role.{spreadOf, roleOf, RoleIn}
-use Rattle.node.specs.Call.{onward}
-use Rattle.node.specs.History.{Told, numberIn, countIn, toldBy, told}
+use Rattle.roundtrip.specs.Lower.{onward}
+use Rattle.node.specs.History.{Told, numberIn, toldBy, told}
 use Rattle.node.proofs.Spreads.{role-spreading}
 
 -- what is told of it
@@ -54,7 +54,7 @@ count-of m o Lowers.flood = refl
 
 -- the message that goes out has it one lower
 pub onward-count : (message : List ℕ) (s : Spread) → Bytes message → RoleIn message (Role.Spreads s) → told (onward message (s .objective)) .count ≡ s .objective .count - 1
-unfolding told toldBy onward
+unfolding told toldBy
 onward-count message s b r =
     let (m′, read, relays) = lowered-reads message (r .is) (s .objective) b (r .read) (role-spreading message s b r .lowers) in
     ap (λ (x : Reading). toldBy (onward message (s .objective)) x .count) read ∙ count-of m′ (relays .objective) (relays .lowers) ∙ relays .lower

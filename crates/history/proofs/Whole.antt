@@ -25,7 +25,8 @@ use Rattle.node.specs.declared.role.Spread.{Spread}
 use Rattle.node_state.specs.Record.{fresh, isUp, others, clocked, tallied, setLinks}
 use Rattle.node_state.specs.Table.{freshTable, rowLife, freed, lowestFree, isKnown}
 use Rattle.node.specs.Role.{keyIn}
-use Rattle.node.specs.Call.{Call, After, written, onward, relayed, nodeCall}
+use Rattle.roundtrip.specs.Lower.{onward}
+use Rattle.node.specs.Call.{Call, After, relayed, nodeCall}
 use Rattle.node.specs.History.{Event, call, links, Step, steps, finally, Fits, isRelay, saysRelay, maskOf, lengthOf, Told, told, relaysOf, given, sent, clockOf, arrivedOn, interfacesIn, copies, copiesOf, SameKey, apartBy, Apart, GoesOut, Near, Few, WholeList}
 use Rattle.node.specs.Demand.{Demand3}
 use Rattle.node_state.proofs.Masks.{record-links, up-below, taken-down}
@@ -246,7 +247,7 @@ module _ (x : Step) (s : Spread) (facts : Relays (x .node) (x .table) (x .call) 
 
 module _ (x : Step) (s : Spread) (k : Known x s) where
   known-sent : sent x .count ≡ s .objective .count - 1
-  unfolding sent lengthOf relayed written
+  unfolding sent lengthOf relayed
   known-sent =
       let bytes = onward (x .call .message) (s .objective) in
       ap (λ (z : After). told (take (lengthOf (z .called .reply)) (z .output)) .count) (k .is)

@@ -18,7 +18,7 @@ use Rattle.node.specs.declared.role.Role.{Role}
 use Rattle.node_state.specs.Record.{clocked}
 use Rattle.node_state.specs.Table.{freed}
 use Rattle.node.specs.Role.{roleOf}
-use Rattle.node.specs.Call.{Call, After, afterOf, refuse, quiet, verdictOn, answered, relayed, carriedOut, taken, judged, nodeCall}
+use Rattle.node.specs.Call.{Call, After, afterOf, refuse, quiet, verdictOn, answered, relayed, carriedOut, taken, received, nodeCall}
 use Rattle.host.specs.declared.call.Answer as A
 use Rattle.host.specs.Table.{tableBytes, loaded, saved}
 use Rattle.host.specs.Call.{answerFrom, tableIn, afterCall, callAnswer, callTable, callOutput, answerNumbers, replyNumbers, leftOf, callLeft}
@@ -79,10 +79,10 @@ module _ (c : Call) where
   abbrev Still : After → Type 0
   Still z = (answerFrom (z .called) .refusal ≡ 0 → ⊥) → z .output ≡ c .output
 
-  judged-still : (r : Record) (t : List ℕ) (reading : Reading) → Still (judged r t c reading)
-  unfolding judged refuse
-  judged-still r t (Reading.Refused number) ne = refl
-  judged-still r t (Reading.Read m) ne = absurd (ne (taken-answers (clocked r (c .clock)) (freed (c .clock) t) (roleOf m)))
+  received-still : (r : Record) (t : List ℕ) (reading : Reading) → Still (received r t c reading)
+  unfolding received refuse
+  received-still r t (Reading.Refused number) ne = refl
+  received-still r t (Reading.Read m) ne = absurd (ne (taken-answers (clocked r (c .clock)) (freed (c .clock) t) (roleOf m)))
 
   refuse-still : (r : Record) (t : List ℕ) (n : ℕ) → Still (refuse n r t c)
   unfolding refuse
@@ -90,7 +90,7 @@ module _ (c : Call) where
 
   call-still : (r : Record) (t : List ℕ) → Still (nodeCall r t c)
   unfolding nodeCall
-  call-still r t = both Still _ (judged-still r t (readOf (c .message))) (refuse-still r t _)
+  call-still r t = both Still _ (received-still r t (readOf (c .message))) (refuse-still r t _)
 
 module _ (r : Record) (bytes : List ℕ) (c : Call) (ne : callAnswer r bytes c .refusal ≡ 0 → ⊥) where
   table-still : callTable r bytes c ≡ bytes

@@ -1,5 +1,5 @@
 -- What several kinds begin with (RFC 8990, section 2.8): a session, an initiator and a ttl.
-use Prim.Native.Nat.{ℕ, _-_, _≤_}
+use Prim.Native.Nat.{ℕ, _≤_}
 use mathlib.Core.List.{List}
 use mathlib.Core.Bool.{Bool, true, false}
 use mathlib.Core.Path.{_≡_}
@@ -8,8 +8,7 @@ use lib.Dec.{ltb, eqb}
 use Rattle.base.specs.Pick.{pick}
 use Rattle.cbor.specs.declared.token.Token.{Token}
 use Rattle.cbor.specs.Token.{tokenAt, upTo}
-use Rattle.options.specs.declared.Span.{Span}
-use Rattle.options.specs.Text.{unless, spanOf}
+use Rattle.options.specs.Text.{unless, contentOf}
 use Rattle.message.specs.declared.opening.OpeningRead.{OpeningRead}
 use Rattle.message.specs.declared.opening.OpeningRead.the-variants.{Bad, Got}
 
@@ -20,10 +19,6 @@ most = 4294967295
 -- how many levels are open around the value of an objective that stands in the message: the message's and the objective's own
 abbrev pub objectiveLevels : ℕ
 objectiveLevels = 2
-
--- where a string's bytes stand
-abbrev pub contentOf : Token → Span
-contentOf t = spanOf (t .body) (t .next - t .body)
 
 -- a byte string of 4 or 16 bytes
 unfoldable pub isInitiator : Token → Bool

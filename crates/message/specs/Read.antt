@@ -5,7 +5,7 @@ use lib.ListN.{length}
 use lib.Dec.{ltb, eqb}
 use Rattle.base.specs.Pick.{pick}
 use Rattle.cbor.specs.declared.item.ItemRead.{ItemRead}
-use Rattle.cbor.specs.Item.{firstItem}
+use Rattle.cbor.specs.Item.{firstItem, framedBy}
 use Rattle.cbor.specs.Token.{tokenAt, itemsIn}
 use Rattle.options.specs.Text.{unless}
 use Rattle.message.specs.declared.shape.Shape.{Shape}
@@ -48,8 +48,7 @@ shaped s =
     (judged (byKind s (k .arg) (a .arg) (k .next)))))
 
 unfoldable pub framed : List ℕ → ItemRead → Examined
-framed s (ItemRead.Refused number place) = Refused number place
-framed s (ItemRead.Ends end) = unless (eqb end (length s)) (Refused 7 end) (shaped s)
+framed s r = framedBy Refused (shaped s) (length s) r
 
 -- the message that s is, or the refusal with its place
 unfoldable pub examined : List ℕ → Examined

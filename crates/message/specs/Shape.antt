@@ -8,14 +8,14 @@ use Rattle.cbor.specs.Token.{tokenAt, sizeAt, itemsIn, upTo}
 use Rattle.options.specs.declared.Span.{Span}
 use Rattle.options.specs.declared.objective.Objective.{Objective}
 use Rattle.options.specs.declared.objective.ObjectiveRead.{ObjectiveRead}
-use Rattle.options.specs.Text.{unless, spanOf, contentIn, badText}
+use Rattle.options.specs.Text.{unless, spanOf, contentOf, contentIn, badText}
 use Rattle.options.specs.Objective.{objectiveAt}
 use Rattle.options.specs.declared.Outcome.{Outcome}
 use Rattle.message.specs.declared.Message.{Message}
 use Rattle.message.specs.declared.Message.the-variants as M
 use Rattle.message.specs.declared.shape.Shape.{Shape}
 use Rattle.message.specs.declared.shape.Shape.the-variants.{Bad, Good}
-use Rattle.message.specs.Opening.{most, objectiveLevels, contentOf, isInitiator}
+use Rattle.message.specs.Opening.{most, objectiveLevels, isInitiator}
 
 -- 0: nothing
 unfoldable pub noopAt : ℕ → ℕ → Shape
@@ -64,11 +64,15 @@ waitAt s n at =
     (pick (ltb most (upTo most t)) (Bad (t .at))
     (Good (M.Wait (upTo most i) (upTo most t)) (t .next) 0 0)))
 
--- 99: session, an optional item of any sort, around which one level is open, the message's own
+-- how many levels are open around Invalid's item: the message's own
+abbrev pub itemLevels : ℕ
+itemLevels = 1
+
+-- 99: session, an optional item of any sort
 unfoldable pub invalidAt : List ℕ → ℕ → ℕ → Shape
 invalidAt s n at =
     let i = tokenAt s at in
-    let len = sizeAt 1 s (i .next) in
+    let len = sizeAt itemLevels s (i .next) in
     pick (ltb n 2) (Bad 0)
     (pick (ltb 3 n) (Bad 0)
     (pick (ltb most (upTo most i)) (Bad (i .at))

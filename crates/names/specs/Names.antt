@@ -7,7 +7,7 @@ use lib.Dec.{ltb, leb, eqb}
 use Rattle.base.specs.Pick.{pick}
 use Rattle.cbor.specs.declared.item.ItemRead.{ItemRead}
 use Rattle.cbor.specs.declared.token.Token.{Token}
-use Rattle.cbor.specs.Item.{firstItem}
+use Rattle.cbor.specs.Item.{firstItem, framedBy}
 use Rattle.cbor.specs.Token.{tokenAt}
 use Rattle.utf8.specs.Utf8.{isUtf8}
 use Rattle.options.specs.Text.{contentIn}
@@ -33,8 +33,7 @@ arrayBad s =
     not (eqb (a .major) 4) || ltb mostNames (a .arg) || not (goodNames s (a .arg) (a .next))
 
 unfoldable pub framedBad : List ℕ → ItemRead → Bool
-framedBad s (ItemRead.Refused number place) = true
-framedBad s (ItemRead.Ends end) = not (eqb end (length s)) || arrayBad s
+framedBad s r = framedBy (λ number place. true) (arrayBad s) (length s) r
 
 -- 16
 unfoldable pub namesBad : List ℕ → Bool

@@ -14,7 +14,7 @@ use Rattle.message.specs.declared.Message.the-variants as M
 use Rattle.message.specs.declared.Extra.{Extra}
 use Rattle.message.specs.declared.Reading.{Reading}
 use Rattle.message.specs.Read.{readOf}
-use Rattle.contents.specs.Fields.{kindOf, objectiveOf}
+use Rattle.contents.specs.Fields.{kindOf, objectiveOf, countIn}
 use Rattle.negotiation.specs.declared.Side.{Side}
 use Rattle.negotiation.specs.declared.State.{State}
 use Rattle.negotiation.specs.declared.State.the-variants.{Fresh, Open, Closed}
@@ -40,10 +40,6 @@ isFresh Closed = false
 messageIn : Reading → Message
 messageIn (Reading.Refused number) = M.Noop
 messageIn (Reading.Read m) = m
-
-countIn : Extra → ℕ
-countIn Extra.Without = 0
-countIn (Extra.With objective) = objective .count
 
 message-once : {r : Reading} {m m′ : Message} → r ≡ Reading.Read m → r ≡ Reading.Read m′ → m ≡ m′
 unfolding messageIn

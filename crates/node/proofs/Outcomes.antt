@@ -28,7 +28,9 @@ use Rattle.node_state.specs.declared.table.Key.{Key}
 use Rattle.node_state.specs.Record.{recordBad, arrivalBad, isUp, others, clocked, tallied}
 use Rattle.node_state.specs.Table.{whereSized, freed, lowestFree, filled, isKnown}
 use Rattle.node.specs.Role.{roleOf, keyIn}
-use Rattle.node.specs.Call.{Call, callOf, After, afterOf, barred, replies, refuse, quiet, written, onward, response, laterVerdict, verdictOn, answered, relayed, carriedOut, taken, judged, nodeCall, Passed, Ready}
+use Rattle.cbor.specs.Put.{written}
+use Rattle.roundtrip.specs.Lower.{onward}
+use Rattle.node.specs.Call.{Call, callOf, After, afterOf, barred, replies, refuse, quiet, response, laterVerdict, verdictOn, answered, relayed, carriedOut, taken, received, nodeCall, Passed, Ready}
 use Rattle.node_state.proofs.Masks.{record-links, record-tally}
 use Rattle.node_state.proofs.Rows.{of-sized, length-free, table-sized}
 
@@ -179,9 +181,9 @@ module _ (r : Record) (t : List ℕ) (c : Call) where
 
   module _ (n : ℕ) (is : n ≡ barred r t (c .clock) (c .interface) (c .names) (length (c .output))) (none : n ≡ 0) where
     pub refused-outcome : (number : ℕ) (b : Called) → b ≡ replies (Refused number) r → readOf (c .message) ≡ Reading.Refused number → afterOf b t (c .output) ≡ nodeCall r t c
-    unfolding nodeCall judged refuse pick
+    unfolding nodeCall received refuse pick
     refused-outcome number b e read = rw (← is, none, read, e) refl
 
     pub taken-outcome : (m : Message) (a : After) → readOf (c .message) ≡ Reading.Read m → a ≡ taken (clocked r (c .clock)) (freed (c .clock) t) c (roleOf m) → a ≡ nodeCall r t c
-    unfolding nodeCall judged pick
+    unfolding nodeCall received pick
     taken-outcome m a read e = rw (← is, none, read) e

@@ -29,7 +29,9 @@ use Rattle.node_state.specs.declared.table.Key.{Key}
 use Rattle.node_state.specs.Key.{keyFor}
 use Rattle.node_state.proofs.Keys.{key-sized}
 use Rattle.node.specs.Role.{RoleIn, Within, keyIn}
-use Rattle.node.specs.Call.{onward, response, written}
+use Rattle.cbor.specs.Put.{written}
+use Rattle.roundtrip.specs.Lower.{onward}
+use Rattle.node.specs.Call.{response}
 use Rattle.node.proofs.Spreads.{role-spreading, read-most}
 
 -- ---- a relay
@@ -37,7 +39,6 @@ use Rattle.node.proofs.Spreads.{role-spreading, read-most}
 pub onward-given : (message out : List ℕ) (s : Spread) → Bytes message → RoleIn message (Role.Spreads s) → 1 ≤ s .objective .count → mostBytes ≤ length out
     → (lowerAnswer message (s .objective .«count_at») (s .objective .value .at) (s .objective .count) out ≡ Written.Length (length (onward message (s .objective))))
     × (lowerOut message (s .objective .«count_at») (s .objective .value .at) (s .objective .count) out ≡ written (onward message (s .objective)) out)
-unfolding onward written
 onward-given message out s b r some room =
     let fits : length message ≤ length out = omega (arith, read-most message (Role.Spreads s) r) in
     lowered-given message (r .is) (s .objective) out b (r .read) (role-spreading message s b r .lowers) some fits
@@ -66,7 +67,7 @@ answer-most session initiator ttl address port i a =
 
 pub response-given : (r : Record) (message out : List ℕ) (s : Spread) → length (r .address) ≡ 16 → Within message s → mostBytes ≤ length out
     → (passAnswer true (response r message s) out ≡ Written.Length (length (response r message s))) × (passOut true (response r message s) out ≡ written (response r message s) out)
-unfolding response written passAnswer passOut passes handAnswer handOut pick
+unfolding response passAnswer passOut passes handAnswer handOut pick
 response-given r message out s sixteen w room =
     let bytes : List ℕ = answerOf (s .session) (held message (s .initiator)) (r .ttl) (r .address) (r .port) in
     let most : length bytes ≤ mostBytes = answer-most (s .session) (held message (s .initiator)) (r .ttl) (r .address) (r .port) (short (w .bytes)) (omega arith) in

@@ -1,18 +1,18 @@
 -- One node call (the rules, "Refusal numbers", "Record and relay table" and "Verdicts"): what it answers, and the record, the table and the output after it.
-use Prim.Native.Nat.{ℕ, _^_}
+use Prim.Native.Nat.{ℕ, _^_, _≤_, _<_}
 use mathlib.Core.Bool.{Bool, true, false, not, _&&_}
-use mathlib.Core.List.{List, _++_}
+use mathlib.Core.List.{List}
 use mathlib.Core.Path.{_≡_}
-use Prim.Native.Nat.{_≤_, _<_}
-use lib.ListN.{length, drop}
+use lib.ListN.{length}
 use lib.Count.{ones}
 use lib.Dec.{ltb, leb, eqb}
 use Rattle.options.specs.Text.{held}
 use Rattle.base.specs.Pick.{pick}
-use Rattle.options.specs.declared.objective.Objective.{Objective}
 use Rattle.message.specs.declared.Reading.{Reading}
 use Rattle.message.specs.Read.{mostBytes, readOf}
-use Rattle.writer.specs.Write.{lowered, answerOf}
+use Rattle.cbor.specs.Put.{written}
+use Rattle.writer.specs.Write.{answerOf}
+use Rattle.roundtrip.specs.Lower.{onward}
 use Rattle.names.specs.Names.{namesBad, sameBytes, isOwn}
 use Rattle.node_state.specs.declared.Record.{Record}
 use Rattle.node.specs.declared.Verdict.{Verdict}
@@ -22,7 +22,7 @@ use Rattle.node.specs.declared.Reply.the-variants.{Refused, Given}
 use Rattle.node.specs.declared.Called.{Called}
 use Rattle.node.specs.declared.role.Spread.{Spread}
 use Rattle.node.specs.declared.role.Role.{Role}
-use Rattle.node_state.specs.Record.{recordBad, arrivalBad, others, clocked, tallied, isUp}
+use Rattle.node_state.specs.Record.{mostInterfaces, mostTally, recordBad, arrivalBad, others, clocked, tallied, isUp}
 use Rattle.node_state.specs.Table.{mostRows, tableBad, freed, putRow, lowestFree, isKnown}
 use Rattle.node.specs.Role.{roleOf, keyIn}
 
@@ -66,14 +66,6 @@ refuse n r t c = record { called = replies (Refused n) r; table = t; output = c 
 -- a verdict that sends nothing
 unfoldable pub quiet : Verdict → Bool → Record → List ℕ → Call → After
 quiet v up r t c = record { called = replies (Given v up 0 0) r; table = t; output = c .output }
-
--- bytes at the front of an output, the rest as it was
-unfoldable pub written : List ℕ → List ℕ → List ℕ
-written bytes out = bytes ++ drop (length bytes) out
-
--- the message with the head of its count replaced by the shortest head of one less
-unfoldable pub onward : List ℕ → Objective → List ℕ
-onward message o = lowered message (o .«count_at») (o .value .at) (o .count)
 
 -- the Response that answers a Discovery
 unfoldable pub response : Record → List ℕ → Spread → List ℕ
@@ -130,14 +122,14 @@ taken r t c Role.Upward = quiet Hand true r t c
 taken r t c (Role.Spreads s) = carriedOut r t c s (verdictOn r t c s)
 
 -- after 12 to 17: the message's own refusal, or every dead row freed, the clock taken, and the first verdict that applies
-unfoldable pub judged : Record → List ℕ → Call → Reading → After
-judged r t c (Reading.Refused number) = refuse number r t c
-judged r t c (Reading.Read m) = taken (clocked r (c .clock)) (freed (c .clock) t) c (roleOf m)
+unfoldable pub received : Record → List ℕ → Call → Reading → After
+received r t c (Reading.Refused number) = refuse number r t c
+received r t c (Reading.Read m) = taken (clocked r (c .clock)) (freed (c .clock) t) c (roleOf m)
 
 unfoldable pub nodeCall : Record → List ℕ → Call → After
 nodeCall r t c =
     let n = barred r t (c .clock) (c .interface) (c .names) (length (c .output)) in
-    pick (eqb n 0) (judged r t c (readOf (c .message))) (refuse n r t c)
+    pick (eqb n 0) (received r t c (readOf (c .message))) (refuse n r t c)
 
 -- what is known once 12 to 17 are passed
 pub record Passed (r : Record) (t : List ℕ) (clock interface room : ℕ) : Type 0 where
@@ -150,7 +142,7 @@ pub record Passed (r : Record) (t : List ℕ) (clock interface room : ℕ) : Typ
 -- what of it the verdicts on a Discovery or a Flood rest on
 pub record Ready (r : Record) (t : List ℕ) (interface room : ℕ) : Type 0 where
   pub sized : length t ≡ 256
-  pub small : interface < 8
+  pub small : interface < mostInterfaces
   pub up : isUp (r .links) interface ≡ true
-  pub tally : r .tally ≤ 2 ^ 63
+  pub tally : r .tally ≤ mostTally
   pub fits : mostBytes ≤ room

@@ -13,7 +13,7 @@ use Rattle.base.specs.BigEndian.{Bytes}
 use Rattle.message.specs.declared.Extra.{Extra}
 use Rattle.contents.specs.declared.fields.Session.{Session}
 use Rattle.message.specs.declared.Reading.{Reading}
-use Rattle.contents.specs.Fields.{kindOf, sessionOf, initiatorOf, objectiveOf}
+use Rattle.contents.specs.Fields.{kindOf, sessionOf, initiatorOf, objectiveOf, countIn}
 use Rattle.message.specs.Read.{readOf}
 use Rattle.node_state.specs.declared.Record.{Record}
 use Rattle.node.specs.declared.Verdict.{Verdict}
@@ -91,10 +91,6 @@ pub record Told : Type 0 where
 unfoldable pub numberIn : Session → ℕ
 numberIn Session.Without = 0
 numberIn (Session.Number n) = n
-
-unfoldable pub countIn : Extra → ℕ
-countIn Extra.Without = 0
-countIn (Extra.With o) = o .count
 
 unfoldable pub toldBy : List ℕ → Reading → Told
 toldBy s (Reading.Refused number) = record { kind = 0; session = 0; initiator = []; count = 0 }

@@ -14,7 +14,9 @@ ghost use Rattle.node.specs.declared.Verdict.the-variants.{Answer, Relay
 ghost use Rattle.node.specs.declared.role.Role.the-variants.{Spreads};
 ghost use Rattle.node_state.specs.Record.{tallied};
 ghost use Rattle.node.specs.Role.{RoleIn, Within, keyIn};
-ghost use Rattle.node.specs.Call.{callOf, afterOf, replies, laterVerdict, verdictOn, carriedOut, onward, response, written, Ready};
+ghost use Rattle.node.specs.Call.{callOf, afterOf, replies, laterVerdict, verdictOn, carriedOut, response, Ready};
+ghost use Rattle.cbor.specs.Put.{written};
+ghost use Rattle.roundtrip.specs.Lower.{onward};
 use crate::Called;
 use crate::Reply;
 use crate::Verdict;

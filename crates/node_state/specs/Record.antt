@@ -1,20 +1,28 @@
 -- The node's record (the rules, "Record and relay table"), and masks of links, whose bit i is set when interface i is up.
-use Prim.Native.Nat.{ℕ, _/_, _%_, _+_, _-_, _^_}
+use Prim.Native.Nat.{ℕ, _+_, _-_, _^_}
 use mathlib.Core.Bool.{Bool, not, _||_}
 use mathlib.Core.List.{List}
 use lib.ListN.{replicate}
 use lib.Dec.{ltb, leb, eqb}
 use Rattle.base.specs.Pick.{pick}
+use Rattle.base.specs.Bits.{hasBit}
 use Rattle.node_state.specs.declared.Record.{Record}
 use Rattle.node_state.specs.declared.Kept.{Kept}
 
+-- house limits: how many interfaces a node has at most, and how many copies it tallies
+abbrev pub mostInterfaces : ℕ
+mostInterfaces = 8
+
+abbrev pub mostTally : ℕ
+mostTally = 2 ^ 63
+
 -- the interfaces aren't 1 to 8, or a bit is set at or above their number
 unfoldable pub linksBad : ℕ → ℕ → Bool
-linksBad interfaces mask = eqb interfaces 0 || ltb 8 interfaces || leb (2 ^ interfaces) mask
+linksBad interfaces mask = eqb interfaces 0 || ltb mostInterfaces interfaces || leb (2 ^ interfaces) mask
 
--- 12: the rules' limit on the tally is 2^63
+-- 12
 unfoldable pub recordBad : Record → Bool
-recordBad r = linksBad (r .interfaces) (r .links) || ltb (2 ^ 63) (r .tally)
+recordBad r = linksBad (r .interfaces) (r .links) || ltb mostTally (r .tally)
 
 -- the number of a refusal beside a record
 abbrev pub keeps : ℕ → Record → Kept
@@ -43,9 +51,9 @@ linked r mask =
 unfoldable pub setLinks : Record → ℕ → Kept
 setLinks r mask = pick (recordBad r) (keeps 12 r) (pick (leb (2 ^ r .interfaces) mask) (keeps 13 r) (keeps 0 (linked r mask)))
 
--- bit i of a mask is set
+-- the link of interface i is up
 unfoldable pub isUp : ℕ → ℕ → Bool
-isUp mask i = eqb (mask / 2 ^ i % 2) 1
+isUp mask i = hasBit mask i
 
 -- 13 of the node call: the arriving interface isn't below the count, or its link is down
 unfoldable pub arrivalBad : Record → ℕ → Bool

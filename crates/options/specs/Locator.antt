@@ -22,19 +22,36 @@ isNull w = pick (eqb (w .major) 7) (pick (eqb (w .arg) 22) (pick (ltb (w .at) (w
 unfoldable pub addressFits : ℕ → Token → Bool
 addressFits kind w = pick (leb 105 kind) (eqb (w .major) 3) (pick (eqb (w .major) 2) (pick (eqb kind 103) (eqb (w .arg) 16) (eqb (w .arg) 4)) false)
 
--- 6 or 17, and 0 for null, which 106 may have; 255 for all else
+-- what a locator has for a protocol that is null, and what is read of anything else that is no protocol
+abbrev pub nullProtocol : ℕ
+nullProtocol = 0
+
+abbrev pub noProtocol : ℕ
+noProtocol = 255
+
+-- the greatest port; what a locator has for a port that is null, and what is read of anything else that is no port
+abbrev pub mostPort : ℕ
+mostPort = 65535
+
+abbrev pub nullPort : ℕ
+nullPort = 65536
+
+abbrev pub noPort : ℕ
+noPort = 65537
+
+-- 6 or 17, and null, which 106 may have
 unfoldable pub protocolOf : ℕ → Token → ℕ
 protocolOf kind w =
     pick (eqb (w .major) 0)
-    (pick (eqb (w .arg) 6) 6 (pick (eqb (w .arg) 17) 17 255))
-    (pick (eqb kind 106) (pick (isNull w) 0 255) 255)
+    (pick (eqb (w .arg) 6) 6 (pick (eqb (w .arg) 17) 17 noProtocol))
+    (pick (eqb kind 106) (pick (isNull w) nullProtocol noProtocol) noProtocol)
 
--- up to 65,535, and 65,536 for null, which 106 may have; 65,537 for all else
+-- up to 65,535, and null, which 106 may have
 unfoldable pub portOf : ℕ → Token → ℕ
 portOf kind w =
     pick (eqb (w .major) 0)
-    (pick (leb (w .arg) 65535) (w .arg) 65537)
-    (pick (eqb kind 106) (pick (isNull w) 65536 65537) 65537)
+    (pick (leb (w .arg) mostPort) (w .arg) noPort)
+    (pick (eqb kind 106) (pick (isNull w) nullPort noPort) noPort)
 
 unfoldable pub locatorOf : ℕ → ℕ → ℕ → ℕ → ℕ → Locator
 locatorOf kind at len protocol port =
@@ -60,8 +77,8 @@ locatorIn base s =
     (pick (ltb 106 kind) (LR.Bad (base + k .at))
     (unless (eqb (a .arg) 4) (LR.Bad base)
     (unless (addressFits kind b) (LR.Bad (base + b .at))
-    (pick (eqb (protocolOf kind p) 255) (LR.Bad (base + p .at))
-    (pick (ltb 65536 (portOf kind q)) (LR.Bad (base + q .at))
+    (pick (eqb (protocolOf kind p) noProtocol) (LR.Bad (base + p .at))
+    (pick (ltb nullPort (portOf kind q)) (LR.Bad (base + q .at))
     (LR.Got (locatorOf kind (base + b .body) (b .next - b .body) (protocolOf kind p) (portOf kind q)) (q .next) (textOf kind (contentIn s b) (base + b .at)))))))))
 
 -- the locator at a place of the message s

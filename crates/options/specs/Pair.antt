@@ -37,11 +37,14 @@ unfoldable pub pairLed : ℕ → List ℕ → ℕ → ℕ → ObjectiveRead → 
 pairLed base s n at (OR.Bad place) = PR.Bad place
 pairLed base s n at (OR.Got o size bad long) = unless (eqb n 2) (PR.Bad base) (pairTail base s (at + size) o bad long)
 
--- an objective's value has three levels around it: the message, the pair and the objective
+-- how many levels are open around the value of an objective in a pair: the message's, the pair's and the objective's own
+abbrev pub pairLevels : ℕ
+pairLevels = 3
+
 unfoldable pub pairIn : ℕ → List ℕ → PairRead
 pairIn base s =
     let a = tokenAt s 0 in
-    pick (eqb (itemsIn a) 0) (PR.Bad base) (pairLed base s (a .arg) (a .next) (objectiveIn 3 (base + a .next) (drop (a .next) s)))
+    pick (eqb (itemsIn a) 0) (PR.Bad base) (pairLed base s (a .arg) (a .next) (objectiveIn pairLevels (base + a .next) (drop (a .next) s)))
 
 -- the pair at a place of the message s
 abbrev pub pairAt : List ℕ → ℕ → PairRead

@@ -20,9 +20,13 @@ spanOf at len = record { at = at; len = len }
 abbrev pub held : List ℕ → Span → List ℕ
 held s span = take (span .len) (drop (span .at) s)
 
+-- where a string's bytes stand
+abbrev pub contentOf : Token → Span
+contentOf t = spanOf (t .body) (t .next - t .body)
+
 -- the bytes of a string
 abbrev pub contentIn : List ℕ → Token → List ℕ
-contentIn s t = take (t .next - t .body) (drop (t .body) s)
+contentIn s t = held s (contentOf t)
 
 -- `place` where a text isn't UTF-8, else 0
 unfoldable pub badText : List ℕ → ℕ → ℕ

@@ -10,7 +10,7 @@ use lib.Dec.{ltb, eqb}
 use borrow.Author.Tests.{eqb-true, ltb-false, not-false, eq-eqb, ne-eqb, le-ltb}
 use Rattle.base.specs.Pick.{pick}
 use Rattle.base.specs.BigEndian.{Bytes}
-use Rattle.base.proofs.Picks.{past}
+use Rattle.base.proofs.Picks.{pick-case, past}
 use Rattle.base.proofs.Bools.{or-left, or-right, not-both}
 use Rattle.cbor.specs.declared.item.ItemRead.{ItemRead}
 use Rattle.cbor.specs.declared.token.Token.{Token}
@@ -75,11 +75,10 @@ module _ {s : List ℕ} (o : OwnNames s) where
 -- ---- what is found good is own names
 framed-good : (s : List ℕ) (r : ItemRead) → framedBad s r ≡ false → (r ≡ ItemRead.Ends (length s)) × (arrayBad s ≡ false)
 unfolding framedBad
-framed-good s (ItemRead.Refused number place) q = absurd (not-both true refl q)
-framed-good s (ItemRead.Ends end) q = (
-  ap ItemRead.Ends (eqb-true end (length s) (not-false (eqb end (length s)) (or-left (not (eqb end (length s))) (arrayBad s) q))),
-  or-right (not (eqb end (length s))) (arrayBad s) q,
-)
+framed-good s (ItemRead.Refused number place) = λ q. absurd (not-both true refl q)
+framed-good s (ItemRead.Ends end) =
+    pick-case (λ r. r ≡ false → (ItemRead.Ends end ≡ ItemRead.Ends (length s)) × (arrayBad s ≡ false)) (eqb end (length s))
+    (λ e q. (ap ItemRead.Ends (eqb-true end (length s) e), q)) (λ e q. absurd (not-both true refl q))
 
 module _ {s : List ℕ} (b : Bytes s) where
   -- the walk took the whole, and the array is good

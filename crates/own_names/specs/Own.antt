@@ -6,7 +6,7 @@ use Rattle.base.specs.Lists.{Every}
 use Rattle.cbor.specs.Tree.{Item, Items}
 use Rattle.grammar.specs.Cddl.{text}
 use Rattle.grammar.specs.Limits.{Utf8, Short}
-use Rattle.exact.specs.Rows.{OneItem}
+use Rattle.exact.specs.Accepted.{OneItem}
 use Rattle.names.specs.Names.{mostNames}
 
 -- items that are texts of these contents, heads of any width; which widths are good is `Good`'s to say

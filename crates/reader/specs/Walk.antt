@@ -2,14 +2,11 @@
 use Prim.Native.Nat.{ℕ}
 use mathlib.Core.List.{List}
 use lib.ListN.{length}
-use lib.Dec.{eqb}
 use Rattle.cbor.specs.declared.item.ItemRead.{ItemRead}
-use Rattle.cbor.specs.Item.{firstItem}
-use Rattle.options.specs.Text.{unless}
+use Rattle.cbor.specs.Item.{firstItem, framedBy}
 
 unfoldable pub walkedBy : ℕ → ℕ → ItemRead → ℕ
-walkedBy later size (ItemRead.Refused number place) = number
-walkedBy later size (ItemRead.Ends end) = unless (eqb end size) 7 later
+walkedBy later size r = framedBy (λ number place. number) later size r
 
 unfoldable pub walkedFirst : ℕ → List ℕ → ℕ
 walkedFirst later s = walkedBy later (length s) (firstItem 0 s)

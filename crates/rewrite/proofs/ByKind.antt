@@ -22,7 +22,7 @@ use Rattle.message.specs.declared.Message.{Message}
 use Rattle.exact.specs.Describes.{SeriesIs, AimIs, ExtraIs, OutcomeIs, Describes}
 use Rattle.exact.proofs.Described.{locators-count, pairs-count}
 use Rattle.description.specs.Encoding.{string, encodeEnding, opening, encodeMsg}
-use Rattle.description.specs.Describe.{placeRow, pairRow, locOf, placeAt, rowLoc, locsOf, targetsOf, extraOf, rowPair, pairsOf, endOf, msgOf}
+use Rattle.description.specs.Describe.{placeRow, pairRow, placeLoc, placeAt, rowLoc, locsOf, targetsOf, extraOf, rowPair, pairsOf, endOf, msgOf}
 use Rattle.describe.specs.Describe as D
 use Rattle.describe.specs.Rows as R
 use Rattle.roundtrip.specs.Plain.{valueBytes, plain}
@@ -44,7 +44,7 @@ module _ (s : List ℕ) where
   placed-rows : {at : ℕ} {rows : List (List ℕ)} {ls : List Loc} → Locators s at rows ls → Placed (joined rows) ls
   unfolding locsOf rowLoc
   placed-rows chain =
-      let (says, are) = told-rows placeOf (locOf s) (PlaceSays s) place-behind (lit< tt) chain in
+      let (says, are) = told-rows placeOf (placeLoc s) (PlaceSays s) place-behind (lit< tt) chain in
       record { says = says; are = are }
 
   -- a list of pairs

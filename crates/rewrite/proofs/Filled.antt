@@ -11,7 +11,7 @@ use lib.ListN.{length, take, drop, set, length-append}
 use lib.Seq.{sets, sets-eq, take-at}
 use Rattle.base.specs.Pick.{pick}
 use Rattle.describe.specs.Rows.{rowsFrom}
-use Rattle.description.specs.Describe.{upTo}
+use Rattle.description.specs.Describe.{listOf}
 use Rattle.roundtrip.specs.Says.{Rows}
 
 -- ---- stores
@@ -27,14 +27,14 @@ sets-append l at (x ∷ a) b =
     ap (λ (k : ℕ). sets (sets (set l at x) (suc at) a) k b) (add-suc at (length a) ∙ sym (suc-add at (length a))) ∙ sets-append (set l at x) (suc at) a b
 
 -- ---- the first of n, and the others
-up-first : {A : Type 0} (f : ℕ → A) (n : ℕ) → upTo f (suc n) ≡ f 0 ∷ upTo (λ i. f (suc i)) n
-unfolding upTo
+up-first : {A : Type 0} (f : ℕ → A) (n : ℕ) → listOf f (suc n) ≡ f 0 ∷ listOf (λ i. f (suc i)) n
+unfolding listOf
 up-first f zero = refl
 up-first f (suc n) = ap (λ l. l ++ (f (suc n) ∷ [])) (up-first f n)
 
 -- the same elements
-up-same : {A : Type 0} (f g : ℕ → A) (n : ℕ) → ((i : ℕ) → f i ≡ g i) → upTo f n ≡ upTo g n
-unfolding upTo
+up-same : {A : Type 0} (f g : ℕ → A) (n : ℕ) → ((i : ℕ) → f i ≡ g i) → listOf f n ≡ listOf g n
+unfolding listOf
 up-same f g zero h = refl
 up-same f g (suc n) h = ap₂ (λ l x. l ++ (x ∷ [])) (up-same f g n h) (h n)
 
@@ -114,8 +114,8 @@ module _ {A X : Type 0} {size : ℕ} {next : ℕ → ℕ} {row : ℕ → ℕ →
 
   -- and they are all of xs
   told-all : {at : ℕ} {rows : List (List ℕ)} {xs : List X} → Chain size next row (Tells view f Holds) at rows xs
-      → upTo (λ i. f (view (joined rows) i)) (length rows) ≡ xs
-  unfolding joined upTo
+      → listOf (λ i. f (view (joined rows) i)) (length rows) ≡ xs
+  unfolding joined listOf
   told-all Chain.end = refl
   told-all (Chain.step {ns = ns} {rows = rows} len stored told more) =
       up-first (λ i. f (view (ns ++ joined rows) i)) (length rows)
@@ -124,7 +124,7 @@ module _ {A X : Type 0} {size : ℕ} {next : ℕ → ℕ} {row : ℕ → ℕ →
 
   -- so they are whole rows, in order, of xs
   pub told-rows : {at : ℕ} {rows : List (List ℕ)} {xs : List X} → 0 < size → Chain size next row (Tells view f Holds) at rows xs
-      → Rows (joined rows) size (λ i. Holds (view (joined rows) i)) × (upTo (λ i. f (view (joined rows) i)) (length (joined rows) / size) ≡ xs)
+      → Rows (joined rows) size (λ i. Holds (view (joined rows) i)) × (listOf (λ i. f (view (joined rows) i)) (length (joined rows) / size) ≡ xs)
   told-rows {rows = rows} some chain =
       let (whole, many) = whole-rows size (length rows) (length (joined rows)) some (joined-length chain) in
       (record { whole = whole; each = λ i h. told-each chain i (rw many at h) }, rw many (told-all chain))

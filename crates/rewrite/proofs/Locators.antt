@@ -27,7 +27,7 @@ use Rattle.grammar.specs.Stands.{Stands, StandAll}
 use Rattle.grammar.proofs.Bridge.{split, advances}
 use Rattle.grammar.proofs.Locators.{locator-read}
 use Rattle.description.specs.declared.rows.Place.{Place}
-use Rattle.description.specs.Describe.{placeRow, locOf, placeAt}
+use Rattle.description.specs.Describe.{placeRow, placeLoc, placeAt}
 use Rattle.describe.specs.Rows.{locatorNextFrom, locatorStoredFrom, locatorNext, locatorStored}
 use Rattle.roundtrip.specs.Says.{Inside, PlaceSays}
 use Rattle.rewrite.proofs.Filled.{Tells, Chain}
@@ -87,11 +87,11 @@ address-in m at n h e = inr (omega (arith, length-take n (drop at m), length-dro
 
 -- a locator that was read is the place of its numbers
 pub record PlaceIs (m : List ℕ) (p : Place) (loc : Loc) : Type 0 where
-  pub is : locOf m p ≡ loc
+  pub is : placeLoc m p ≡ loc
   pub says : PlaceSays m p
 
 pub placed : {m : List ℕ} {x : Item} (l : Locator) → TextIn m l → LocatorItem x (S.locOf m l) → (rest : List ℕ) → PlaceIs m (placeAt (locatorNumbers l ++ rest) 0) (S.locOf m l)
-unfolding locatorNumbers placeAt locOf S.locOf pick
+unfolding locatorNumbers placeAt placeLoc S.locOf pick
 placed (L.V6 at protocol port) t (LocatorItem.v6 n _ _) rest =
     record { is = refl; says = record { least = lit≤ tt; most = lit≤ tt; content = address-in _ at 16 (lit≤ tt) n } }
 placed (L.V4 at protocol port) t (LocatorItem.v4 n _ _) rest =
@@ -108,7 +108,7 @@ placeOf list i = placeAt list (placeRow * i)
 module _ (s : List ℕ) where
   -- rows of locators
   abbrev pub Locators : ℕ → List (List ℕ) → List Loc → Type 0
-  Locators = Chain placeRow (locatorNext s) (locatorStored s) (Tells placeOf (locOf s) (PlaceSays s))
+  Locators = Chain placeRow (locatorNext s) (locatorStored s) (Tells placeOf (placeLoc s) (PlaceSays s))
 
   -- one row
   locator-row : (p : ℕ) {l : Locator} {size bad : ℕ} (i : ℕ) (list : List ℕ) → locatorAt s p ≡ LocatorRead.Got l size bad

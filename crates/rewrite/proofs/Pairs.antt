@@ -34,7 +34,7 @@ use Rattle.grammar.proofs.Bridge.{split, advances}
 use Rattle.grammar.proofs.Pairs.{pairLevels, pair-read}
 use Rattle.description.specs.declared.rows.Entry.{Entry}
 use Rattle.description.specs.declared.rows.Place.{Place}
-use Rattle.description.specs.Describe.{pairRow, entryRow, entryOf, objOf, entryAt, locOf, placeAt, locOrNone}
+use Rattle.description.specs.Describe.{pairRow, entryRow, entryOf, objOf, entryAt, placeLoc, placeAt, locOrNone}
 use Rattle.describe.specs.Describe.{goalOf}
 use Rattle.describe.specs.Rows as R
 use Rattle.roundtrip.specs.Plain.{valueBytes}
@@ -120,7 +120,7 @@ unfolding tagNumbers placeAt locOrNone pick
 tag-empty m rest = record { is = refl; says = inl (record { kind = refl; at = refl; len = refl; protocol = refl; port = refl }) }
 
 -- a locator of a known kind isn't none
-known : {m : List ℕ} {p : Place} → PlaceSays m p → locOrNone m p ≡ some (locOf m p)
+known : {m : List ℕ} {p : Place} → PlaceSays m p → locOrNone m p ≡ some (placeLoc m p)
 unfolding locOrNone pick
 known {p = p} says = rw (ne-eqb (p .kind) 0 (λ e. omega (arith, says .least)))
 

@@ -127,4 +127,4 @@ module _ {s : List ℕ} (few : length s ≤ mostBytes) (list : List ℕ) (long :
 pub rows-fit : (s list : List ℕ) (m : Message) → Bytes s → readOf s ≡ Reading.Read m → mostNumbers ≤ length list → R.rowsEnd m list ≤ length list
 rows-fit s list m b q long =
     let a = accepted-exactly s b .0 (m, q) in
-    described-fit (a .message .most) list long (accepted-described s m q a)
+    described-fit (a .message .one .most) list long (accepted-described s m q a)

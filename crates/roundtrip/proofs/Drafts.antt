@@ -24,7 +24,7 @@ use Rattle.options.specs.declared.Outcome.the-variants as E
 use Rattle.description.specs.declared.Description.{Description}
 use Rattle.description.specs.declared.Description.the-variants as D
 use Rattle.description.specs.Encoding.{string, numberOrNull, reached, fixed, encodeLoc, encodeObj, maybeObj, locOrEmpty, encodePair, encodeTargets, encodeEnding, opening, exchange, encodeMsg}
-use Rattle.description.specs.Describe.{placeRow, pairRow, entryRow, entryOf, objOf, locOf, placeAt, entryAt, rowLoc, locsOf, targetsOf, extraOf, locOrNone, rowPair, pairsOf, endOf, msgOf}
+use Rattle.description.specs.Describe.{placeRow, pairRow, entryRow, entryOf, objOf, placeLoc, placeAt, entryAt, rowLoc, locsOf, targetsOf, extraOf, locOrNone, rowPair, pairsOf, endOf, msgOf}
 use Rattle.exact.proofs.Bytes.{bytes-append, bytes-more, bytes-none, bytes-of}
 use Rattle.roundtrip.proofs.Script.{info-least}
 use Rattle.roundtrip.proofs.Judged.{bytes-held, up-to-exactly}
@@ -91,8 +91,8 @@ module _ (source : List ℕ) (b : Bytes source) where
   fixed-bytes kind major s p q h = then (then (then (then (array-bytes 4) (number-bytes kind)) (string-bytes major s h)) (number-bytes p)) (number-bytes q)
 
   -- a described locator
-  locator-bytes : (p : Place) → AllBytes (encodeLoc (locOf source p))
-  unfolding locOf encodeLoc reached
+  locator-bytes : (p : Place) → AllBytes (encodeLoc (placeLoc source p))
+  unfolding placeLoc encodeLoc reached
   locator-bytes p =
       both (λ l. AllBytes (encodeLoc l)) (eqb (p .kind) 103) (fixed-bytes 103 2 (p .content) (p .protocol) (p .port) (lit< tt))
       (both (λ l. AllBytes (encodeLoc l)) (eqb (p .kind) 104) (fixed-bytes 104 2 (p .content) (p .protocol) (p .port) (lit< tt))

@@ -2,14 +2,15 @@
 -- Assumes nothing.
 use mathlib.Core.Path.{_≡_}
 use mathlib.Core.Logic.{_↔_}
-use mathlib.Core.List.{List, _++_}
+use mathlib.Core.List.{List}
 use Prim.Native.Nat.{ℕ, _≤_, _<_}
 use native.Mathlib.Omega.{arith}
 use lib.Dec.{ltb}
-use lib.ListN.{length, drop}
+use lib.ListN.{length}
 use borrow.Author.Tests.{ltb-true, ltb-false, lt-ltb, le-ltb}
 use Rattle.base.specs.Pick.{pick}
 use Rattle.base.proofs.Picks.{pick-case}
+use Rattle.cbor.specs.Put.{written}
 use Rattle.writer.specs.declared.Written.{Written}
 use Rattle.writer.specs.Write.{handAnswer, handOut}
 
@@ -22,7 +23,7 @@ hand-not-18 bs out =
     (λ e q. let z : _≡_ {A = ℕ} 0 1 = cc in omega arith)
 
 -- where they fit, they stand in front
-pub handed : (bs out : List ℕ) → length bs ≤ length out → (handAnswer bs out ≡ Written.Length (length bs)) × (handOut bs out ≡ bs ++ drop (length bs) out)
+pub handed : (bs out : List ℕ) → length bs ≤ length out → (handAnswer bs out ≡ Written.Length (length bs)) × (handOut bs out ≡ written bs out)
 unfolding handAnswer handOut pick
 handed bs out h = (rw (le-ltb (length out) (length bs) h), rw (le-ltb (length out) (length bs) h))
 

@@ -17,8 +17,8 @@ use Rattle.base.specs.Pick.{pick}
 use Rattle.base.specs.BigEndian.{Bytes}
 use Rattle.base.specs.Lists.{Every}
 use Rattle.base.proofs.Lists.{every-append}
-use Rattle.base.proofs.Parts.{bytes-drop}
-use Rattle.base.proofs.Picks.{pick-case, both}
+use Rattle.base.proofs.Parts.{bytes-drop, bytes-take}
+use Rattle.base.proofs.Picks.{pick-case, both, pick-same}
 use Rattle.cbor.specs.declared.item.ItemRead.{ItemRead}
 use Rattle.cbor.specs.Item.{firstItem}
 use Rattle.cbor.specs.Tree.{encode}
@@ -33,7 +33,7 @@ use Rattle.options.specs.declared.Outcome.{Outcome}
 use Rattle.options.specs.declared.Outcome.the-variants as E
 use Rattle.description.specs.declared.Description.{Description}
 use Rattle.description.specs.declared.Description.the-variants as D
-use Rattle.description.specs.Describe.{placeRow, pairRow, entryRow, upTo, entryOf, objOf, placeAt, entryAt, rowPair, pairsOf, extraOf, msgOf}
+use Rattle.description.specs.Describe.{placeRow, pairRow, entryRow, listOf, entryOf, objOf, placeAt, entryAt, rowPair, pairsOf, extraOf, msgOf}
 use Rattle.description.specs.Judge.{okDiscovery, okResponse, okFlood, okParts, okList, okDescribed, alone, whole, inside, okValue, okItem, okEntry, okPlace, blank, okNoneOr, allFrom, okEach, okRow, okRows, okPair, okPairs, okExtra, okOutcome}
 use Rattle.roundtrip.specs.Says.{Inside, EntrySays, PlaceSays, Blank, PairSays, Rows, ExtraSays, OutcomeSays, PartsSay}
 use Rattle.roundtrip.proofs.Script.{Each, Valued}
@@ -106,7 +106,7 @@ whole-is bs b = go (firstItem 0 bs) refl
 
     go : (r : ItemRead) → firstItem 0 bs ≡ r → alone (length bs) r ≡ true → Valued bs
     go (ItemRead.Refused number place) q h = absurd (never h)
-    go (ItemRead.Ends e) q h = found e q (eqb-true e (length bs) h)
+    go (ItemRead.Ends e) q h = found e q (eqb-true e (length bs) (sym (pick-same _) ∙ h))
 
 -- and an item is
 value-ok : (bs : List ℕ) → Valued bs → okValue bs ≡ true
@@ -114,7 +114,7 @@ unfolding okValue pick whole alone
 value-ok _ Valued.none = refl
 value-ok _ (Valued.one x g d) =
     let ends : firstItem 0 (encode x) ≡ ItemRead.Ends (length (encode x)) = ap (firstItem 0) (sym (append-nil (encode x))) ∙ item-accepts 0 x [] g d in
-    both (λ r. r ≡ true) (eqb (length (encode x)) 0) refl (rw ends (eq-eqb (length (encode x)) (length (encode x)) refl))
+    both (λ r. r ≡ true) (eqb (length (encode x)) 0) refl (rw (ends, eq-eqb (length (encode x)) (length (encode x)) refl) refl)
 
 -- no bytes are the empty list
 no-bytes : (bs : List ℕ) → length bs ≡ 0 → bs ≡ []
@@ -127,16 +127,9 @@ unfolding okValue
 value-is bs b =
     pick-case (λ r. r ≡ true → Valued bs) (eqb (length bs) 0) (λ e h. subst Valued (sym (no-bytes bs (eqb-true (length bs) 0 e))) Valued.none) (λ e h. whole-is bs b h)
 
--- parts of bytes are bytes
-bytes-front : (n : ℕ) (s : List ℕ) → Bytes s → Bytes (take n s)
-bytes-front zero s b i = lit< tt
-bytes-front (suc n) [] b i = lit< tt
-bytes-front (suc n) (x ∷ s) b zero = b 0
-bytes-front (suc n) (x ∷ s) b (suc i) = bytes-front n s (λ j. b (suc j)) i
-
--- a span's
+-- the bytes of a span are bytes
 pub bytes-held : (source : List ℕ) (s : Span) → Bytes source → Bytes (held source s)
-bytes-held source s b = bytes-front (s .len) (drop (s .at) source) (bytes-drop (s .at) source b)
+bytes-held source s b = bytes-take (s .len) (drop (s .at) source) (bytes-drop (s .at) source b)
 
 -- ---- rows
 -- each of the first n
@@ -164,17 +157,17 @@ each-exactly size ok P f list =
     (λ h. (h .whole, λ i l. rw zero-add (h .each i l)))
 
 -- what holds of each of a list of rows
-pub up-to-exactly : {A : Type 0} (P : A → Type 0) (f : ℕ → A) (n : ℕ) → Every P (upTo f n) ↔ ((i : ℕ) → i < n → P (f i))
-unfolding upTo
+pub up-to-exactly : {A : Type 0} (P : A → Type 0) (f : ℕ → A) (n : ℕ) → Every P (listOf f n) ↔ ((i : ℕ) → i < n → P (f i))
+unfolding listOf
 up-to-exactly P f zero = (λ h i l. absurd (omega arith), λ h. tt)
 up-to-exactly P f (suc n) =
-    let (there, back) = every-append P (upTo f n) (f n ∷ []) in
+    let (there, back) = every-append P (listOf f n) (f n ∷ []) in
     (
       λ e i l. let h = there e in elim (decLt i n) [ yes m ↦ up-to-exactly P f n .0 (h .0) i m | no m ↦ last h i (omega arith) ],
       λ h. back (up-to-exactly P f n .1 (λ i l. h i (omega arith)), (h n (omega arith), tt)),
     )
   where
-    last : Every P (upTo f n) × (P (f n) × Unit {0}) → (i : ℕ) → i ≡ n → P (f i)
+    last : Every P (listOf f n) × (P (f n) × Unit {0}) → (i : ℕ) → i ≡ n → P (f i)
     last h i e = rw e (h .1 .0)
 
 -- five zeros

@@ -15,7 +15,7 @@ use Rattle.roundtrip.proofs.Encodes.{plain-encodes}
 
 -- What was read, encoded again, is what it was.
 pub read-encoded : (s : List ℕ) (a : Accepted s) → encodeMsg (plain (a .message .msg)) ≡ s
-read-encoded s a = sym (plain-encodes (a .message .good) (a .message .is)) ∙ a .message .bytes
+read-encoded s a = sym (plain-encodes (a .message .one .good) (a .message .is)) ∙ a .message .one .bytes
 
 -- So any description that speaks of that message is drafted as the bytes that were read.
 pub read-drafted : (s source list : List ℕ) (d : Description) (a : Accepted s) → msgOf source list d ≡ plain (a .message .msg) → draftOf source list d ≡ s

@@ -13,7 +13,7 @@ use lib.Seq.{take-at, drop-append-add, drop-at}
 use Rattle.options.specs.Text.{held}
 use Rattle.base.specs.Pick.{pick}
 use Rattle.base.specs.BigEndian.{Bytes}
-use Rattle.cbor.specs.Put.{head}
+use Rattle.cbor.specs.Put.{head, written}
 use Rattle.cbor.specs.Tree.{Item, Sized, shortest, headBytes, encode, Good}
 use Rattle.cbor.proofs.HeadExact.{length-head, shortest-right}
 use Rattle.cbor.proofs.PutExact.{shortest-head}
@@ -36,7 +36,7 @@ use Rattle.description.specs.Encoding.{encodeMsg}
 use Rattle.writer.specs.declared.Written.{Written}
 use Rattle.writer.specs.Write.{lowered, passes, passAnswer, passOut, okLower, lowerAnswer, lowerOut}
 use Rattle.roundtrip.specs.Plain.{plain}
-use Rattle.roundtrip.specs.Lower.{withCount, lowerObj, lowerMsg, Lowers, loweredBy, Relays}
+use Rattle.roundtrip.specs.Lower.{withCount, lowerObj, lowerMsg, Lowers, onward, Relays}
 use Rattle.roundtrip.proofs.Hand.{handed}
 use Rattle.roundtrip.proofs.Read.{read-encoded}
 use Rattle.roundtrip.proofs.Counts.{Hole, hole}
@@ -132,12 +132,15 @@ module _ {s : List ℕ} {at end n : ℕ} {msg : Msg Value} (h : Hole s at end n 
     record {
       message =
           record {
-            item = less;
+            one =
+                record {
+                  item = less;
+                  bytes = sym replaced;
+                  most = omega (arith, shorter);
+                  good = less-good;
+                  shallow = h .shallow (shortest (n - 1)) (n - 1);
+                };
             msg = lowerMsg msg;
-            bytes = sym replaced;
-            most = omega (arith, shorter);
-            good = less-good;
-            shallow = h .shallow (shortest (n - 1)) (n - 1);
             is = h .is (shortest (n - 1));
           };
       texts = rw (texts-stay msg) texts;
@@ -180,7 +183,7 @@ relays Lowers.flood (Describes.flood k n i t s a o) (Describes.flood {o = o′} 
 count-hole : (s : List ℕ) (m : Message) (o : Objective) → readOf s ≡ Reading.Read m → Lowers m o → (a : Accepted s)
     → Hole s (o .«count_at») (o .value .at) (o .count) (a .message .msg)
 count-hole s m o q low a =
-    hole low (accepted-described s m q a) (a .message .is) (a .message .good) (a .message .shallow) (a .message .bytes)
+    hole low (accepted-described s m q a) (a .message .is) (a .message .one .good) (a .message .one .shallow) (a .message .one .bytes)
 
 -- a number that is neither
 neither : {n : ℕ} → (n ≡ 1) ⊎ (n ≡ 9) → (n ≡ 1 → ⊥) → (n ≡ 9 → ⊥) → ⊥
@@ -206,39 +209,39 @@ lowers-by (M.Invalid session item) o k e = absurd (neither k (λ e. omega arith)
 
 -- A Discovery or a Flood with its count's head replaced is accepted, as the same message with that count one lower.
 pub lowered-accepts : (s : List ℕ) (m : Message) (o : Objective) → readOf s ≡ Reading.Read m → Lowers m o → (a : Accepted s)
-    → (a′ : Accepted (loweredBy s o)) × (a′ .message .msg ≡ lowerMsg (a .message .msg))
-lowered-accepts s m o q low a = lowered-accepted (count-hole s m o q low a) (a .message .most) (a .texts) (a .names)
+    → (a′ : Accepted (onward s o)) × (a′ .message .msg ≡ lowerMsg (a .message .msg))
+lowered-accepts s m o q low a = lowered-accepted (count-hole s m o q low a) (a .message .one .most) (a .texts) (a .names)
 
 -- It is read, with the kind, the session and the initiator that it had, and a count one lower.
 pub lowered-reads : (s : List ℕ) (m : Message) (o : Objective) → Bytes s → readOf s ≡ Reading.Read m → Lowers m o
-    → (m′ : Message) × (readOf (loweredBy s o) ≡ Reading.Read m′) × Relays s m o (loweredBy s o) m′
+    → (m′ : Message) × (readOf (onward s o) ≡ Reading.Read m′) × Relays s m o (onward s o) m′
 lowered-reads s m o b q low =
     let a = accepted-exactly s b .0 (m, q) in
     let (a′, same) = lowered-accepts s m o q low a in
-    let l = accepted-bytes (loweredBy s o) a′ in
-    let (m′, q′) = accepted-exactly (loweredBy s o) l .1 a′ in
-    (m′, q′, relays low (accepted-described s m q a) (subst (Describes (loweredBy s o) m′) same (accepted-described (loweredBy s o) m′ q′ a′)))
+    let l = accepted-bytes (onward s o) a′ in
+    let (m′, q′) = accepted-exactly (onward s o) l .1 a′ in
+    (m′, q′, relays low (accepted-described s m q a) (subst (Describes (onward s o) m′) same (accepted-described (onward s o) m′ q′ a′)))
 
 -- It isn't longer.
-pub lowered-shorter : (s : List ℕ) (m : Message) (o : Objective) → Bytes s → readOf s ≡ Reading.Read m → Lowers m o → length (loweredBy s o) ≤ length s
+pub lowered-shorter : (s : List ℕ) (m : Message) (o : Objective) → Bytes s → readOf s ≡ Reading.Read m → Lowers m o → length (onward s o) ≤ length s
 lowered-shorter s m o b q low = shorter (count-hole s m o q low (accepted-exactly s b .0 (m, q)))
 
 -- It is what the writer writes for that message.
 pub lowered-written : (s : List ℕ) (m : Message) (o : Objective) → readOf s ≡ Reading.Read m → Lowers m o → (a : Accepted s)
-    → loweredBy s o ≡ encodeMsg (plain (lowerMsg (a .message .msg)))
+    → onward s o ≡ encodeMsg (plain (lowerMsg (a .message .msg)))
 lowered-written s m o q low a =
     let (a′, same) = lowered-accepts s m o q low a in
-    sym (read-encoded (loweredBy s o) a′) ∙ ap (λ (msg : Msg Value). encodeMsg (plain msg)) same
+    sym (read-encoded (onward s o) a′) ∙ ap (λ (msg : Msg Value). encodeMsg (plain msg)) same
 
 -- So `lower` gives it, where the count is above 0 and the output has room for the message.
 pub lowered-given : (s : List ℕ) (m : Message) (o : Objective) (out : List ℕ) → Bytes s → readOf s ≡ Reading.Read m → Lowers m o → 1 ≤ o .count → length s ≤ length out
-    → (lowerAnswer s (o .«count_at») (o .value .at) (o .count) out ≡ Written.Length (length (loweredBy s o)))
-    × (lowerOut s (o .«count_at») (o .value .at) (o .count) out ≡ loweredBy s o ++ drop (length (loweredBy s o)) out)
+    → (lowerAnswer s (o .«count_at») (o .value .at) (o .count) out ≡ Written.Length (length (onward s o)))
+    × (lowerOut s (o .«count_at») (o .value .at) (o .count) out ≡ written (onward s o) out)
 unfolding lowerAnswer lowerOut okLower passAnswer passOut passes pick
 lowered-given s m o out b q low some room =
     let a = accepted-exactly s b .0 (m, q) in
     let (lo, hi) = within (count-hole s m o q low a) in
-    let less : length (loweredBy s o) ≤ length s = lowered-shorter s m o b q low in
-    let few : length (loweredBy s o) ≤ mostBytes = omega (arith, a .message .most) in
-    rw (ne-eqb (o .count) 0 (λ e. omega arith), le-ltb (o .value .at) (o .«count_at») lo, le-ltb (length s) (o .value .at) hi, le-ltb mostBytes (length (loweredBy s o)) few)
-    (handed (loweredBy s o) out (omega arith))
+    let less : length (onward s o) ≤ length s = lowered-shorter s m o b q low in
+    let few : length (onward s o) ≤ mostBytes = omega (arith, a .message .one .most) in
+    rw (ne-eqb (o .count) 0 (λ e. omega arith), le-ltb (o .value .at) (o .«count_at») lo, le-ltb (length s) (o .value .at) hi, le-ltb mostBytes (length (onward s o)) few)
+    (handed (onward s o) out (omega arith))

@@ -67,8 +67,8 @@ module _ (source list : List ℕ) (d : Description) (b : Bytes source) where
   unfolding draftOf
   drafted ok a =
       message-once (plain-small (a .message .is))
-      (plain-valued (a .message .good) (a .message .shallow) (a .message .is)) (described-exactly source list d .0 b ok .1)
-      (rw (read-encoded _ a) (a .message .most)) (read-encoded _ a)
+      (plain-valued (a .message .one .good) (a .message .one .shallow) (a .message .is)) (described-exactly source list d .0 b ok .1)
+      (rw (read-encoded _ a) (a .message .one .most)) (read-encoded _ a)
 
   -- one that passes the tests is
   passes-back : Passes source list d → ReadsBack source list d (draftOf source list d)
@@ -94,11 +94,11 @@ says-passes : {s : List ℕ} (source list : List ℕ) (d : Description) (a : Acc
 unfolding accepts
 says-passes {s} source list d a h =
     let same : draftOf source list d ≡ s = read-drafted s source list d a (h .is) in
-    let values : ValuedMsg (msgOf source list d) = subst ValuedMsg (sym (h .is)) (plain-valued (a .message .good) (a .message .shallow) (a .message .is)) in
+    let values : ValuedMsg (msgOf source list d) = subst ValuedMsg (sym (h .is)) (plain-valued (a .message .one .good) (a .message .one .shallow) (a .message .is)) in
     let (m, q) = accepted-exactly s (accepted-bytes s a) .1 a in
     record {
       described = described-exactly source list d .1 (h .parts, values);
-      few = rw same (a .message .most);
+      few = rw same (a .message .one .most);
       read = rw (same, q);
     }
 

@@ -40,9 +40,9 @@ pub data Lowers : Message → Objective → Type 0 where
   discovery : {session : ℕ} {i : Span} {o : Objective} → Lowers (M.Discovery session i o) o
   flood : {session ttl : ℕ} {i : Span} {o : Objective} {series : Series} → Lowers (M.Flood session i ttl o series) o
 
--- the bytes with that count's head replaced by the shortest of one less
-abbrev pub loweredBy : List ℕ → Objective → List ℕ
-loweredBy s o = lowered s (o .«count_at») (o .value .at) (o .count)
+-- the message as it is relayed: that count's head is replaced by the shortest head of one less
+abbrev pub onward : List ℕ → Objective → List ℕ
+onward s o = lowered s (o .«count_at») (o .value .at) (o .count)
 
 -- m′, read of l, is of the kind, the session and the initiator of m, read of s, and its count is one lower
 pub record Relays (s : List ℕ) (m : Message) (o : Objective) (l : List ℕ) (m′ : Message) : Type 0 where

@@ -11,17 +11,18 @@ use borrow.Author.Tests.{ltb-true, ltb-false, eqb-true, eqb-false}
 use lib.Dec.{ltb, eqb}
 use lib.ListN.{length}
 use Rattle.base.specs.Pick.{pick}
+use Rattle.base.specs.Lists.{Every}
 use Rattle.base.proofs.Picks.{pick-case, past}
-use Rattle.utf8.specs.Utf8.{tailsOf, leastTail, greatestTail, goesOn, isUtf8, scalarBytes, textBytes, Scalars}
+use Rattle.utf8.specs.Utf8.{tailsOf, leastTail, greatestTail, goesOn, isUtf8, Scalar, scalarBytes, textBytes}
 use Rattle.utf8.proofs.Utf8Scalar.{tails-case, passed, Spells, spells-one, spells-two, spells-three, spells-four, firstOf, first-is, some-bytes}
 
 -- s is the bytes of some text
 abbrev Text : List ℕ → Type 0
-Text s = (cs : List ℕ) × Scalars cs × (textBytes cs ≡ s)
+Text s = (cs : List ℕ) × Every Scalar cs × (textBytes cs ≡ s)
 
 -- one scalar value more
 put : (h s : List ℕ) → Spells h → Text s → Text (h ++ s)
-unfolding textBytes Scalars
+unfolding textBytes
 put h s (c, g, e) (cs, gs, es) = (c ∷ cs, (g, gs), cc)
 
 -- so many tails, the first from low to high, and then a text
@@ -61,7 +62,7 @@ begun b low high s rest = pick-case (λ x. x ≡ true → Text (b ∷ s)) (ltb b
 
 -- what is accepted in a state is what the state asks for
 accepted : (s : List ℕ) (due low high : ℕ) → goesOn due low high s ≡ true → Rest due low high s
-unfolding goesOn Scalars textBytes
+unfolding goesOn textBytes
 accepted [] zero low high e = ([], tt, refl)
 accepted [] (suc due) low high e = absurd (omega (arith, eqb-true (suc due) 0 e))
 accepted (b ∷ s) zero low high e = begun b low high s (accepted s) e
@@ -70,15 +71,15 @@ accepted (b ∷ s) (suc due) low high e =
     let q = past (ltb high b) (p .1) false≢true in
     (ltb-false b low (p .0), ltb-false high b (q .0), accepted s due 0x80 0xBF (q .1))
 
-complete : (cs : List ℕ) → Scalars cs → isUtf8 (textBytes cs) ≡ true
-unfolding isUtf8 textBytes Scalars goesOn
+complete : (cs : List ℕ) → Every Scalar cs → isUtf8 (textBytes cs) ≡ true
+unfolding isUtf8 textBytes goesOn
 complete [] g = refl
 complete (c ∷ cs) g = passed c (textBytes cs) (g .0) ∙ complete cs (g .1)
 
 -- for readers
 
 -- What is accepted is just the bytes of texts, lists of scalar values,
-pub utf8-exactly : (s : List ℕ) → isUtf8 s ≡ true ↔ (cs : List ℕ) × Scalars cs × (textBytes cs ≡ s)
+pub utf8-exactly : (s : List ℕ) → isUtf8 s ≡ true ↔ (cs : List ℕ) × Every Scalar cs × (textBytes cs ≡ s)
 unfolding isUtf8
 utf8-exactly s = (accepted s 0 0x80 0xBF, λ (cs, g, e). ap isUtf8 (sym e) ∙ complete cs g)
 

@@ -46,8 +46,3 @@ scalarBytes c =
 unfoldable pub textBytes : List ℕ → List ℕ
 textBytes [] = []
 textBytes (c ∷ cs) = scalarBytes c ++ textBytes cs
-
--- A text: each of cs is a scalar value (RFC 3629, section 3).
-unfoldable pub Scalars : List ℕ → Type 0
-Scalars [] = Unit
-Scalars (c ∷ cs) = Scalar c × Scalars cs

@@ -27,6 +27,7 @@ use Rattle.message.specs.Shape.{noopAt, discovered, discoveryAt, optionAt, endA
 use Rattle.message.specs.Flood.{floodedBy, floodedOf, floodedAt, floodBy, floodAt}
 use Rattle.message.specs.Read.{byKind, judged, shaped, framed, examined, placeless, readOf}
 use Rattle.writer.specs.Write.{lowered}
+use Rattle.writer.specs.Edges.{initiator, name, discoveryBytes, floodBytes, endBytes}
 use Rattle.names.specs.Names.{goodName, goodNames, arrayBad, framedBad, namesBad, sameBytes, ownFrom, isOwn}
 use Rattle.node_state.specs.declared.Record.{Record}
 use Rattle.node.specs.declared.Verdict.the-variants.{Duplicate, Relay}
@@ -36,48 +37,8 @@ use Rattle.node_state.specs.Table.{freshTable, cell, putRow, rowFree, tagIn, in
 use Rattle.node_state.specs.Key.{tagOf, keyOf}
 use Rattle.node.specs.Role.{roleOf, keyIn}
 use Rattle.node.specs.History.{Event, call, steps}
-use Rattle.node.specs.Call.{callOf, After, afterOf, barred, replies, refuse, quiet, written, onward, laterVerdict, verdictOn, relayed, carriedOut, taken, judged as callJudged, nodeCall}
-
--- ---- the messages
-
-abbrev pub initiator : List ℕ
-initiator = 192 ∷ 0 ∷ 2 ∷ 1 ∷ []
-
--- "EX1"
-abbrev pub name : List ℕ
-name = 0x45 ∷ 0x58 ∷ 0x31 ∷ []
-
-abbrev pub discovery : ℕ → List ℕ
-discovery count = 0x84 ∷ 0x01 ∷ 0x07 ∷ 0x44 ∷ 0xc0 ∷ 0x00 ∷ 0x02 ∷ 0x01 ∷ 0x83 ∷ 0x63 ∷ 0x45 ∷ 0x58 ∷ 0x31 ∷ 0x01 ∷ count ∷ []
-
-abbrev pub flood : ℕ → List ℕ
-flood count = 0x85 ∷ 0x09 ∷ 0x07 ∷ 0x44 ∷ 0xc0 ∷ 0x00 ∷ 0x02 ∷ 0x01 ∷ 0x19 ∷ 0x03 ∷ 0xe8 ∷ 0x82 ∷ 0x83 ∷ 0x63 ∷ 0x45 ∷ 0x58 ∷ 0x31 ∷ 0x04 ∷ count ∷ 0x80 ∷ []
-
--- an objective: where its name of 3 bytes stands, its flags, its count, where the count stands, and no value after it
-abbrev pub objective : ℕ → ℕ → ℕ → ℕ → Objective
-objective at flags count place = record { name = spanOf at 3; flags = flags; count = count; «count_at» = place; value = spanOf (place + 1) 0 }
-
--- ---- the node
-
--- 2001:db8::1
-abbrev pub home : List ℕ
-home = 0x20 ∷ 0x01 ∷ 0x0d ∷ 0xb8 ∷ 0 ∷ 0 ∷ 0 ∷ 0 ∷ 0 ∷ 0 ∷ 0 ∷ 0 ∷ 0 ∷ 0 ∷ 0 ∷ 1 ∷ []
-
--- its record after some calls: 3 interfaces all up, port 7017, ttl 60,000
-abbrev pub node : ℕ → ℕ → Record
-node clock tally = record { address = home; port = 7017; ttl = 60000; interfaces = 3; links = 7; clock = clock; tally = tally }
-
--- a message on interface 0, with no own names and an output of 2,048 zeros
-abbrev pub arrives : ℕ → List ℕ → Event
-arrives clock message = call (callOf clock 0 (0x80 ∷ []) message (replicate 2048 0))
-
--- a table with row 0 filled, and the others free
-abbrev pub oneRow : ℕ → ℕ → ℕ → ℕ → List ℕ
-oneRow first second third clock = first ∷ second ∷ third ∷ clock ∷ replicate 252 0
-
--- what came of each node call of a list from a fresh node
-abbrev pub outcomes : List Event → List After
-outcomes events = map (λ x. x .after) (steps (fresh home 7017 60000 3 7 .node) freshTable events)
+use Rattle.node.specs.Call.{callOf, After, afterOf, barred, replies, refuse, quiet, laterVerdict, verdictOn, relayed, carriedOut, taken, received, nodeCall}
+use Rattle.verdicts.specs.Edges.{objective, node, arrives, oneRow, outcomes}
 
 -- for readers
 
@@ -93,20 +54,20 @@ pub starred :
     × (readOf (0x80 ∷ []) ≡ Reading.Refused 9)
     × (readOf (0x82 ∷ 0x00 ∷ 0x07 ∷ []) ≡ Reading.Refused 9)
     × (readOf (0x81 ∷ 0x00 ∷ []) ≡ Reading.Read M.Noop)
-    × (readOf (0x83 ∷ 0x06 ∷ 0x07 ∷ 0x81 ∷ 0x18 ∷ 0x65 ∷ []) ≡ Reading.Read (M.End 7 Outcome.Accept))
-    × (readOf (discovery 2) ≡ Reading.Read (M.Discovery 7 (spanOf 4 4) (objective 10 1 2 14)))
-    × (held (discovery 2) (spanOf 4 4) ≡ initiator)
-    × (held (discovery 2) (spanOf 10 3) ≡ name)
-    × (readOf (flood 2) ≡ Reading.Read (M.Flood 7 (spanOf 4 4) 1000 (objective 14 4 2 18) (record { at = 11; many = 1 })))
-    × (held (flood 2) (spanOf 4 4) ≡ initiator)
-    × (held (flood 2) (spanOf 14 3) ≡ name)
-    × (outcomes (arrives 1000 (discovery 2) ∷ arrives 1000 (discovery 2) ∷ arrives 60999 (discovery 2) ∷ arrives 61000 (discovery 2) ∷ [])
-    ≡ afterOf (replies (Given Relay false 6 15) (node 1000 2)) (oneRow (7 + 2 ^ 32) 0xc0000201 0 1000) (discovery 1 ++ replicate 2033 0)
+    × (readOf endBytes ≡ Reading.Read (M.End 7 Outcome.Accept))
+    × (readOf (discoveryBytes (2 ∷ [])) ≡ Reading.Read (M.Discovery 7 (spanOf 4 4) (objective 10 1 2 14)))
+    × (held (discoveryBytes (2 ∷ [])) (spanOf 4 4) ≡ initiator)
+    × (held (discoveryBytes (2 ∷ [])) (spanOf 10 3) ≡ name)
+    × (readOf (floodBytes 2) ≡ Reading.Read (M.Flood 7 (spanOf 4 4) 1000 (objective 14 4 2 18) (record { at = 11; many = 1 })))
+    × (held (floodBytes 2) (spanOf 4 4) ≡ initiator)
+    × (held (floodBytes 2) (spanOf 14 3) ≡ name)
+    × (outcomes (arrives 1000 (discoveryBytes (2 ∷ [])) ∷ arrives 1000 (discoveryBytes (2 ∷ [])) ∷ arrives 60999 (discoveryBytes (2 ∷ [])) ∷ arrives 61000 (discoveryBytes (2 ∷ [])) ∷ [])
+    ≡ afterOf (replies (Given Relay false 6 15) (node 1000 2)) (oneRow (7 + 2 ^ 32) 0xc0000201 0 1000) (discoveryBytes (1 ∷ []) ++ replicate 2033 0)
     ∷ afterOf (replies (Given Duplicate false 0 0) (node 1000 2)) (oneRow (7 + 2 ^ 32) 0xc0000201 0 1000) (replicate 2048 0)
     ∷ afterOf (replies (Given Duplicate false 0 0) (node 60999 2)) (oneRow (7 + 2 ^ 32) 0xc0000201 0 1000) (replicate 2048 0)
-    ∷ afterOf (replies (Given Relay false 6 15) (node 61000 4)) (oneRow (7 + 2 ^ 32) 0xc0000201 0 61000) (discovery 1 ++ replicate 2033 0)
+    ∷ afterOf (replies (Given Relay false 6 15) (node 61000 4)) (oneRow (7 + 2 ^ 32) 0xc0000201 0 61000) (discoveryBytes (1 ∷ []) ++ replicate 2033 0)
     ∷ [])
-    × (outcomes (arrives 1000 (flood 2) ∷ [])
-    ≡ afterOf (replies (Given Relay true 6 20) (node 1000 2)) (oneRow (7 + 2 ^ 32 * 3) 0xc0000201 0 1000) (flood 1 ++ replicate 2028 0) ∷ [])
-unfolding pick bigEndian bytesOf widthOf leastOf initialOf argOf headJudged headFrom headBy headOf headAt opens stepOf stepFrom stepAt itemsOf next run enough firstItem nothingAt tokenOf tokenFrom tokenAt sizeFrom sizeAt itemsIn upTo tailsOf leastTail greatestTail goesOn isUtf8 infoOf headBytes shortest head badText firstOf longName objectiveOf objectiveIn isEmpty pairTagged pairTail pairLed pairIn isInitiator openingAt pairNext pairsFrom noopAt discovered discoveryAt optionAt endAt floodedBy floodedOf floodedAt floodBy floodAt byKind judged shaped framed examined placeless readOf lowered goodName goodNames arrayBad framedBad namesBad sameBytes ownFrom isOwn linksBad recordBad fresh isUp arrivalBad others clocked tallied freshTable cell putRow rowFree tagIn initiatorFits rowKeyed rowUsed rowBad firstFrom someRow tableBad rowLife rowDead freeRows freed lowestFree rowMatches isKnown roleOf tagOf keyOf keyIn barred refuse quiet written onward laterVerdict verdictOn relayed carriedOut taken callJudged nodeCall steps ones onesIn
+    × (outcomes (arrives 1000 (floodBytes 2) ∷ [])
+    ≡ afterOf (replies (Given Relay true 6 20) (node 1000 2)) (oneRow (7 + 2 ^ 32 * 3) 0xc0000201 0 1000) (floodBytes 1 ++ replicate 2028 0) ∷ [])
+unfolding pick bigEndian bytesOf widthOf leastOf initialOf argOf headJudged headFrom headBy headOf headAt opens stepOf stepFrom stepAt itemsOf next run enough firstItem nothingAt tokenOf tokenFrom tokenAt sizeFrom sizeAt itemsIn upTo tailsOf leastTail greatestTail goesOn isUtf8 infoOf headBytes shortest head badText firstOf longName objectiveOf objectiveIn isEmpty pairTagged pairTail pairLed pairIn isInitiator openingAt pairNext pairsFrom noopAt discovered discoveryAt optionAt endAt floodedBy floodedOf floodedAt floodBy floodAt byKind judged shaped framed examined placeless readOf lowered goodName goodNames arrayBad framedBad namesBad sameBytes ownFrom isOwn linksBad recordBad fresh isUp arrivalBad others clocked tallied freshTable cell putRow rowFree tagIn initiatorFits rowKeyed rowUsed rowBad firstFrom someRow tableBad rowLife rowDead freeRows freed lowestFree rowMatches isKnown roleOf tagOf keyOf keyIn barred refuse quiet laterVerdict verdictOn relayed carriedOut taken received nodeCall steps ones onesIn
 starred = (refl, refl, refl, refl, refl, refl, refl, refl, refl, refl, refl, refl, refl, refl, refl, refl, refl, refl, refl)

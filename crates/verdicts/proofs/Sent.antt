@@ -23,7 +23,8 @@ use Rattle.node.specs.declared.role.Role.{Role}
 use Rattle.node_state.specs.Record.{others, clocked}
 use Rattle.node_state.specs.Table.{freed, lowestFree}
 use Rattle.node.specs.Role.{RoleIn, keyIn}
-use Rattle.node.specs.Call.{Call, After, afterOf, replies, refuse, quiet, onward, response, answered, relayed, nodeCall}
+use Rattle.roundtrip.specs.Lower.{onward}
+use Rattle.node.specs.Call.{Call, After, afterOf, replies, refuse, quiet, response, answered, relayed, nodeCall}
 use Rattle.node.specs.History.{isRelay, saysRelay}
 use Rattle.node.proofs.Outcomes.{arrives}
 use Rattle.history.proofs.Calls.{Relays, View, stayed, ended, went, view}

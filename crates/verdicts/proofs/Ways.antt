@@ -32,7 +32,7 @@ use Rattle.node_state.specs.Record.{others, clocked}
 use Rattle.node_state.specs.Table.{freed, lowestFree, isKnown}
 use Rattle.node_state.specs.Key.{keyOf}
 use Rattle.node.specs.Role.{spreadOf, roleOf, keyIn}
-use Rattle.node.specs.Call.{Call, After, refuse, quiet, answered, relayed, laterVerdict, verdictOn, carriedOut, taken, judged, nodeCall, Passed}
+use Rattle.node.specs.Call.{Call, After, refuse, quiet, answered, relayed, laterVerdict, verdictOn, carriedOut, taken, received, nodeCall, Passed}
 use Rattle.node.specs.History.{isRelay}
 use Rattle.node_state.proofs.Keys.{key-used}
 use Rattle.node.proofs.Outcomes.{passed, arrives}
@@ -329,17 +329,17 @@ module _ (r : Record) (t : List ℕ) (c : Call) where
   unfolding nodeCall pick
   call-barred n e some = rw (e, ne-eqb n 0 some) refl
 
-  call-open : bar r t c ≡ 0 → nodeCall r t c ≡ judged r t c (readOf (c .message))
+  call-open : bar r t c ≡ 0 → nodeCall r t c ≡ received r t c (readOf (c .message))
   unfolding nodeCall pick
   call-open e = rw e refl
 
   call-unread : (n : ℕ) → bar r t c ≡ 0 → readOf (c .message) ≡ Reading.Refused n → nodeCall r t c ≡ refuse n r t c
-  unfolding judged
-  call-unread n e read = call-open e ∙ ap (judged r t c) read
+  unfolding received
+  call-unread n e read = call-open e ∙ ap (received r t c) read
 
   pub call-read : (m : Message) → bar r t c ≡ 0 → readOf (c .message) ≡ Reading.Read m → nodeCall r t c ≡ taken (clocked r (c .clock)) (freed (c .clock) t) c (roleOf m)
-  unfolding judged
-  call-read m e read = call-open e ∙ ap (judged r t c) read
+  unfolding received
+  call-read m e read = call-open e ∙ ap (received r t c) read
 
   pub comes : Comes r t c (nodeCall r t c)
   comes = go (ℕ-discrete (bar r t c) 0) (readOf (c .message)) refl

@@ -15,7 +15,9 @@ use Rattle.node.specs.declared.role.Spread.{Spread}
 use Rattle.node_state.specs.Record.{isUp, clocked, tallied}
 use Rattle.node_state.specs.Table.{cell, freed}
 use Rattle.node.specs.Role.{spreadOf, keyIn}
-use Rattle.node.specs.Call.{Call, After, afterOf, replies, written, onward, response}
+use Rattle.cbor.specs.Put.{written}
+use Rattle.roundtrip.specs.Lower.{onward}
+use Rattle.node.specs.Call.{Call, After, afterOf, replies, response}
 use Rattle.verdicts.specs.Rows.{Free, HasKey, SameRow}
 
 -- RELAY of s, which was read of the message, with the reply's mask and length, and what is after the call

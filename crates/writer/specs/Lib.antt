@@ -1,2 +1,3 @@
--- `Write`: what the writer answers.
+-- `Write`: what the writer answers. `Edges`: the rules' messages at the edges.
 pub mod Write
+pub mod Edges

@@ -7,7 +7,7 @@ use mathlib.Core.Option.{none}
 use lib.ListN.{length, take, drop}
 use lib.Dec.{ltb, eqb}
 use Rattle.base.specs.Pick.{pick}
-use Rattle.cbor.specs.Put.{head}
+use Rattle.cbor.specs.Put.{head, written}
 use Rattle.message.specs.declared.Reading.{Reading}
 use Rattle.message.specs.Read.{mostBytes, readOf}
 use Rattle.description.specs.declared.Description.{Description}
@@ -22,7 +22,7 @@ unfoldable pub handAnswer : List ℕ → List ℕ → Written
 handAnswer bs out = pick (ltb (length out) (length bs)) (Written.Refused 19) (Written.Length (length bs))
 
 unfoldable pub handOut : List ℕ → List ℕ → List ℕ
-handOut bs out = pick (ltb (length out) (length bs)) out (bs ++ drop (length bs) out)
+handOut bs out = pick (ltb (length out) (length bs)) out (written bs out)
 
 -- bytes that a test lets pass: 18 where it doesn't, or where they are over 2,048
 unfoldable pub passes : Bool → List ℕ → Bool

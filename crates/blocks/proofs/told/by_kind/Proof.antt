@@ -1,6 +1,6 @@
 -- `blocks::told::by_kind` meets its contract.
 -- Assumes nothing.
-use Rattle.blocks.specs.Told.{byKind}
+use Rattle.blocks.specs.Told.{toldKind}
 use Rattle.base.specs.Pick.{pick}
 use borrow.Author.Tests.{eq-eqb, ne-eqb}
 use borrow.Author.Needs.{needs}
@@ -21,7 +21,7 @@ element-copy-out-kind c = search needs
 
 -- src/told.rt:62:9
 returns : tie.Need-returns
-unfolding byKind pick
+unfolding toldKind pick
 returns c =
     rw (eq-eqb _ _ (c .if1 .taken))
 
@@ -31,7 +31,7 @@ told-response-requires c κs = search needs
 
 -- src/told.rt:65:9
 returns-2 : tie.Need-returns-2
-unfolding byKind pick
+unfolding toldKind pick
 returns-2 c =
     rw (ne-eqb _ _ (c .before .before .if1 .left), eq-eqb _ _ (c .before .if2 .taken), ← c .told-response .ensures)
 
@@ -41,13 +41,13 @@ told-end-requires c κs = search needs
 
 -- src/told.rt:68:9
 returns-3 : tie.Need-returns-3
-unfolding byKind pick
+unfolding toldKind pick
 returns-3 c =
     rw (ne-eqb _ _ (c .before .before .before .if1 .left), ne-eqb _ _ (c .before .before .if2 .left), eq-eqb _ _ (c .before .if3 .taken), ← c .told-end .ensures)
 
 -- src/told.rt:71:9
 returns-4 : tie.Need-returns-4
-unfolding byKind pick
+unfolding toldKind pick
 returns-4 c =
     rw (ne-eqb _ _ (c .before .before .before .if1 .left), ne-eqb _ _ (c .before .before .if2 .left), ne-eqb _ _ (c .before .if3 .left), eq-eqb _ _ (c .if4 .taken))
 
@@ -57,7 +57,7 @@ told-flood-requires c κs = search needs
 
 -- src/told.rt:77:9
 returns-5 : tie.Need-returns-5
-unfolding byKind pick
+unfolding toldKind pick
 returns-5 c =
     rw (ne-eqb _ _ (c .before .before .before .before .before .if1 .left), ne-eqb _ _ (c .before .before .before .before .if2 .left), ne-eqb _ _ (c .before .before .before .if3 .left), ne-eqb _ _ (c .before .before .if4 .left), eq-eqb _ _ (c .before .if5 .taken), ← c .told-flood .ensures)
 
@@ -75,7 +75,7 @@ span-requires c κs = search needs
 
 -- src/told.rt:80:9
 returns-6 : tie.Need-returns-6
-unfolding byKind pick
+unfolding toldKind pick
 returns-6 c =
     rw (ne-eqb _ _ (c .before .before .before .before .before .before .before .before .if1 .left), ne-eqb _ _ (c .before .before .before .before .before .before .before .if2 .left), ne-eqb _ _ (c .before .before .before .before .before .before .if3 .left), ne-eqb _ _ (c .before .before .before .before .before .if4 .left), ne-eqb _ _ (c .before .before .before .before .if5 .left), eq-eqb _ _ (c .before .before .before .if6 .taken), ← c .span .ensures)
 
@@ -85,7 +85,7 @@ element-copy-out-if7 c = search needs
 
 -- src/told.rt:86:9
 returns-7 : tie.Need-returns-7
-unfolding byKind pick
+unfolding toldKind pick
 returns-7 c =
     rw (ne-eqb _ _ (c .before .before .before .before .before .before .before .if1 .left), ne-eqb _ _ (c .before .before .before .before .before .before .if2 .left), ne-eqb _ _ (c .before .before .before .before .before .if3 .left), ne-eqb _ _ (c .before .before .before .before .if4 .left), ne-eqb _ _ (c .before .before .before .if5 .left), ne-eqb _ _ (c .before .before .if6 .left), ne-eqb _ _ (c .if7 .taken))
 
@@ -111,7 +111,7 @@ told-objective-requires c κs = search needs
 
 -- src/told.rt:57:1
 returns-8 : tie.Need-returns-8
-unfolding byKind pick
+unfolding toldKind pick
 returns-8 c =
     rw (ne-eqb _ _ (c .before .before .before .before .before .before .before .before .before .before .before .before .if1 .left), ne-eqb _ _ (c .before .before .before .before .before .before .before .before .before .before .before .if2 .left), ne-eqb _ _ (c .before .before .before .before .before .before .before .before .before .before .if3 .left), ne-eqb _ _ (c .before .before .before .before .before .before .before .before .before .if4 .left), ne-eqb _ _ (c .before .before .before .before .before .before .before .before .if5 .left), ne-eqb _ _ (c .before .before .before .before .before .before .before .if6 .left), eq-eqb _ _ (c .before .before .before .before .before .if7 .left), ← c .before .before .span2 .ensures, ← c .before .goal .ensures, ← c .told-objective .ensures)
 

@@ -1,6 +1,6 @@
 -- `blocks::told::goal` meets its contract.
 -- Assumes nothing.
-use Rattle.blocks.specs.Told.{goalOf}
+use Rattle.blocks.specs.Told.{toldGoal}
 use borrow.Author.Needs.{needs}
 use Rattle.blocks.proofs.told.goal.Statement.{statement}
 use Rattle.blocks.proofs.told.goal.Tie as tie
@@ -34,7 +34,7 @@ span-requires-2 c κs = search needs
 
 -- src/told.rt:270:1
 returns : tie.Need-returns
-unfolding goalOf
+unfolding toldGoal
 returns c =
     rw (← c .before .before .before .span .ensures, ← c .span2 .ensures)
 

@@ -1,6 +1,6 @@
 -- `blocks::told::response` meets its contract.
 -- Assumes nothing.
-use Rattle.blocks.specs.Told.{responseBy}
+use Rattle.blocks.specs.Told.{toldTargets}
 use Rattle.base.specs.Pick.{pick}
 use borrow.Author.Tests.{eq-eqb, ne-eqb}
 use Rattle.blocks.proofs.told.response.Statement.{statement}
@@ -10,19 +10,19 @@ use Rattle.blocks.proofs.told.response.Lts as lts
 
 -- src/told.rt:202:9
 returns : tie.Need-returns
-unfolding responseBy pick
+unfolding toldTargets pick
 returns c =
     rw (eq-eqb _ _ (c .if1 .taken))
 
 -- src/told.rt:211:9
 returns-2 : tie.Need-returns-2
-unfolding responseBy pick
+unfolding toldTargets pick
 returns-2 c =
     rw (ne-eqb _ _ (c .before .if1 .left), eq-eqb _ _ (c .if2 .taken))
 
 -- src/told.rt:196:1
 returns-3 : tie.Need-returns-3
-unfolding responseBy pick
+unfolding toldTargets pick
 returns-3 c =
     rw (ne-eqb _ _ (c .before .if1 .left), ne-eqb _ _ (c .if2 .left))
 

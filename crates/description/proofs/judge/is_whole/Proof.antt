@@ -2,6 +2,8 @@
 -- Assumes nothing.
 use Rattle.description.specs.Judge.{whole, alone}
 use borrow.Author.Needs.{needs}
+use mathlib.Core.Path.{sym}
+use Rattle.base.proofs.Picks.{pick-same}
 use Rattle.description.proofs.judge.is_whole.Statement.{statement}
 use Rattle.description.proofs.judge.is_whole.Tie as tie
 use Rattle.description.proofs.judge.is_whole.Reads as reads
@@ -28,7 +30,7 @@ returns c = rw (← (c .before .before .first .ensures), (c .enum-told .given .1
 -- src/judge.rt:280:1
 returns-2 : tie.Need-returns-2
 unfolding whole alone
-returns-2 c = rw (← (c .before .before .before .first .ensures), (c .before .read .given .1))
+returns-2 c = rw (← (c .before .before .before .first .ensures), (c .before .read .given .1)) (sym (pick-same _))
 
 pub is-whole-spec : {M : Type 1} → statement M
 is-whole-spec = tie.close (tie.spec first-requires enum-told enum-known-read returns returns-2)

@@ -1,6 +1,6 @@
 -- `node::spread::put_onward` meets its contract.
 -- Assumes nothing.
-use Rattle.node.specs.Call.{onward}
+use Rattle.roundtrip.specs.Lower.{onward}
 use Rattle.node.proofs.Sends.{onward-given}
 use Rattle.node.proofs.Outcomes.{sent-length, sent-never}
 use borrow.Author.Needs.{needs}

@@ -1,2 +1,0 @@
--- `Fields`: the loop over a block's places.
-mod Fields
