@@ -10,7 +10,7 @@ use std::env::args;
 use std::hint::black_box;
 use std::process::ExitCode;
 
-use measure::{medians, Call, ROUNDS};
+use measure::{calls, medians, Calls, ROUNDS};
 use messages::{From, MANY_PAIRS};
 use nodes::{Case, EX1, EX2};
 use second::node::Verdict;
@@ -21,8 +21,8 @@ type Fault = String;
 
 fn main() -> ExitCode {
     let words: Vec<usize> = args().filter_map(|word| word.parse().ok()).collect();
-    if let [rows, stage, calls] = words[..] {
-        return repeated(rows, stage, calls);
+    if let [rows, stage, many] = words[..] {
+        return repeated(rows, stage, many as u32);
     }
     println!("ns per call (ratio to the first number of the row), median of {ROUNDS} interleaved rounds, warm;");
     println!("no block or other buffer is cleared before a call.");
@@ -45,11 +45,9 @@ fn main() -> ExitCode {
 }
 
 /// One stage of a node call so many times, for a tool that counts instructions.
-fn repeated(rows: usize, stage: usize, calls: usize) -> ExitCode {
+fn repeated(rows: usize, stage: usize, many: u32) -> ExitCode {
     let mut stages = nodes::stages(rows);
-    let did = stages
-        .get_mut(stage)
-        .is_some_and(|call| (0..calls).all(|_| call()));
+    let did = stages.get_mut(stage).is_some_and(|program| program(many));
     if did {
         ExitCode::SUCCESS
     } else {
@@ -64,20 +62,21 @@ fn head(title: &str, columns: &[&str]) {
 }
 
 /// Prints a row: each program's median and its ratio to the first one's.
-fn row(name: &str, bytes: usize, calls: Vec<Call>) -> Result<(), Fault> {
-    let times = medians(calls).map_err(|place| format!("{name}: program {place} did not do it"))?;
+fn row(name: &str, bytes: usize, programs: Vec<Calls>) -> Result<(), Fault> {
+    let times =
+        medians(programs).map_err(|place| format!("{name}: program {place} did not do it"))?;
     let cell = |time: &f64| format!(" {:>17}", format!("{time:.1} ({:.2})", time / times[0]));
     let cells: String = times.iter().map(cell).collect();
     println!("{name:<31}{bytes:>6}{cells}");
     Ok(())
 }
 
-fn read_by_libgrasp(bytes: &[u8]) -> Call<'_> {
-    Box::new(|| foreign::read(bytes))
+fn read_by_libgrasp(bytes: &[u8]) -> Calls<'_> {
+    calls(|| foreign::read(bytes))
 }
 
-fn read_by_second(bytes: &[u8]) -> Call<'_> {
-    Box::new(|| black_box(message::read(bytes)).is_ok())
+fn read_by_second(bytes: &[u8]) -> Calls<'_> {
+    calls(|| black_box(message::read(bytes)).is_ok())
 }
 
 fn reading() -> Result<(), Fault> {
@@ -90,27 +89,27 @@ fn reading() -> Result<(), Fault> {
         ("Negotiate, 8 levels", messages::deep()),
     ];
     for (name, bytes) in &messages {
-        let calls: Vec<Call> = vec![
+        let programs: Vec<Calls> = vec![
             read_by_libgrasp(bytes),
-            Box::new(|| foreign::read_with_list(bytes)),
+            calls(|| foreign::read_with_list(bytes)),
             read_by_second(bytes),
-            Box::new(|| foreign::libcbor(bytes)),
+            calls(|| foreign::libcbor(bytes)),
         ];
-        row(name, bytes.len(), calls)?;
+        row(name, bytes.len(), programs)?;
     }
     Ok(())
 }
 
 /// Writing the message again from its description.
-fn written(bytes: &[u8]) -> Result<[Call<'_>; 2], Fault> {
+fn written(bytes: &[u8]) -> Result<[Calls<'_>; 2], Fault> {
     let said = writer::describe(bytes).map_err(|number| format!("refusal {number}"))?;
     let again = said.clone();
     let mut out = [0; foreign::OUTPUT];
     let mut ours = move || foreign::write(bytes, &said.list, &said.fields, &mut out);
     let theirs = move || writer::write(bytes, &again.list, &again.fields, foreign::OUTPUT);
     Ok([
-        Box::new(move || ours() == Ok(bytes.len())),
-        Box::new(move || black_box(theirs()).is_ok_and(|encoding| encoding.len() == bytes.len())),
+        calls(move || ours() == Ok(bytes.len())),
+        calls(move || black_box(theirs()).is_ok_and(|encoding| encoding.len() == bytes.len())),
     ])
 }
 
@@ -137,7 +136,7 @@ fn node_rows(cases: &[(&str, Vec<u8>, &[u8], usize, Verdict)]) -> Result<(), Fau
             rows: *rows,
             verdict: *verdict,
         };
-        row(name, message.len(), case.calls())?;
+        row(name, message.len(), case.programs())?;
     }
     Ok(())
 }
@@ -194,12 +193,12 @@ fn by_length() -> Result<(), Fault> {
                 rows: 0,
                 verdict: Verdict::Relay,
             };
-            let calls = match part {
+            let programs = match part {
                 "read" => vec![read_by_libgrasp(bytes), read_by_second(bytes)],
                 "written" => written(bytes)?.into(),
-                _ => case.calls(),
+                _ => case.programs(),
             };
-            row("", bytes.len(), calls)?;
+            row("", bytes.len(), programs)?;
         }
     }
     Ok(())

@@ -5,7 +5,7 @@ use std::hint::black_box;
 use second::node::{self, Given, Record, Verdict, NUMBERS};
 
 use crate::foreign::{Host, OUTPUT, TABLE};
-use crate::measure::Call;
+use crate::measure::{calls, Calls};
 use crate::messages::ADDRESS;
 
 /// The numbers of our record and of a row.
@@ -34,8 +34,8 @@ pub struct Case<'a> {
 
 impl Case<'_> {
     /// The same call by each of the two. A relay's row is freed again before the next call.
-    pub fn calls(&self) -> Vec<Call<'_>> {
-        vec![Box::new(self.libgrasp()), Box::new(self.plain())]
+    pub fn programs(&self) -> Vec<Calls<'_>> {
+        vec![calls(self.libgrasp()), calls(self.plain())]
     }
 
     fn libgrasp(&self) -> impl FnMut() -> bool + '_ {
@@ -80,15 +80,14 @@ impl Case<'_> {
 
 /// Calls of the proved library that end early: refusal 12 without and with a table of the right
 /// length, refusal 1, and a Noop, which goes all the way.
-pub fn stages(rows: usize) -> Vec<Call<'static>> {
+pub fn stages(rows: usize) -> Vec<Calls<'static>> {
     let stage = |table: bool, interfaces: u64, message: &'static [u8], wanted: Result<u8, u8>| {
         let mut host = host(&self::table(rows));
         host.numbers[2] = interfaces;
         if !table {
             host.table.clear();
         }
-        let call = move || host.call(CLOCK, ARRIVAL, EX2, message) == wanted;
-        Box::new(call) as Call
+        calls(move || host.call(CLOCK, ARRIVAL, EX2, message) == wanted)
     };
     vec![
         stage(false, 9, b"", Err(12)),
