@@ -20,7 +20,7 @@ use Rattle.message.specs.declared.Examined.the-variants as E
 use Rattle.message.specs.declared.shape.Shape.the-variants as S
 use Rattle.message.specs.declared.Reading.{Reading}
 use Rattle.message.specs.Read.{mostBytes, judged, framed, examined, placeless, readOf}
-use Rattle.exact.specs.Accepted.{IsMessage, Accepted}
+use Rattle.exact.specs.Accepted.{Accepted}
 use Rattle.exact.specs.Rows.{Fits, Row}
 use Rattle.exact.proofs.Whole.{fills}
 use Rattle.exact.proofs.Shaped.{shaped-case, unknown-there, unknown-complete}

@@ -5,7 +5,7 @@ use mathlib.Core.Logic.{_⊎_, _≢_}
 use mathlib.Core.Path.{_≡_}
 use lib.ListN.{length}
 use Rattle.cbor.specs.Item.{mostLevels}
-use Rattle.cbor.specs.Tree.{Item, Items, Good, depth, encode, ItemIs}
+use Rattle.cbor.specs.Tree.{Item, Items, ItemIs}
 use Rattle.cbor.specs.Fault.{FirstFault}
 use Rattle.syntax.specs.Message.{Msg}
 use Rattle.grammar.specs.Cddl.{uint, MessageItem, Value}

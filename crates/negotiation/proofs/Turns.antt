@@ -11,7 +11,6 @@ use Rattle.base.specs.Pick.{pick}
 use Rattle.base.specs.Lists.{Every}
 use Rattle.message.specs.declared.Message.{Message}
 use Rattle.message.specs.declared.Message.the-variants as M
-use Rattle.message.specs.declared.Extra.{Extra}
 use Rattle.message.specs.declared.Reading.{Reading}
 use Rattle.message.specs.Read.{readOf}
 use Rattle.contents.specs.Fields.{kindOf, objectiveOf, countIn}

@@ -10,7 +10,6 @@ use Rattle.options.specs.Text.{held}
 use Rattle.base.specs.Pick.{pick}
 use Rattle.base.specs.Lists.{Every, EachPair, Distinct}
 use Rattle.base.specs.BigEndian.{Bytes}
-use Rattle.message.specs.declared.Extra.{Extra}
 use Rattle.contents.specs.declared.fields.Session.{Session}
 use Rattle.message.specs.declared.Reading.{Reading}
 use Rattle.contents.specs.Fields.{kindOf, sessionOf, initiatorOf, objectiveOf, countIn}

@@ -2,8 +2,8 @@
 -- Assumes nothing.
 use mathlib.Core.Path.{_≡_, refl}
 use mathlib.Core.Bool.{true, false}
-use mathlib.Core.List.{List, [], _∷_, _++_, map}
-use Prim.Native.Nat.{ℕ, _+_, _*_, _^_}
+use mathlib.Core.List.{[], _∷_, _++_}
+use Prim.Native.Nat.{_+_, _*_, _^_}
 use lib.ListN.{replicate}
 use lib.Count.{ones, onesIn}
 use Rattle.base.specs.Pick.{pick}
@@ -14,7 +14,6 @@ use Rattle.cbor.specs.Token.{nothingAt, tokenOf, tokenFrom, tokenAt, sizeFrom, 
 use Rattle.utf8.specs.Utf8.{tailsOf, leastTail, greatestTail, goesOn, isUtf8}
 use Rattle.cbor.specs.Tree.{infoOf, headBytes, shortest}
 use Rattle.cbor.specs.Put.{head}
-use Rattle.options.specs.declared.objective.Objective.{Objective}
 use Rattle.options.specs.Text.{spanOf, badText, firstOf, held}
 use Rattle.options.specs.Objective.{longName, objectiveOf, objectiveIn}
 use Rattle.options.specs.Pair.{isEmpty, pairTagged, pairTail, pairLed, pairIn}
@@ -29,15 +28,14 @@ use Rattle.message.specs.Read.{byKind, judged, shaped, framed, examined, placel
 use Rattle.writer.specs.Write.{lowered}
 use Rattle.writer.specs.Edges.{initiator, name, discoveryBytes, floodBytes, endBytes}
 use Rattle.names.specs.Names.{goodName, goodNames, arrayBad, framedBad, namesBad, sameBytes, ownFrom, isOwn}
-use Rattle.node_state.specs.declared.Record.{Record}
 use Rattle.node.specs.declared.Verdict.the-variants.{Duplicate, Relay}
 use Rattle.node.specs.declared.Reply.the-variants.{Given}
 use Rattle.node_state.specs.Record.{linksBad, recordBad, fresh, isUp, arrivalBad, others, clocked, tallied}
 use Rattle.node_state.specs.Table.{freshTable, cell, putRow, rowFree, tagIn, initiatorFits, rowKeyed, rowUsed, rowBad, firstFrom, someRow, tableBad, rowLife, rowDead, freeRows, freed, lowestFree, rowMatches, isKnown}
 use Rattle.node_state.specs.Key.{tagOf, keyOf}
 use Rattle.node.specs.Role.{roleOf, keyIn}
-use Rattle.node.specs.History.{Event, call, steps}
-use Rattle.node.specs.Call.{callOf, After, afterOf, barred, replies, refuse, quiet, laterVerdict, verdictOn, relayed, carriedOut, taken, received, nodeCall}
+use Rattle.node.specs.History.{steps}
+use Rattle.node.specs.Call.{afterOf, barred, replies, refuse, quiet, laterVerdict, verdictOn, relayed, carriedOut, taken, received, nodeCall}
 use Rattle.verdicts.specs.Edges.{objective, node, arrives, oneRow, outcomes}
 
 -- for readers
