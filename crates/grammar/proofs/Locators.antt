@@ -23,7 +23,7 @@ use Rattle.cbor.proofs.Tokens.{token-is, token-end}
 use Rattle.options.specs.declared.locator.Locator.{Locator}
 use Rattle.options.specs.declared.locator.LocatorRead.{LocatorRead}
 use Rattle.options.specs.Text.{contentIn}
-use Rattle.options.specs.Locator.{addressFits, protocolOf, portOf, locatorOf, textOf, locatorIn, locatorAt}
+use Rattle.options.specs.Locator.{addressFits, protocolOf, portOf, locatorOf, textOf, locatorIn, locatorReached, locatorAt}
 use Rattle.syntax.specs.Message.{Loc}
 use Rattle.grammar.specs.Cddl.{LocatorItem}
 use Rattle.grammar.specs.Limits.{Utf8, locTexts}
@@ -48,7 +48,7 @@ Sound m base (LocatorRead.Bad place) = Unit {0}
 Sound m base (LocatorRead.Got l size bad) = LocatorStands m base (base + size) l bad
 
 sound : (m : List ℕ) (base : ℕ) → base ≤ length m → Bytes m → Sound m base (locatorAt m base)
-unfolding locatorIn count
+unfolding locatorIn locatorReached count
 sound m base low by =
     pick-case P (eqb (itemsIn a) 0) (λ _. tt)
     (λ t₁. pick-case P (ltb kind 103) (λ _. tt)
@@ -122,7 +122,7 @@ accept : (base : ℕ) (s : List ℕ) (a k b p q : Token) (kind pn qn : ℕ) → 
     → p ≡ tokenAt s (b .next) → q ≡ tokenAt s (p .next) → upTo 106 k ≡ kind → protocolOf kind p ≡ pn → portOf kind q ≡ qn
     → (itemsIn a ≡ 0 → ⊥) → 103 ≤ kind → kind ≤ 106 → a .arg ≡ 4 → addressFits kind b ≡ true → (pn ≡ 255 → ⊥) → qn ≤ 65536
     → locatorIn base s ≡ LocatorRead.Got (locatorOf kind (base + b .body) (b .next - b .body) pn qn) (q .next) (textOf kind (contentIn s b) (base + b .at))
-unfolding locatorIn pick
+unfolding locatorIn locatorReached pick
 accept base s a k b p q kind pn qn ea ek eb ep eq e₁ e₂ e₃ t₁ t₂ t₃ t₄ t₅ t₆ t₇ =
     rw (← ea, ← ek, ← eb, ← ep, ← eq, e₁, e₂, e₃, ne-eqb _ _ t₁, le-ltb _ _ t₂, le-ltb _ _ t₃, eq-eqb _ _ t₄, t₅, ne-eqb _ _ t₆, le-ltb _ _ t₇)
 
@@ -144,8 +144,7 @@ reads {m} {base} {e} st (Shape.shape {kind = kind} {t} {a} {pn = pn} {qn} addres
     accept base s _ _ b (tokenAt s (c₂ .mid)) (tokenAt s (c₃ .mid)) kind pn qn (sym (top .token)) (sym (number-token (c₁ .first))) (sym (string .token)) refl
     (ap (tokenAt s) (sym p-next)) (number-is 106 _ refl hi) is-protocol is-port (array-items _ 3 refl refl) lo hi refl fits some-protocol some-port in
     let (size, inside, content) = content-there m base (string .body) (c₂ .mid) a (string .end) (string .content) in
-    let far : base + b .at ≡ 0 → ⊥ = (λ z. omega (arith, advances (c₁ .first))) in
-    (
+    let far : base + b .at ≡ 0 → ⊥ = (λ z. omega (arith, advances (c₁ .first))) in (
       locatorOf kind (base + b .body) (b .next - b .body) pn qn,
       textOf kind (contentIn s b) (base + b .at),
       rw q-next at read,

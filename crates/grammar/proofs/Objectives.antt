@@ -25,7 +25,7 @@ use Rattle.cbor.proofs.Tokens.{token-is, token-end}
 use Rattle.options.specs.declared.objective.Objective.{Objective}
 use Rattle.options.specs.declared.objective.ObjectiveRead.{ObjectiveRead}
 use Rattle.options.specs.Text.{spanOf, contentIn, badText}
-use Rattle.options.specs.Objective.{longName, objectiveOf, objectiveIn, objectiveAt}
+use Rattle.options.specs.Objective.{longName, objectiveOf, objectiveIn, objectiveNamed, objectiveAt}
 use Rattle.syntax.specs.Message.{Obj}
 use Rattle.grammar.specs.Cddl.{uint, text, ObjectiveItem, Value}
 use Rattle.grammar.specs.Limits.{Utf8, Short}
@@ -58,7 +58,7 @@ Sound levels m base (ObjectiveRead.Bad place) = Unit {0}
 Sound levels m base (ObjectiveRead.Got o size bad long) = ObjectiveStands levels m base (base + size) o bad long
 
 sound : (levels : ℕ) (m : List ℕ) (base : ℕ) → base ≤ length m → Bytes m → Sound levels m base (objectiveAt levels m base)
-unfolding objectiveIn objectiveOf count depth
+unfolding objectiveIn objectiveNamed objectiveOf count depth
 sound levels m base low by =
     pick-case P (eqb (itemsIn a) 0) (λ _. tt)
     (λ t₁. pick-case P (eqb (n .major) 3)
@@ -163,7 +163,7 @@ ending levels base s items n f c =
 
 accept : (levels base : ℕ) (s : List ℕ) (a n f c : Token) → a ≡ tokenAt s 0 → n ≡ tokenAt s (a .next) → f ≡ tokenAt s (n .next) → c ≡ tokenAt s (f .next)
     → (itemsIn a ≡ 0 → ⊥) → n .major ≡ 3 → 3 ≤ a .arg → a .arg ≤ 4 → upTo 15 f ≤ 15 → upTo 255 c ≤ 255 → objectiveIn levels base s ≡ ending levels base s (a .arg) n f c
-unfolding objectiveIn ending pick
+unfolding objectiveIn objectiveNamed ending pick
 accept levels base s a n f c ea en ef ec t₁ t₂ t₃ t₄ t₅ t₆ =
     rw (← ea, ← en, ← ef, ← ec, ne-eqb _ _ t₁, eq-eqb _ _ t₂, le-ltb _ _ t₃, le-ltb _ _ t₄, le-ltb _ _ t₅, le-ltb _ _ t₆)
 
@@ -242,8 +242,7 @@ pub objective-read : (levels : ℕ) {m : List ℕ} {base e : ℕ} {x : Item} {ob
 unfolding count depth
 objective-read levels {m} {base} {e} st d (ObjectiveItem.bare few byte) =
     let b = begun levels st few byte (omega arith) in
-    let end = none-end (b .left) in
-    (
+    let end = none-end (b .left) in (
       _,
       _,
       _,
@@ -257,8 +256,7 @@ objective-read levels {m} {base} {e} st d (ObjectiveItem.valued {x = x} few byte
     let value = only (b .left) in
     let (size, has-value) = item-sized levels value (omega arith) in
     let low : base ≤ length m = omega (arith, st .within, advances st) in
-    let sum : base + (e - base) ≡ base + b .c .next + sizeAt levels (drop base m) (b .c .next) = omega (arith, advances value) in
-    (
+    let sum : base + (e - base) ≡ base + b .c .next + sizeAt levels (drop base m) (b .c .next) = omega (arith, advances value) in (
       _,
       _,
       _,

@@ -246,8 +246,7 @@ tagged-read {m} {base} {e} low b is =
     let sum : e - base ≡ b .mid + n = omega (arith, advances (b .second)) in
     let tail = tagged-tail base (drop base m) (b .mid) (b .objective) (b .bad) (b .long) l n bad′ (locator-items (b .second) (shape-of is))
     (ap (locatorIn (base + b .mid)) (drop-drop (b .mid) base m) ∙ got) sum in
-    let (there, back) = first-zero (b .bad) bad′ in
-    (
+    let (there, back) = first-zero (b .bad) bad′ in (
       b .objective,
       Tag.At l,
       firstOf (b .bad) bad′,

@@ -31,11 +31,7 @@ pub extern "C" fn grasp_locator(bytes: &[u8], at: usize, fields: &mut [u64; 5]) 
     let read = options::locator::read_at(bytes, at);
     match read {
         LocatorRead::Bad(_) => 0,
-        LocatorRead::Got {
-            locator,
-            size,
-            bad: _,
-        } => {
+        LocatorRead::Got { locator, size, .. } => {
             *fields = options::locator::numbers_of(locator);
             at + size
         }
@@ -55,8 +51,7 @@ pub extern "C" fn grasp_pair(bytes: &[u8], at: usize, fields: &mut [u64; 12]) ->
             objective,
             tag,
             size,
-            bad: _,
-            long: _,
+            ..
         } => {
             *fields = options::pair::numbers_of(objective, tag);
             at + size

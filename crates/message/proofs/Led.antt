@@ -16,7 +16,7 @@ use Rattle.cbor.specs.Token.{tokenAt, itemsIn, upTo}
 use Rattle.cbor.proofs.Tokens.{Shifted, token-shifted}
 use Rattle.options.specs.declared.locator.LocatorRead.{LocatorRead}
 use Rattle.options.specs.declared.locator.Locator.{Locator}
-use Rattle.options.specs.Locator.{locatorIn, locatorAt}
+use Rattle.options.specs.Locator.{locatorIn, locatorReached, locatorAt}
 use Rattle.message.specs.Sequence.{textLed}
 
 -- a number within its limit is a number
@@ -46,7 +46,7 @@ module _ (s : List ℕ) (at : ℕ) where
   kind = tokenAt (drop at s) (array .next)
 
   leads : (l : Locator) (size bad : ℕ) → locatorAt s at ≡ LocatorRead.Got l size bad → (itemsIn array ≡ 0 → ⊥) × (kind .major ≡ 0)
-  unfolding locatorIn
+  unfolding locatorIn locatorReached
   leads l size bad q =
       let items = past (eqb (itemsIn array) 0) q (never _ l size bad) in
       let least = past (ltb (upTo 106 kind) 103) (items .1) (never _ l size bad) in

@@ -47,6 +47,7 @@ shaped s =
     (pick (ltb 9 (k .arg)) (unless (eqb (k .arg) 99) (Refused 8 (k .at)) (judged (byKind s (k .arg) (a .arg) (k .next))))
     (judged (byKind s (k .arg) (a .arg) (k .next)))))
 
+-- by the walk: 2 to 6, and 7 where bytes follow the item; else by the parts
 unfoldable pub framed : List ℕ → ItemRead → Examined
 framed s r = framedBy Refused (shaped s) (length s) r
 

@@ -1,5 +1,7 @@
 // What several kinds begin with: a session, an initiator and a ttl.
 ghost use mathlib.Core.Path.{_≡_};
+ghost use Prim.Native.Nat.{_≤_};
+ghost use Rattle.options.specs.Text.{contentOf};
 ghost use Rattle.message.specs.Opening.{isInitiator, OpeningIs};
 use cbor::token;
 use cbor::token::Token;
@@ -38,10 +40,7 @@ pub(crate) fn read_at(s: &[u8], at: usize) -> OpeningRead
     if (MOST_NUMBER as u64) < ttl {
         return OpeningRead::Bad(t.at);
     }
-    let initiator = Span {
-        at: j.body,
-        len: j.next - j.body,
-    };
+    let initiator = content_of(j);
     OpeningRead::Got {
         opening: Opening {
             session: session as u32,
@@ -49,6 +48,17 @@ pub(crate) fn read_at(s: &[u8], at: usize) -> OpeningRead
             ttl: ttl as u32,
         },
         next: t.next,
+    }
+}
+
+// Where a string's bytes stand.
+pub(crate) fn content_of(t: Token) -> Span
+    requires { ⌜ t .body ≤ t .next ⌝ }
+    ensures { λ r. ⌜ r ≡ contentOf t ⌝ }
+{
+    Span {
+        at: t.body,
+        len: t.next - t.body,
     }
 }
 

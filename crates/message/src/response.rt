@@ -2,7 +2,7 @@
 ghost use mathlib.Core.Path.{_≡_};
 ghost use Prim.Native.Nat.{_≤_};
 ghost use lib.ListN.{length};
-ghost use Rattle.message.specs.Response.{restAt, divertAt, locatedAt, targetsAt, responseAt};
+ghost use Rattle.message.specs.Response.{responseOf, restAt, divertAt, locatedAt, targetsAt, responseAt};
 use crate::Extra;
 use crate::Message;
 use crate::Series;
@@ -110,16 +110,9 @@ fn rest_at(s: &[u8], opening: Opening, targets: Targets, left: u64, at: usize, b
     requires { ⌜ at ≤ length (now s) ⌝ }
     ensures { λ r. ⌜ r ≡ restAt (now (s .entry)) opening targets left at bad ⌝ }
 {
-    let initiator = opening.initiator;
     if left == 0 {
         return Shape::Good {
-            message: Message::Response {
-                session: opening.session,
-                initiator,
-                ttl: opening.ttl,
-                targets,
-                extra: Extra::Without,
-            },
+            message: response_of(opening, targets, Extra::Without),
             end: at,
             bad,
             long: 0,
@@ -138,17 +131,25 @@ fn rest_at(s: &[u8], opening: Opening, targets: Targets, left: u64, at: usize, b
                 return Shape::Bad(at + size);
             }
             Shape::Good {
-                message: Message::Response {
-                    session: opening.session,
-                    initiator,
-                    ttl: opening.ttl,
-                    targets,
-                    extra: Extra::With(objective),
-                },
+                message: response_of(opening, targets, Extra::With(objective)),
                 end: at + size,
                 bad: options::first_of(bad, bad2),
                 long,
             }
         }
+    }
+}
+
+// The Response with this opening.
+fn response_of(opening: Opening, targets: Targets, extra: Extra) -> Message
+    ensures { λ r. ⌜ r ≡ responseOf opening targets extra ⌝ }
+{
+    let initiator = opening.initiator;
+    Message::Response {
+        session: opening.session,
+        initiator,
+        ttl: opening.ttl,
+        targets,
+        extra,
     }
 }

@@ -90,15 +90,10 @@ fn discovery_at(s: &[u8], n: u64, at: usize) -> Shape
     if !opening::is_initiator(j) {
         return Shape::Bad(j.at);
     }
-    let initiator = Span {
-        at: j.body,
-        len: j.next - j.body,
-    };
+    let initiator = opening::content_of(j);
     let read = objective::read_at(OBJECTIVE_LEVELS, s, j.next);
     match read {
-        ObjectiveRead::Bad(place) => {
-            return Shape::Bad(place);
-        }
+        ObjectiveRead::Bad(place) => return Shape::Bad(place),
         ObjectiveRead::Got {
             objective,
             size,
@@ -284,10 +279,7 @@ fn option_at(s: &[u8], session: u32, at: usize) -> Shape
     if t.major != 3 {
         return Shape::Bad(t.at);
     }
-    let reason = Span {
-        at: t.body,
-        len: t.next - t.body,
-    };
+    let reason = opening::content_of(t);
     let from = t.body;
     let to = t.next;
     let bad = options::bad_text(&s[from..to], t.at);

@@ -27,11 +27,13 @@ unfoldable pub goodNames : List ℕ → ℕ → ℕ → Bool
 goodNames s zero at = true
 goodNames s (suc n) at = goodName s (tokenAt s at) && goodNames s n (tokenAt s at .next)
 
+-- not an array of 0 to 16 good names
 unfoldable pub arrayBad : List ℕ → Bool
 arrayBad s =
     let a = tokenAt s 0 in
     not (eqb (a .major) 4) || ltb mostNames (a .arg) || not (goodNames s (a .arg) (a .next))
 
+-- bad by the walk, or else by the array
 unfoldable pub framedBad : List ℕ → ItemRead → Bool
 framedBad s r = framedBy (λ number place. true) (arrayBad s) (length s) r
 

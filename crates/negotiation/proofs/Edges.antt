@@ -10,7 +10,7 @@ use Rattle.cbor.specs.Item.{opens, stepOf, stepFrom as itemFrom, stepAt, itemsO
 use Rattle.cbor.specs.Token.{nothingAt, tokenOf, tokenFrom, tokenAt, itemsIn, upTo}
 use Rattle.utf8.specs.Utf8.{tailsOf, leastTail, greatestTail, goesOn, isUtf8}
 use Rattle.options.specs.Text.{badText}
-use Rattle.options.specs.Objective.{longName, objectiveOf, objectiveIn}
+use Rattle.options.specs.Objective.{longName, objectiveOf, objectiveIn, objectiveNamed}
 use Rattle.message.specs.Shape.{exchangeOf, exchanged, exchangeAt, waitAt, optionAt, endAt}
 use Rattle.message.specs.Read.{byKind, judged, shaped, framed, examined, placeless, readOf}
 use Rattle.negotiation.specs.declared.Side.the-variants.{Us, Them}
@@ -55,5 +55,5 @@ pub session :
     ∷ Refused 20 ∷ Refused 1 ∷ [])
     × (negotiated (answered Fresh messages) ≡ 2)
     × (step (Open 7 0 Us) ending Us ≡ Refused 20)
-unfolding pick bigEndian widthOf leastOf initialOf argOf headJudged headFrom headBy headOf headAt opens stepOf itemFrom stepAt itemsOf next run enough firstItem nothingAt tokenOf tokenFrom tokenAt itemsIn upTo tailsOf leastTail greatestTail goesOn isUtf8 badText longName objectiveOf objectiveIn exchangeOf exchanged exchangeAt waitAt optionAt endAt byKind judged shaped framed examined placeless readOf moveOf freshStep lowerStep turnStep stateStep stepFrom step after answered isKind tookNegotiate negotiated
+unfolding pick bigEndian widthOf leastOf initialOf argOf headJudged headFrom headBy headOf headAt opens stepOf itemFrom stepAt itemsOf next run enough firstItem nothingAt tokenOf tokenFrom tokenAt itemsIn upTo tailsOf leastTail greatestTail goesOn isUtf8 badText longName objectiveOf objectiveIn objectiveNamed exchangeOf exchanged exchangeAt waitAt optionAt endAt byKind judged shaped framed examined placeless readOf moveOf freshStep lowerStep turnStep stateStep stepFrom step after answered isKind tookNegotiate negotiated
 session = (refl, refl, refl)

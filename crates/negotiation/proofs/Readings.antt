@@ -17,7 +17,7 @@ use Rattle.options.specs.declared.Span.{Span}
 use Rattle.options.specs.declared.objective.Objective.{Objective}
 use Rattle.options.specs.declared.objective.ObjectiveRead.{ObjectiveRead}
 use Rattle.options.specs.declared.pair.PairRead.{PairRead}
-use Rattle.options.specs.Objective.{objectiveOf, objectiveIn, objectiveAt}
+use Rattle.options.specs.Objective.{objectiveOf, objectiveIn, objectiveNamed, objectiveAt}
 use Rattle.options.specs.Pair.{pairAt}
 use Rattle.message.specs.declared.Message.{Message}
 use Rattle.message.specs.declared.Series.{Series}
@@ -54,7 +54,7 @@ SmallObjective (ObjectiveRead.Bad place) = Unit {0}
 SmallObjective (ObjectiveRead.Got o size bad long) = o .count ≤ 255
 
 objective-small : (levels base : ℕ) (s : List ℕ) → SmallObjective (objectiveIn levels base s)
-unfolding objectiveIn objectiveOf
+unfolding objectiveIn objectiveNamed objectiveOf
 objective-small levels base s =
     both Ok _ tt (both Ok _ (both Ok _ tt (both Ok _ tt (both Ok _ tt
     (pick-case Ok (ltb 255 (upTo 255 _)) (λ _. tt) (λ e. both Ok _ (ltb-false 255 (upTo 255 _) e) (both Ok _ tt (ltb-false 255 (upTo 255 _) e))))))) tt)

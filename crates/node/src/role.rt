@@ -34,52 +34,24 @@ pub(crate) fn role_of(m: Message) -> Role
             initiator,
             objective,
         }),
-        Message::Response {
-            session: _,
-            initiator: _,
-            ttl: _,
-            targets: _,
-            extra: _,
-        } => Role::Upward,
-        Message::RequestNegotiation {
-            session: _,
-            objective: _,
-        } => Role::Upward,
-        Message::RequestSynchronization {
-            session: _,
-            objective: _,
-        } => Role::Upward,
-        Message::Negotiate {
-            session: _,
-            objective: _,
-        } => Role::Upward,
-        Message::End {
-            session: _,
-            outcome: _,
-        } => Role::Upward,
-        Message::Wait {
-            session: _,
-            time: _,
-        } => Role::Upward,
-        Message::Synch {
-            session: _,
-            objective: _,
-        } => Role::Upward,
+        Message::Response { .. } => Role::Upward,
+        Message::RequestNegotiation { .. } => Role::Upward,
+        Message::RequestSynchronization { .. } => Role::Upward,
+        Message::Negotiate { .. } => Role::Upward,
+        Message::End { .. } => Role::Upward,
+        Message::Wait { .. } => Role::Upward,
+        Message::Synch { .. } => Role::Upward,
         Message::Flood {
             session,
             initiator,
-            ttl: _,
             first,
-            pairs: _,
+            ..
         } => Role::Spreads(Spread {
             flood: true,
             session,
             initiator,
             objective: first,
         }),
-        Message::Invalid {
-            session: _,
-            item: _,
-        } => Role::Upward,
+        Message::Invalid { .. } => Role::Upward,
     }
 }

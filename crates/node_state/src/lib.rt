@@ -32,6 +32,8 @@ impl Record {
     pub const DISCOVERY_LIFE: u64 = 60_000;
     // House limit: how long the row of a Flood lives, in ms.
     pub const FLOOD_LIFE: u64 = 120_000;
+    // House limit: how many interfaces a node has at most.
+    pub const MOST_INTERFACES: u64 = 8;
     // House limit: the greatest tally of a record that is not refused.
     pub const MOST_TALLY: u64 = 9_223_372_036_854_775_808;
 

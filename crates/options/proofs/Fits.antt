@@ -18,8 +18,8 @@ use Rattle.options.specs.declared.locator.LocatorRead.{LocatorRead}
 use Rattle.options.specs.declared.objective.Objective.{Objective}
 use Rattle.options.specs.declared.objective.ObjectiveRead.{ObjectiveRead}
 use Rattle.options.specs.declared.pair.PairRead.{PairRead}
-use Rattle.options.specs.Locator.{locatorIn}
-use Rattle.options.specs.Objective.{objectiveIn}
+use Rattle.options.specs.Locator.{locatorIn, locatorReached}
+use Rattle.options.specs.Objective.{objectiveIn, objectiveNamed}
 use Rattle.options.specs.Pair.{isEmpty, pairTagged, pairTail, pairLed, pairIn}
 
 abbrev pub LocatorOk : ℕ → LocatorRead → Type 0
@@ -27,7 +27,7 @@ LocatorOk room (LocatorRead.Bad place) = Unit {0}
 LocatorOk room (LocatorRead.Got l size bad) = size ≤ room
 
 pub locator-ok : (base : ℕ) (s : List ℕ) → LocatorOk (length s) (locatorIn base s)
-unfolding locatorIn
+unfolding locatorIn locatorReached
 locator-ok base s =
     both ok _ tt (both ok _ tt (both ok _ tt (both ok _ (both ok _ (both ok _ tt (both ok _ tt (token-end s _))) tt) tt)))
   where
@@ -42,7 +42,7 @@ after : (levels : ℕ) (s : List ℕ) (at : ℕ) → at ≤ length s → at + si
 after levels s at h = omega (arith, size-le levels s at)
 
 pub objective-ok : (levels base : ℕ) (s : List ℕ) → ObjectiveOk (length s) (objectiveIn levels base s)
-unfolding objectiveIn
+unfolding objectiveIn objectiveNamed
 objective-ok levels base s =
     both ok _ tt (both ok _ (both ok _ tt (both ok _ tt (both ok _ tt (both ok _ tt (both ok _ (token-end s _) (both ok _ tt (after levels s _ (token-end s _)))))))) tt)
   where
@@ -111,11 +111,11 @@ none-past : (P : List ℕ → Type 0) (s : List ℕ) (at : ℕ) → length s < a
 none-past P s at h p = subst P (sym (drop-past s at (omega arith))) p
 
 pub locator-past : (s : List ℕ) (at : ℕ) → length s < at → LocatorRead.Bad at ≡ locatorIn at (drop at s)
-unfolding locatorIn itemsIn tokenAt tokenFrom nothingAt headAt pick
+unfolding locatorIn locatorReached itemsIn tokenAt tokenFrom nothingAt headAt pick
 locator-past s at h = none-past (λ (l : List ℕ). LocatorRead.Bad at ≡ locatorIn at l) s at h refl
 
 pub objective-past : (levels : ℕ) (s : List ℕ) (at : ℕ) → length s < at → ObjectiveRead.Bad at ≡ objectiveIn levels at (drop at s)
-unfolding objectiveIn itemsIn tokenAt tokenFrom nothingAt headAt pick
+unfolding objectiveIn objectiveNamed itemsIn tokenAt tokenFrom nothingAt headAt pick
 objective-past levels s at h = none-past (λ (l : List ℕ). ObjectiveRead.Bad at ≡ objectiveIn levels at l) s at h refl
 
 pub pair-past : (s : List ℕ) (at : ℕ) → length s < at → PairRead.Bad at ≡ pairIn at (drop at s)

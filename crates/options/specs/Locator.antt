@@ -63,23 +63,28 @@ locatorOf kind at len protocol port =
 unfoldable pub textOf : ℕ → List ℕ → ℕ → ℕ
 textOf kind text place = pick (ltb kind 105) 0 (badText text place)
 
--- a locator: kind, address, protocol and port
+-- what a locator of this kind reaches, from `at` on: address, protocol and port
+unfoldable pub locatorReached : ℕ → List ℕ → ℕ → ℕ → LocatorRead
+locatorReached base s kind at =
+    let b = tokenAt s at in
+    let p = tokenAt s (b .next) in
+    let q = tokenAt s (p .next) in
+    unless (addressFits kind b) (LR.Bad (base + b .at))
+    (pick (eqb (protocolOf kind p) noProtocol) (LR.Bad (base + p .at))
+    (pick (ltb nullPort (portOf kind q)) (LR.Bad (base + q .at))
+    (LR.Got (locatorOf kind (base + b .body) (b .next - b .body) (protocolOf kind p) (portOf kind q)) (q .next) (textOf kind (contentIn s b) (base + b .at)))))
+
+-- a locator: an array of four items, the first a kind
 unfoldable pub locatorIn : ℕ → List ℕ → LocatorRead
 locatorIn base s =
     let a = tokenAt s 0 in
     let k = tokenAt s (a .next) in
-    let b = tokenAt s (k .next) in
-    let p = tokenAt s (b .next) in
-    let q = tokenAt s (p .next) in
     let kind = upTo 106 k in
     pick (eqb (itemsIn a) 0) (LR.Bad base)
     (pick (ltb kind 103) (LR.Bad (base + k .at))
     (pick (ltb 106 kind) (LR.Bad (base + k .at))
     (unless (eqb (a .arg) 4) (LR.Bad base)
-    (unless (addressFits kind b) (LR.Bad (base + b .at))
-    (pick (eqb (protocolOf kind p) noProtocol) (LR.Bad (base + p .at))
-    (pick (ltb nullPort (portOf kind q)) (LR.Bad (base + q .at))
-    (LR.Got (locatorOf kind (base + b .body) (b .next - b .body) (protocolOf kind p) (portOf kind q)) (q .next) (textOf kind (contentIn s b) (base + b .at)))))))))
+    (locatorReached base s kind (k .next)))))
 
 -- the locator at a place of the message s
 abbrev pub locatorAt : List ℕ → ℕ → LocatorRead

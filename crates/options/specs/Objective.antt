@@ -30,25 +30,31 @@ objectiveOf base n flags c count len =
       value = spanOf (base + c .next) len;
     }
 
--- an objective: name, flags, count and an optional value, around which so many levels are open, the objective's own among them
-unfoldable pub objectiveIn : ℕ → ℕ → List ℕ → ObjectiveRead
-objectiveIn levels base s =
-    let a = tokenAt s 0 in
-    let n = tokenAt s (a .next) in
+-- an objective of so many items, from its name on: flags, count and, in four items, a value, around which so many levels are open, the
+-- objective's own among them
+unfoldable pub objectiveNamed : ℕ → ℕ → List ℕ → ℕ → Token → ObjectiveRead
+objectiveNamed levels base s items n =
     let f = tokenAt s (n .next) in
     let c = tokenAt s (f .next) in
     let len = sizeAt levels s (c .next) in
     let bad = badText (contentIn s n) (base + n .at) in
     let long = longName n (base + n .at) in
+    pick (ltb 15 (upTo 15 f)) (OR.Bad (base + f .at))
+    (pick (ltb 255 (upTo 255 c)) (OR.Bad (base + c .at))
+    (pick (eqb items 3) (OR.Got (objectiveOf base n (upTo 15 f) c (upTo 255 c) 0) (c .next) bad long)
+    (pick (eqb len 0) (OR.Bad (base + c .next))
+    (OR.Got (objectiveOf base n (upTo 15 f) c (upTo 255 c) len) (c .next + len) bad long))))
+
+-- an objective: an array of three or four items, the first a name
+unfoldable pub objectiveIn : ℕ → ℕ → List ℕ → ObjectiveRead
+objectiveIn levels base s =
+    let a = tokenAt s 0 in
+    let n = tokenAt s (a .next) in
     pick (eqb (itemsIn a) 0) (OR.Bad base)
     (unless (eqb (n .major) 3) (OR.Bad (base + n .at))
     (pick (ltb (a .arg) 3) (OR.Bad base)
     (pick (ltb 4 (a .arg)) (OR.Bad base)
-    (pick (ltb 15 (upTo 15 f)) (OR.Bad (base + f .at))
-    (pick (ltb 255 (upTo 255 c)) (OR.Bad (base + c .at))
-    (pick (eqb (a .arg) 3) (OR.Got (objectiveOf base n (upTo 15 f) c (upTo 255 c) 0) (c .next) bad long)
-    (pick (eqb len 0) (OR.Bad (base + c .next))
-    (OR.Got (objectiveOf base n (upTo 15 f) c (upTo 255 c) len) (c .next + len) bad long))))))))
+    (objectiveNamed levels base s (a .arg) n))))
 
 -- the objective at a place of the message s
 abbrev pub objectiveAt : ℕ → List ℕ → ℕ → ObjectiveRead

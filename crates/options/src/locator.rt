@@ -1,11 +1,23 @@
 // Locator options (RFC 8990, section 2.9.5).
 ghost use mathlib.Core.Path.{_≡_};
-ghost use Prim.Native.Nat.{_+_, _<_, _^_};
+ghost use Prim.Native.Nat.{_+_, _≤_, _<_, _^_};
 ghost use lib.ListN.{length};
-ghost use Rattle.options.specs.Locator.{isNull, addressFits, protocolOf, portOf, locatorOf, locatorIn, locatorAt, locatorNumbers};
+ghost use Rattle.options.specs.Locator.{isNull, addressFits, protocolOf, portOf, locatorOf, locatorReached, locatorIn, locatorAt, locatorNumbers};
 use crate::Span;
 use cbor::token;
 use cbor::token::Token;
+
+// What a locator has for a protocol that is null, and what is read of anything else that is no protocol.
+const NULL_PROTOCOL: u8 = 0;
+
+const NO_PROTOCOL: u8 = 255;
+
+// The greatest port; what a locator has for a port that is null, and what is read of anything else that is no port.
+const MOST_PORT: u64 = 65_535;
+
+const NULL_PORT: u32 = 65_536;
+
+const NO_PORT: u32 = 65_537;
 
 // Where a locator's address, domain name or URI stands in the message, its protocol and its port; a null protocol is 0, a
 // null port 65,536 (a URI's only).
@@ -57,18 +69,26 @@ pub(crate) fn read_in(s: &[u8], base: usize) -> LocatorRead
     if a.arg != 4 {
         return LocatorRead::Bad(base);
     }
-    let b = token::string_at(s, k.next);
+    read_reached(s, base, kind, k.next)
+}
+
+// What a locator of this kind reaches, from `at` on: address, protocol and port.
+fn read_reached(s: &[u8], base: usize, kind: u64, at: usize) -> LocatorRead
+    requires { ⌜ base + length (now s) < 2 ^ 63 ⌝ ∗ ⌜ at ≤ length (now s) ⌝ }
+    ensures { λ r. ⌜ r ≡ locatorReached base (now (s .entry)) kind at ⌝ }
+{
+    let b = token::string_at(s, at);
     if !address_fits(kind, b) {
         return LocatorRead::Bad(base + b.at);
     }
     let p = token::number_or_null_at(s, b.next);
     let protocol = protocol_of(kind, p);
-    if protocol == 255 {
+    if protocol == NO_PROTOCOL {
         return LocatorRead::Bad(base + p.at);
     }
     let q = token::number_or_null_at(s, p.next);
     let port = port_of(kind, q);
-    if 65536 < port {
+    if NULL_PORT < port {
         return LocatorRead::Bad(base + q.at);
     }
     let from = b.body;
@@ -105,7 +125,7 @@ fn address_fits(kind: u64, t: Token) -> bool
     false
 }
 
-// 6 or 17, or 0 for the null that a URI's locator may have; 255 for what is no protocol.
+// 6 or 17, or the null that a URI's locator may have.
 fn protocol_of(kind: u64, t: Token) -> u8
     ensures { λ r. ⌜ r ≡ protocolOf kind t ⌝ }
 {
@@ -116,34 +136,34 @@ fn protocol_of(kind: u64, t: Token) -> u8
         if t.arg == 17 {
             return 17;
         }
-        return 255;
+        return NO_PROTOCOL;
     }
     if kind == 106 {
         if is_null(t) {
-            return 0;
+            return NULL_PROTOCOL;
         }
-        return 255;
+        return NO_PROTOCOL;
     }
-    255
+    NO_PROTOCOL
 }
 
-// Up to 65,535, or 65,536 for the null that a URI's locator may have; 65,537 for what is no port.
+// Up to 65,535, or the null that a URI's locator may have.
 fn port_of(kind: u64, t: Token) -> u32
     ensures { λ r. ⌜ r ≡ portOf kind t ⌝ }
 {
     if t.major == 0 {
-        if t.arg <= 65535 {
+        if t.arg <= MOST_PORT {
             return t.arg as u32;
         }
-        return 65537;
+        return NO_PORT;
     }
     if kind == 106 {
         if is_null(t) {
-            return 65536;
+            return NULL_PORT;
         }
-        return 65537;
+        return NO_PORT;
     }
-    65537
+    NO_PORT
 }
 
 // The simple value 22, whose head has one byte (a float's is longer).

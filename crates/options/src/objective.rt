@@ -2,7 +2,7 @@
 ghost use mathlib.Core.Path.{_≡_};
 ghost use Prim.Native.Nat.{_+_, _≤_, _<_, _^_};
 ghost use lib.ListN.{length};
-ghost use Rattle.options.specs.Objective.{longName, objectiveOf, objectiveIn, objectiveAt};
+ghost use Rattle.options.specs.Objective.{longName, objectiveOf, objectiveNamed, objectiveIn, objectiveAt};
 use crate::Span;
 use cbor::token;
 use cbor::token::Token;
@@ -60,6 +60,14 @@ pub(crate) fn read_in(levels: usize, s: &[u8], base: usize) -> ObjectiveRead
     if 4 < a.arg {
         return ObjectiveRead::Bad(base);
     }
+    read_named(levels, s, base, a.arg, n)
+}
+
+// An objective of so many items, 3 or 4, from its name on: flags, count and, in four items, a value.
+fn read_named(levels: usize, s: &[u8], base: usize, items: u64, n: Token) -> ObjectiveRead
+    requires { ⌜ base + length (now s) < 2 ^ 63 ⌝ ∗ ⌜ (n .at ≤ length (now s)) × (n .body ≤ n .next) × (n .next ≤ length (now s)) ⌝ }
+    ensures { λ r. ⌜ r ≡ objectiveNamed levels base (now (s .entry)) items n ⌝ }
+{
     let f = token::number_at(s, n.next);
     let flags = token::up_to(15, f);
     if 15 < flags {
@@ -75,7 +83,7 @@ pub(crate) fn read_in(levels: usize, s: &[u8], base: usize) -> ObjectiveRead
     let bad = crate::bad_text(&s[from..to], base + n.at);
     let long = long_name(n, base + n.at);
     let end = c.next;
-    if a.arg == 3 {
+    if items == 3 {
         let objective = objective_of(base, n, flags as u8, c, count as u8, 0);
         return ObjectiveRead::Got {
             objective,

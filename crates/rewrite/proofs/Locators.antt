@@ -19,7 +19,7 @@ use Rattle.options.specs.declared.locator.Locator.{Locator}
 use Rattle.options.specs.declared.locator.Locator.the-variants as L
 use Rattle.options.specs.declared.locator.LocatorRead.{LocatorRead}
 use Rattle.options.specs.Text.{spanOf}
-use Rattle.options.specs.Locator.{locatorOf, locatorIn, locatorAt, locatorNumbers}
+use Rattle.options.specs.Locator.{locatorOf, locatorIn, locatorReached, locatorAt, locatorNumbers}
 use Rattle.syntax.specs.Message.{Loc}
 use Rattle.grammar.specs.Cddl.{LocatorItem, LocatorItems}
 use Rattle.grammar.specs.Stands as S
@@ -55,7 +55,7 @@ kind-text m kind at len protocol port h = both (TextIn m) (eqb kind 103) tt (bot
 
 -- what is read at a place
 pub text-ok : (m : List ℕ) (base : ℕ) (s : List ℕ) → base + length s ≤ length m → TextOk m (locatorIn base s)
-unfolding locatorIn
+unfolding locatorIn locatorReached
 text-ok m base s h =
     both ok _ tt (both ok _ tt (both ok _ tt (both ok _ (both ok _ (both ok _ tt (both ok _ tt (kind-text m _ _ _ _ _ (span-in m base _ _ (omega (arith, h, token-end s (tokenAt s (tokenAt s 0 .next) .next))))))) tt) tt)))
   where

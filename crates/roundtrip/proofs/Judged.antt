@@ -161,8 +161,7 @@ pub up-to-exactly : {A : Type 0} (P : A → Type 0) (f : ℕ → A) (n : ℕ) �
 unfolding listOf
 up-to-exactly P f zero = (λ h i l. absurd (omega arith), λ h. tt)
 up-to-exactly P f (suc n) =
-    let (there, back) = every-append P (listOf f n) (f n ∷ []) in
-    (
+    let (there, back) = every-append P (listOf f n) (f n ∷ []) in (
       λ e i l. let h = there e in elim (decLt i n) [ yes m ↦ up-to-exactly P f n .0 (h .0) i m | no m ↦ last h i (omega arith) ],
       λ h. back (up-to-exactly P f n .1 (λ i l. h i (omega arith)), (h n (omega arith), tt)),
     )

@@ -11,39 +11,30 @@ use Rattle.cbor_vectors.proofs.run_content.Lts as lts
 use Rattle.cbor_vectors.proofs.run.Reads as run-reads
 use Rattle.io.proofs.read_full.Reads as read-full-reads
 
--- src/main.rt:31:9
 returns : tie.Need-returns
 returns c = search needs
 
--- src/main.rt:33:22
 slice-relend-prefix-read-full : tie.Need-slice-relend-prefix-read-full
 slice-relend-prefix-read-full c = search needs
 
--- src/main.rt:33:22
 slice-aggregate-read-full : tie.Need-slice-aggregate-read-full
 slice-aggregate-read-full c = sym (length-take-le _ _ (omega arith))
 
--- src/main.rt:33:5
 read-full-requires : tie.Need-read-full-requires
 read-full-requires c κs = search needs
 
--- src/main.rt:34:35
 slice-relend-prefix-run : tie.Need-slice-relend-prefix-run
 slice-relend-prefix-run c = search needs
 
--- src/main.rt:34:35
 slice-aggregate-run : tie.Need-slice-aggregate-run
 slice-aggregate-run c = sym (length-take-le _ _ (omega arith))
 
--- src/main.rt:34:5
 run-requires : tie.Need-run-requires
 run-requires c κs = search needs
 
--- src/main.rt:29:1
 same-length : tie.Need-same-length
 same-length c = search needs
 
--- src/main.rt:29:1
 returns-2 : tie.Need-returns-2
 returns-2 c = search needs
 

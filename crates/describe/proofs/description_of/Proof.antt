@@ -11,130 +11,102 @@ use Rattle.describe.proofs.exchange.Reads as exchange-reads
 use Rattle.describe.proofs.goal_of.Reads as goal-of-reads
 use Rattle.describe.proofs.response_of.Reads as response-of-reads
 
--- src/lib.rt:19:26
 enum-told : tie.Need-enum-told
 enum-told c = search needs
 
--- src/lib.rt:21:13
 enum-known-m : tie.Need-enum-known-m
 enum-known-m c = search needs
 
--- src/lib.rt:27:24
 goal-of-requires : tie.Need-goal-of-requires
 goal-of-requires c κs = search needs
 
--- src/lib.rt:30:13
 enum-known-m-2 : tie.Need-enum-known-m-2
 enum-known-m-2 c = search needs
 
--- src/lib.rt:35:14
 response-of-requires : tie.Need-response-of-requires
 response-of-requires c κs = search needs
 
--- src/lib.rt:36:39
 enum-known-m-3 : tie.Need-enum-known-m-3
 enum-known-m-3 c = search needs
 
--- src/lib.rt:36:63
 exchange-requires : tie.Need-exchange-requires
 exchange-requires c κs = search needs
 
--- src/lib.rt:37:43
 enum-known-m-4 : tie.Need-enum-known-m-4
 enum-known-m-4 c = search needs
 
--- src/lib.rt:37:67
 exchange-requires-2 : tie.Need-exchange-requires-2
 exchange-requires-2 c κs = search needs
 
--- src/lib.rt:38:30
 enum-known-m-5 : tie.Need-enum-known-m-5
 enum-known-m-5 c = search needs
 
--- src/lib.rt:38:54
 exchange-requires-3 : tie.Need-exchange-requires-3
 exchange-requires-3 c κs = search needs
 
--- src/lib.rt:39:24
 enum-known-m-6 : tie.Need-enum-known-m-6
 enum-known-m-6 c = search needs
 
--- src/lib.rt:40:25
 enum-known-m-7 : tie.Need-enum-known-m-7
 enum-known-m-7 c = search needs
 
--- src/lib.rt:41:26
 enum-known-m-8 : tie.Need-enum-known-m-8
 enum-known-m-8 c = search needs
 
--- src/lib.rt:41:50
 exchange-requires-4 : tie.Need-exchange-requires-4
 exchange-requires-4 c κs = search needs
 
--- src/lib.rt:43:13
 enum-known-m-9 : tie.Need-enum-known-m-9
 enum-known-m-9 c = search needs
 
--- src/lib.rt:52:28
 enum-known-m-10 : tie.Need-enum-known-m-10
 enum-known-m-10 c = search needs
 
--- src/lib.rt:15:1
 returns : tie.Need-returns
 unfolding descriptionOf
 returns c =
     rw (c .enum-told .given .1)
 
--- src/lib.rt:15:1
 returns-2 : tie.Need-returns-2
 unfolding descriptionOf
 returns-2 c =
     rw (c .before .before .m .given .1, ← c .goal-of .ensures)
 
--- src/lib.rt:15:1
 returns-3 : tie.Need-returns-3
 unfolding responseOf descriptionOf
 returns-3 c = rw (c .before .before .m2 .given .1) (c .response-of .ensures)
 
--- src/lib.rt:15:1
 returns-4 : tie.Need-returns-4
 unfolding exchangeOf descriptionOf pick
 returns-4 c = rw (c .before .before .m3 .given .1) (c .exchange .ensures)
 
--- src/lib.rt:15:1
 returns-5 : tie.Need-returns-5
 unfolding exchangeOf descriptionOf pick
 returns-5 c = rw (c .before .before .m4 .given .1) (c .exchange2 .ensures)
 
--- src/lib.rt:15:1
 returns-6 : tie.Need-returns-6
 unfolding exchangeOf descriptionOf pick
 returns-6 c = rw (c .before .before .m5 .given .1) (c .exchange3 .ensures)
 
--- src/lib.rt:15:1
 returns-7 : tie.Need-returns-7
 unfolding descriptionOf
 returns-7 c =
     rw (c .before .m6 .given .1)
 
--- src/lib.rt:15:1
 returns-8 : tie.Need-returns-8
 unfolding descriptionOf
 returns-8 c =
     rw (c .before .m7 .given .1)
 
--- src/lib.rt:15:1
 returns-9 : tie.Need-returns-9
 unfolding exchangeOf descriptionOf pick
 returns-9 c = rw (c .before .before .m8 .given .1) (c .exchange4 .ensures)
 
--- src/lib.rt:15:1
 returns-10 : tie.Need-returns-10
 unfolding descriptionOf
 returns-10 c =
     rw (c .before .m9 .given .1)
 
--- src/lib.rt:15:1
 returns-11 : tie.Need-returns-11
 unfolding descriptionOf
 returns-11 c =

@@ -10,29 +10,24 @@ use Rattle.describe.proofs.exchange.Reads as reads
 use Rattle.describe.proofs.exchange.Lts as lts
 use Rattle.describe.proofs.goal_of.Reads as goal-of-reads
 
--- src/lib.rt:78:9
 goal-of-requires : tie.Need-goal-of-requires
 goal-of-requires c κs = search needs
 
--- src/lib.rt:80:9
 returns : tie.Need-returns
 unfolding exchangeOf pick
 returns c =
     rw (← c .before .goal-of .ensures, eq-eqb _ _ (c .if1 .taken))
 
--- src/lib.rt:83:9
 returns-2 : tie.Need-returns-2
 unfolding exchangeOf pick
 returns-2 c =
     rw (← c .before .before .goal-of .ensures, ne-eqb _ _ (c .before .if1 .left), eq-eqb _ _ (c .if2 .taken))
 
--- src/lib.rt:86:9
 returns-3 : tie.Need-returns-3
 unfolding exchangeOf pick
 returns-3 c =
     rw (← c .before .before .before .goal-of .ensures, ne-eqb _ _ (c .before .before .if1 .left), ne-eqb _ _ (c .before .if2 .left), eq-eqb _ _ (c .if3 .taken))
 
--- src/lib.rt:75:1
 returns-4 : tie.Need-returns-4
 unfolding exchangeOf pick
 returns-4 c =

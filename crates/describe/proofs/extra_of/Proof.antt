@@ -8,25 +8,20 @@ use Rattle.describe.proofs.extra_of.Reads as reads
 use Rattle.describe.proofs.extra_of.Lts as lts
 use Rattle.describe.proofs.goal_of.Reads as goal-of-reads
 
--- src/lib.rt:98:36
 enum-told : tie.Need-enum-told
 enum-told c = search needs
 
--- src/lib.rt:99:30
 enum-known-extra : tie.Need-enum-known-extra
 enum-known-extra c = search needs
 
--- src/lib.rt:99:56
 goal-of-requires : tie.Need-goal-of-requires
 goal-of-requires c κs = search needs
 
--- src/lib.rt:94:1
 returns : tie.Need-returns
 unfolding extraOf
 returns c =
     rw (c .enum-told .given .1)
 
--- src/lib.rt:94:1
 returns-2 : tie.Need-returns-2
 unfolding extraOf
 returns-2 c =

@@ -7,7 +7,6 @@ use Rattle.describe.proofs.goal_of.Tie as tie
 use Rattle.describe.proofs.goal_of.Reads as reads
 use Rattle.describe.proofs.goal_of.Lts as lts
 
--- src/lib.rt:81:1
 returns : tie.Need-returns
 unfolding goalOf
 returns c = refl

@@ -7,21 +7,17 @@ use Rattle.describe.proofs.is_divert.Tie as tie
 use Rattle.describe.proofs.is_divert.Reads as reads
 use Rattle.describe.proofs.is_divert.Lts as lts
 
--- src/lib.rt:117:33
 enum-told : tie.Need-enum-told
 enum-told c = search needs
 
--- src/lib.rt:118:31
 enum-told-2 : tie.Need-enum-told-2
 enum-told-2 c = search needs
 
--- src/lib.rt:113:1
 returns : tie.Need-returns
 unfolding isDivert
 returns c =
     rw (c .enum-told .given .1)
 
--- src/lib.rt:113:1
 returns-2 : tie.Need-returns-2
 unfolding isDivert
 returns-2 c =

@@ -9,15 +9,12 @@ use Rattle.describe.proofs.response_of.Lts as lts
 use Rattle.describe.proofs.extra_of.Reads as extra-of-reads
 use Rattle.describe.proofs.is_divert.Reads as is-divert-reads
 
--- src/lib.rt:69:17
 is-divert-requires : tie.Need-is-divert-requires
 is-divert-requires c κs = search needs
 
--- src/lib.rt:70:16
 extra-of-requires : tie.Need-extra-of-requires
 extra-of-requires c κs = search needs
 
--- src/lib.rt:56:1
 returns : tie.Need-returns
 unfolding responseOf
 returns c =

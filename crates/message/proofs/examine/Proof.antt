@@ -15,45 +15,36 @@ use Rattle.cbor.proofs.token.number_at.Reads as number-at-reads
 use Rattle.message.proofs.judge.Reads as judge-reads
 use Rattle.message.proofs.shape.by_kind.Reads as by-kind-reads
 
--- src/lib.rt:155:9
 array-at-requires : tie.Need-array-at-requires
 array-at-requires c κs = search needs
 
--- src/lib.rt:156:8
 items-in-requires : tie.Need-items-in-requires
 items-in-requires c κs = search needs
 
--- src/lib.rt:157:9
 returns : tie.Need-returns
 unfolding shaped pick
 returns c =
     rw (← c .before .before .array-at .ensures .is, ← c .before .items-in .ensures, eq-eqb _ _ (c .if1 .taken))
 
--- src/lib.rt:162:9
 number-at-requires : tie.Need-number-at-requires
 number-at-requires c κs = search needs
 
--- src/lib.rt:164:9
 returns-2 : tie.Need-returns-2
 unfolding shaped pick
 returns-2 c =
     rw (← c .before .before .before .before .before .array-at .ensures .is, ← c .before .before .before .before .items-in .ensures, ne-eqb _ _ (c .before .before .before .if1 .left), ← c .before .before .number-at .ensures .is, ne-eqb _ _ (c .if2 .taken))
 
--- src/lib.rt:171:13
 returns-3 : tie.Need-returns-3
 unfolding shaped pick
 returns-3 c =
     rw (← c .before .before .before .before .before .before .before .before .before .array-at .ensures .is, ← c .before .before .before .before .before .before .before .before .items-in .ensures, ne-eqb _ _ (c .before .before .before .before .before .before .before .if1 .left), ← c .before .before .before .before .before .before .number-at .ensures .is, eq-eqb _ _ (c .before .before .before .before .if2 .left), lt-ltb _ _ (c .before .before .if3 .taken), ne-eqb _ _ (c .if4 .taken))
 
--- src/lib.rt:177:11
 by-kind-requires : tie.Need-by-kind-requires
 by-kind-requires c κs = search needs
 
--- src/lib.rt:177:5
 judge-requires : tie.Need-judge-requires
 judge-requires c κs = search needs
 
--- src/lib.rt:152:1
 returns-4 : tie.Need-returns-4
 unfolding shaped pick
 returns-4 c =

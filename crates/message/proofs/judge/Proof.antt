@@ -9,33 +9,27 @@ use Rattle.message.proofs.judge.Tie as tie
 use Rattle.message.proofs.judge.Reads as reads
 use Rattle.message.proofs.judge.Lts as lts
 
--- src/lib.rt:142:20
 enum-known-shape : tie.Need-enum-known-shape
 enum-known-shape c = search needs
 
--- src/lib.rt:143:13
 returns : tie.Need-returns
 unfolding judged pick
 returns c =
     rw (c .before .shape .given .1)
 
--- src/lib.rt:146:13
 enum-known-shape-2 : tie.Need-enum-known-shape-2
 enum-known-shape-2 c = search needs
 
--- src/lib.rt:152:17
 returns-2 : tie.Need-returns-2
 unfolding judged pick
 returns-2 c =
     rw (c .before .before .shape2 .given .1, ne-eqb _ _ (c .if1 .taken))
 
--- src/lib.rt:158:17
 returns-3 : tie.Need-returns-3
 unfolding judged pick
 returns-3 c =
     rw (c .before .before .before .shape2 .given .1, eq-eqb _ _ (c .before .if1 .left), ne-eqb _ _ (c .if2 .taken))
 
--- src/lib.rt:163:13
 returns-4 : tie.Need-returns-4
 unfolding judged pick
 returns-4 c =

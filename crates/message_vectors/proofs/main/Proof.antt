@@ -14,31 +14,24 @@ Inv-loop counter₀ counter = counter ≤ 1000000
 abbrev μ-loop : tie.MeasureT-loop
 μ-loop counter₀ counter = 1000000 - counter
 
--- src/main.rt:19:5
 loop-holds : tie.Need-loop-holds Inv-loop μ-loop
 loop-holds c = search needs
 
--- src/main.rt:20:13
 run-next-requires : tie.Need-run-next-requires Inv-loop μ-loop
 run-next-requires c κs = search needs
 
--- src/main.rt:21:13
 returns : tie.Need-returns Inv-loop μ-loop
 returns c = search needs
 
--- src/main.rt:19:9
 add-counter : tie.Need-add-counter Inv-loop μ-loop
 add-counter c = search needs
 
--- src/main.rt:19:5
 loop-less : tie.Need-loop-less Inv-loop μ-loop
 loop-less c = search needs
 
--- src/main.rt:19:5
 loop-again : tie.Need-loop-again Inv-loop μ-loop
 loop-again c = search needs
 
--- src/main.rt:18:1
 returns-2 : tie.Need-returns-2 Inv-loop μ-loop
 returns-2 c = search needs
 

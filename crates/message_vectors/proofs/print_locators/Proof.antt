@@ -14,27 +14,21 @@ Inv-loop s at₀ many counter₀ at counter = counter ≤ many
 abbrev μ-loop : tie.MeasureT-loop
 μ-loop s at₀ many counter₀ at counter = many - counter
 
--- src/main.rt:204:5
 loop-holds : tie.Need-loop-holds Inv-loop μ-loop
 loop-holds c = search needs
 
--- src/main.rt:205:9
 print-locator-at-requires : tie.Need-print-locator-at-requires Inv-loop μ-loop
 print-locator-at-requires c κs = search needs
 
--- src/main.rt:204:9
 add-counter : tie.Need-add-counter Inv-loop μ-loop
 add-counter c = search needs
 
--- src/main.rt:204:5
 loop-less : tie.Need-loop-less Inv-loop μ-loop
 loop-less c = search needs
 
--- src/main.rt:204:5
 loop-again : tie.Need-loop-again Inv-loop μ-loop
 loop-again c = search needs
 
--- src/main.rt:201:1
 returns : tie.Need-returns Inv-loop μ-loop
 returns c = search needs
 

@@ -15,35 +15,27 @@ Inv-loop s at₀ many counter₀ at counter = counter ≤ many
 abbrev μ-loop : tie.MeasureT-loop
 μ-loop s at₀ many counter₀ at counter = many - counter
 
--- src/main.rt:253:18
 slice-aggregate-print-number : tie.Need-slice-aggregate-print-number Inv-loop μ-loop
 slice-aggregate-print-number c = search needs
 
--- src/main.rt:253:5
 print-number-requires : tie.Need-print-number-requires Inv-loop μ-loop
 print-number-requires c κs = search needs
 
--- src/main.rt:254:5
 loop-holds : tie.Need-loop-holds Inv-loop μ-loop
 loop-holds c = search needs
 
--- src/main.rt:255:9
 print-pair-at-requires : tie.Need-print-pair-at-requires Inv-loop μ-loop
 print-pair-at-requires c κs = search needs
 
--- src/main.rt:254:9
 add-counter : tie.Need-add-counter Inv-loop μ-loop
 add-counter c = search needs
 
--- src/main.rt:254:5
 loop-less : tie.Need-loop-less Inv-loop μ-loop
 loop-less c = search needs
 
--- src/main.rt:254:5
 loop-again : tie.Need-loop-again Inv-loop μ-loop
 loop-again c = search needs
 
--- src/main.rt:250:1
 returns : tie.Need-returns Inv-loop μ-loop
 returns c = search needs
 

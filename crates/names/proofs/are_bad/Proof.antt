@@ -12,43 +12,34 @@ use Rattle.names.proofs.are_bad.Lts as lts
 use Rattle.cbor.proofs.item.first.Reads as first-reads
 use Rattle.names.proofs.is_bad_array.Reads as is-bad-array-reads
 
--- src/lib.rt:22:9
 returns : tie.Need-returns
 unfolding namesBad framedBad pick
 returns c = rw (eq-eqb _ 0 (c .if1 .taken)) refl
 
--- src/lib.rt:25:9
 returns-2 : tie.Need-returns-2
 unfolding namesBad framedBad pick
 returns-2 c = rw (ne-eqb _ 0 (c .before .if1 .left), lt-ltb 2048 _ (c .if2 .taken)) refl
 
--- src/lib.rt:27:9
 first-requires : tie.Need-first-requires
 first-requires c κs = search needs
 
--- src/lib.rt:32:14
 enum-told : tie.Need-enum-told
 enum-told c = search needs
 
--- src/lib.rt:33:24
 enum-known-whole : tie.Need-enum-known-whole
 enum-known-whole c = search needs
 
--- src/lib.rt:35:17
 returns-3 : tie.Need-returns-3
 unfolding namesBad framedBad pick
 returns-3 c = rw (ne-eqb _ 0 (c .before .before .before .before .before .before .if1 .left), le-ltb 2048 _ (c .before .before .before .before .before .if2 .left), sym (c .before .before .before .before .first .ensures) ∙ c .before .before .whole .given .1, ne-eqb _ _ (c .if3 .taken)) refl
 
--- src/lib.rt:37:13
 is-bad-array-requires : tie.Need-is-bad-array-requires
 is-bad-array-requires c κs = search needs
 
--- src/lib.rt:18:1
 returns-4 : tie.Need-returns-4
 unfolding namesBad framedBad pick
 returns-4 c = rw (ne-eqb _ 0 (c .before .before .before .before .if1 .left), le-ltb 2048 _ (c .before .before .before .if2 .left), sym (c .before .before .first .ensures) ∙ c .enum-told .given .1) refl
 
--- src/lib.rt:18:1
 returns-5 : tie.Need-returns-5
 unfolding namesBad framedBad pick
 returns-5 c = rw (ne-eqb _ 0 (c .before .before .before .before .before .before .before .if1 .left), le-ltb 2048 _ (c .before .before .before .before .before .before .if2 .left), sym (c .before .before .before .before .before .first .ensures) ∙ c .before .before .before .whole .given .1, eq-eqb _ _ (c .before .if3 .left)) (c .is-bad-array .ensures)

@@ -21,57 +21,44 @@ Inv-loop s name at₀ left₀ at left = ownFrom s name left at ≡ ownFrom s nam
 abbrev μ-loop : tie.MeasureT-loop
 μ-loop s name at₀ left₀ at left = left
 
--- src/lib.rt:83:9
 token-at-requires : tie.Need-token-at-requires Inv-loop μ-loop
 token-at-requires c κs = search needs
 
--- src/lib.rt:85:9
 returns : tie.Need-returns Inv-loop μ-loop
 unfolding isOwn pick
 returns c = rw (sym (c .before .before .token-at .ensures .is), lt-ltb 16 _ (c .if1 .taken)) refl
 
--- src/lib.rt:89:5
 loop-holds : tie.Need-loop-holds Inv-loop μ-loop
 loop-holds c = refl
 
--- src/lib.rt:90:13
 token-at-requires-2 : tie.Need-token-at-requires-2 Inv-loop μ-loop
 token-at-requires-2 c κs = search needs
 
--- src/lib.rt:93:21
 sub-are-same : tie.Need-sub-are-same Inv-loop μ-loop
 sub-are-same c = c .token-at2 .ensures .start
 
--- src/lib.rt:93:21
 part-are-same-start : tie.Need-part-are-same-start Inv-loop μ-loop
 part-are-same-start c = c .token-at2 .ensures .start
 
--- src/lib.rt:93:21
 part-are-same-end : tie.Need-part-are-same-end Inv-loop μ-loop
 part-are-same-end c = c .token-at2 .ensures .end
 
--- src/lib.rt:93:12
 are-same-requires : tie.Need-are-same-requires Inv-loop μ-loop
 are-same-requires c κs = search needs
 
--- src/lib.rt:94:13
 returns-2 : tie.Need-returns-2 Inv-loop μ-loop
 unfolding isOwn pick
 returns-2 c = rw (sym (c .before .before .before .before .before .before .before .before .token-at .ensures .is), le-ltb 16 _ (c .before .before .before .before .before .before .if1 .left), sym (c .before .before .before .before .before .loop .inv) ∙ own-here (c .before .before .before .before .before .before .before .before .before .before .before .args .s .now) (c .before .before .before .before .before .loop .at) (c .before .before .before .before .before .loop .left) _ (c .before .before .before .token-at2 .ensures .is) (c .before .before .before .before .loop-test .taken) (c .before .before .before .before .before .before .before .before .before .before .before .args .name .now) (sym (c .before .are-same .ensures) ∙ c .if2 .taken)) refl
 
--- src/lib.rt:97:9
 sub-left : tie.Need-sub-left Inv-loop μ-loop
 sub-left c = omega arith
 
--- src/lib.rt:89:5
 loop-less : tie.Need-loop-less Inv-loop μ-loop
 loop-less c = omega arith
 
--- src/lib.rt:89:5
 loop-again : tie.Need-loop-again Inv-loop μ-loop
 loop-again c = sym (own-next (c .before .before .before .before .before .before .before .before .before .before .before .args .s .now) (c .before .before .before .before .before .loop .at) (c .before .before .before .before .before .loop .left) _ (c .before .before .before .token-at2 .ensures .is) (c .before .before .before .before .loop-test .taken) (c .before .before .before .before .before .before .before .before .before .before .before .args .name .now) (sym (c .before .are-same .ensures) ∙ c .if2 .left)) ∙ c .before .before .before .before .before .loop .inv
 
--- src/lib.rt:80:1
 returns-3 : tie.Need-returns-3 Inv-loop μ-loop
 unfolding isOwn ownFrom pick
 returns-3 c =

@@ -19,50 +19,39 @@ Inv-loop s at₀ left₀ at left = goodNames s left at ≡ goodNames s left₀ a
 abbrev μ-loop : tie.MeasureT-loop
 μ-loop s at₀ left₀ at left = left
 
--- src/lib.rt:46:9
 token-at-requires : tie.Need-token-at-requires Inv-loop μ-loop
 token-at-requires c κs = tt
 
--- src/lib.rt:48:9
 returns : tie.Need-returns Inv-loop μ-loop
 unfolding arrayBad
 returns c = rw (sym (c .before .before .token-at .ensures .is), ne-eqb _ 4 (c .if1 .taken)) refl
 
--- src/lib.rt:51:9
 returns-2 : tie.Need-returns-2 Inv-loop μ-loop
 unfolding arrayBad
 returns-2 c = rw (sym (c .before .before .before .before .token-at .ensures .is), eq-eqb _ 4 (c .before .before .if1 .left), lt-ltb 16 _ (c .if2 .taken)) refl
 
--- src/lib.rt:55:5
 loop-holds : tie.Need-loop-holds Inv-loop μ-loop
 loop-holds c = refl
 
--- src/lib.rt:56:13
 token-at-requires-2 : tie.Need-token-at-requires-2 Inv-loop μ-loop
 token-at-requires-2 c κs = tt
 
--- src/lib.rt:57:13
 is-good-requires : tie.Need-is-good-requires Inv-loop μ-loop
 is-good-requires c κs = (c .token-at2 .ensures .start, c .token-at2 .ensures .end)
 
--- src/lib.rt:58:13
 returns-3 : tie.Need-returns-3 Inv-loop μ-loop
 unfolding arrayBad
 returns-3 c = rw (sym (c .before .before .before .before .before .before .before .before .before .token-at .ensures .is), eq-eqb _ 4 (c .before .before .before .before .before .before .before .if1 .left), le-ltb 16 _ (c .before .before .before .before .before .if2 .left), sym (c .before .before .before .before .loop .inv) ∙ good-stop (c .before .before .before .before .before .before .before .before .before .before .before .args .s .now) (c .before .before .before .before .loop .at) (c .before .before .before .before .loop .left) _ (c .before .before .token-at2 .ensures .is) (c .before .before .before .loop-test .taken) (sym (c .before .is-good .ensures) ∙ not-true _ (c .if3 .taken))) refl
 
--- src/lib.rt:61:9
 sub-left : tie.Need-sub-left Inv-loop μ-loop
 sub-left c = omega arith
 
--- src/lib.rt:55:5
 loop-less : tie.Need-loop-less Inv-loop μ-loop
 loop-less c = omega arith
 
--- src/lib.rt:55:5
 loop-again : tie.Need-loop-again Inv-loop μ-loop
 loop-again c = sym (good-next (c .before .before .before .before .before .before .before .before .before .before .before .args .s .now) (c .before .before .before .before .loop .at) (c .before .before .before .before .loop .left) _ (c .before .before .token-at2 .ensures .is) (c .before .before .before .loop-test .taken) (sym (c .before .is-good .ensures) ∙ not-false _ (c .if3 .left))) ∙ c .before .before .before .before .loop .inv
 
--- src/lib.rt:43:1
 returns-4 : tie.Need-returns-4 Inv-loop μ-loop
 unfolding arrayBad goodNames
 returns-4 c =

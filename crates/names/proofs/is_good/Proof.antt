@@ -11,33 +11,26 @@ use Rattle.names.proofs.is_good.Reads as reads
 use Rattle.names.proofs.is_good.Lts as lts
 use Rattle.utf8.proofs.is_utf8.Reads as is-utf8-reads
 
--- src/lib.rt:71:9
 returns : tie.Need-returns
 unfolding goodName
 returns c = rw (ne-eqb _ 3 (c .if1 .taken)) refl
 
--- src/lib.rt:74:9
 returns-2 : tie.Need-returns-2
 unfolding goodName
 returns-2 c = rw (eq-eqb _ 3 (c .before .before .if1 .left), lt-leb (c .before .before .before .before .before .args .t .arg) 64 (omega (arith, c .if2 .taken))) refl
 
--- src/lib.rt:78:19
 sub-is-utf8 : tie.Need-sub-is-utf8
 sub-is-utf8 c = search needs
 
--- src/lib.rt:78:19
 part-is-utf8-start : tie.Need-part-is-utf8-start
 part-is-utf8-start c = search needs
 
--- src/lib.rt:78:19
 part-is-utf8-end : tie.Need-part-is-utf8-end
 part-is-utf8-end c = search needs
 
--- src/lib.rt:78:5
 is-utf8-requires : tie.Need-is-utf8-requires
 is-utf8-requires c κs = search needs
 
--- src/lib.rt:66:1
 returns-3 : tie.Need-returns-3
 unfolding goodName
 returns-3 c = rw (eq-eqb _ 3 (c .before .before .before .before .if1 .left), le-leb _ 64 (c .before .before .if2 .left)) (c .is-utf8 .ensures)

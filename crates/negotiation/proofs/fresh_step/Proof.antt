@@ -10,56 +10,44 @@ use Rattle.negotiation.proofs.fresh_step.Reads as reads
 use Rattle.negotiation.proofs.fresh_step.Lts as lts
 use Rattle.negotiation.proofs.other_side.Reads as other-side-reads
 
--- src/lib.rt:74:25
 enum-known-m : tie.Need-enum-known-m
 enum-known-m c = search needs
 
--- src/lib.rt:76:17
 returns : tie.Need-returns
 unfolding freshStep pick
 returns c = rw (c .before .before .m .given .1, eq-eqb _ _ (c .if1 .taken))
 
--- src/lib.rt:81:23
 other-side-requires : tie.Need-other-side-requires
 other-side-requires c κs = search needs
 
--- src/lib.rt:84:35
 enum-told : tie.Need-enum-told
 enum-told c = search needs
 
--- src/lib.rt:85:30
 enum-told-2 : tie.Need-enum-told-2
 enum-told-2 c = search needs
 
--- src/lib.rt:86:29
 enum-told-3 : tie.Need-enum-told-3
 enum-told-3 c = search needs
 
--- src/lib.rt:87:24
 enum-told-4 : tie.Need-enum-told-4
 enum-told-4 c = search needs
 
--- src/lib.rt:70:1
 returns-2 : tie.Need-returns-2
 unfolding freshStep pick
 returns-2 c = rw (c .before .before .before .m .given .1, ne-eqb _ _ (c .before .if1 .left), c .other-side .ensures)
 
--- src/lib.rt:70:1
 returns-3 : tie.Need-returns-3
 unfolding freshStep pick
 returns-3 c = rw (c .enum-told .given .1)
 
--- src/lib.rt:70:1
 returns-4 : tie.Need-returns-4
 unfolding freshStep pick
 returns-4 c = rw (c .enum-told2 .given .1)
 
--- src/lib.rt:70:1
 returns-5 : tie.Need-returns-5
 unfolding freshStep pick
 returns-5 c = rw (c .enum-told3 .given .1)
 
--- src/lib.rt:70:1
 returns-6 : tie.Need-returns-6
 unfolding freshStep pick
 returns-6 c = rw (c .enum-told4 .given .1)

@@ -10,25 +10,20 @@ use Rattle.negotiation.proofs.lower_step.Reads as reads
 use Rattle.negotiation.proofs.lower_step.Lts as lts
 use Rattle.negotiation.proofs.other_side.Reads as other-side-reads
 
--- src/lib.rt:131:9
 returns : tie.Need-returns
 unfolding lowerStep pick
 returns c = rw (eq-eqb _ _ (c .if1 .taken))
 
--- src/lib.rt:133:8
 add-if2 : tie.Need-add-if2
 add-if2 c = search needs
 
--- src/lib.rt:134:9
 returns-2 : tie.Need-returns-2
 unfolding lowerStep pick
 returns-2 c = rw (ne-eqb _ _ (c .before .if1 .left), ne-eqb _ _ (c .if2 .taken))
 
--- src/lib.rt:139:15
 other-side-requires : tie.Need-other-side-requires
 other-side-requires c κs = search needs
 
--- src/lib.rt:127:1
 returns-3 : tie.Need-returns-3
 unfolding lowerStep pick
 returns-3 c = rw (ne-eqb _ _ (c .before .before .if1 .left), eq-eqb _ _ (c .before .if2 .left), c .other-side .ensures)

@@ -12,51 +12,40 @@ use Rattle.negotiation.proofs.fresh_step.Reads as fresh-step-reads
 use Rattle.negotiation.proofs.same_side.Reads as same-side-reads
 use Rattle.negotiation.proofs.turn_step.Reads as turn-step-reads
 
--- src/lib.rt:51:25
 enum-told : tie.Need-enum-told
 enum-told c = search needs
 
--- src/lib.rt:51:25
 fresh-step-requires : tie.Need-fresh-step-requires
 fresh-step-requires c κs = search needs
 
--- src/lib.rt:53:13
 enum-known-state : tie.Need-enum-known-state
 enum-known-state c = search needs
 
--- src/lib.rt:58:17
 returns : tie.Need-returns
 unfolding stateStep pick
 returns c = rw (c .before .before .state .given .1, eq-eqb _ _ (c .if1 .taken))
 
--- src/lib.rt:60:16
 same-side-requires : tie.Need-same-side-requires
 same-side-requires c κs = search needs
 
--- src/lib.rt:61:17
 turn-step-requires : tie.Need-turn-step-requires
 turn-step-requires c κs = search needs
 
--- src/lib.rt:61:17
 returns-2 : tie.Need-returns-2
 unfolding stateStep pick
 returns-2 c = rw (c .before .before .before .before .before .state .given .1, ne-eqb _ _ (c .before .before .before .if1 .left), ← c .before .before .same-side .ensures, c .before .if2 .taken, c .turn-step .ensures)
 
--- src/lib.rt:65:26
 enum-told-2 : tie.Need-enum-told-2
 enum-told-2 c = search needs
 
--- src/lib.rt:47:1
 returns-3 : tie.Need-returns-3
 unfolding stateStep pick
 returns-3 c = rw (c .before .enum-told .given .1, c .fresh-step .ensures)
 
--- src/lib.rt:47:1
 returns-4 : tie.Need-returns-4
 unfolding stateStep pick
 returns-4 c = rw (c .before .before .before .before .state .given .1, ne-eqb _ _ (c .before .before .if1 .left), ← c .before .same-side .ensures, c .if2 .left)
 
--- src/lib.rt:47:1
 returns-5 : tie.Need-returns-5
 unfolding stateStep pick
 returns-5 c = rw (c .enum-told2 .given .1)

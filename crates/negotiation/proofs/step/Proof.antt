@@ -10,32 +10,25 @@ use Rattle.reader.proofs.read.Reads as read-reads
 use Rattle.negotiation.proofs.move_of.Reads as move-of-reads
 use Rattle.negotiation.proofs.state_step.Reads as state-step-reads
 
--- src/lib.rt:39:9
 read-requires : tie.Need-read-requires
 read-requires c κs = search needs
 
--- src/lib.rt:41:26
 enum-known-reading : tie.Need-enum-known-reading
 enum-known-reading c = search needs
 
--- src/lib.rt:42:23
 enum-known-reading-2 : tie.Need-enum-known-reading-2
 enum-known-reading-2 c = search needs
 
--- src/lib.rt:42:47
 move-of-requires : tie.Need-move-of-requires
 move-of-requires c κs = search needs
 
--- src/lib.rt:42:29
 state-step-requires : tie.Need-state-step-requires
 state-step-requires c κs = search needs
 
--- src/lib.rt:36:1
 returns : tie.Need-returns
 unfolding step stepFrom
 returns c = rw (← c .before .before .before .read .ensures, c .before .reading .given .1)
 
--- src/lib.rt:36:1
 returns-2 : tie.Need-returns-2
 unfolding step stepFrom
 returns-2 c = rw (← c .before .before .before .before .before .read .ensures, c .before .before .before .reading2 .given .1, ← c .before .move-of .ensures, ← c .state-step .ensures)

@@ -10,66 +10,52 @@ use Rattle.negotiation.proofs.turn_step.Reads as reads
 use Rattle.negotiation.proofs.turn_step.Lts as lts
 use Rattle.negotiation.proofs.lower_step.Reads as lower-step-reads
 
--- src/lib.rt:96:33
 enum-told : tie.Need-enum-told
 enum-told c = search needs
 
--- src/lib.rt:98:22
 enum-known-m : tie.Need-enum-known-m
 enum-known-m c = search needs
 
--- src/lib.rt:102:17
 returns : tie.Need-returns
 unfolding turnStep pick
 returns c = rw (c .before .before .m .given .1, ne-eqb _ _ (c .if1 .taken))
 
--- src/lib.rt:104:13
 lower-step-requires : tie.Need-lower-step-requires
 lower-step-requires c κs = search needs
 
--- src/lib.rt:106:31
 enum-known-m-2 : tie.Need-enum-known-m-2
 enum-known-m-2 c = search needs
 
--- src/lib.rt:108:17
 returns-2 : tie.Need-returns-2
 unfolding turnStep pick
 returns-2 c = rw (c .before .before .m2 .given .1, ne-eqb _ _ (c .if2 .taken))
 
--- src/lib.rt:116:30
 enum-known-m-3 : tie.Need-enum-known-m-3
 enum-known-m-3 c = search needs
 
--- src/lib.rt:118:17
 returns-3 : tie.Need-returns-3
 unfolding turnStep pick
 returns-3 c = rw (c .before .before .m3 .given .1, ne-eqb _ _ (c .if3 .taken))
 
--- src/lib.rt:122:24
 enum-told-2 : tie.Need-enum-told-2
 enum-told-2 c = search needs
 
--- src/lib.rt:92:1
 returns-4 : tie.Need-returns-4
 unfolding turnStep pick
 returns-4 c = rw (c .enum-told .given .1)
 
--- src/lib.rt:92:1
 returns-5 : tie.Need-returns-5
 unfolding turnStep pick
 returns-5 c = rw (c .before .before .before .m .given .1, eq-eqb _ _ (c .before .if1 .left), ← c .lower-step .ensures)
 
--- src/lib.rt:92:1
 returns-6 : tie.Need-returns-6
 unfolding turnStep pick
 returns-6 c = rw (c .before .before .m2 .given .1, eq-eqb _ _ (c .if2 .left))
 
--- src/lib.rt:92:1
 returns-7 : tie.Need-returns-7
 unfolding turnStep pick
 returns-7 c = rw (c .before .before .m3 .given .1, eq-eqb _ _ (c .if3 .left))
 
--- src/lib.rt:92:1
 returns-8 : tie.Need-returns-8
 unfolding turnStep pick
 returns-8 c = rw (c .enum-told2 .given .1)

@@ -12,47 +12,36 @@ use Rattle.io.proofs.read_full.Reads as read-full-reads
 use Rattle.negotiation_vectors.proofs.next_two.Reads as next-two-reads
 use Rattle.negotiation_vectors.proofs.step.Reads as step-reads
 
--- src/main.rt:84:15
 next-two-requires : tie.Need-next-two-requires
 next-two-requires c κs = search needs
 
--- src/main.rt:84:15
 cast-len : tie.Need-cast-len
 cast-len c = search needs
 
--- src/main.rt:86:9
 returns : tie.Need-returns
 returns c = search needs
 
--- src/main.rt:88:22
 slice-relend-prefix-read-full : tie.Need-slice-relend-prefix-read-full
 slice-relend-prefix-read-full c = search needs
 
--- src/main.rt:88:22
 slice-aggregate-read-full : tie.Need-slice-aggregate-read-full
 slice-aggregate-read-full c = sym (length-take-le _ _ (omega arith))
 
--- src/main.rt:88:5
 read-full-requires : tie.Need-read-full-requires
 read-full-requires c κs = search needs
 
--- src/main.rt:89:17
 slice-reshare-prefix-step : tie.Need-slice-reshare-prefix-step
 slice-reshare-prefix-step c = search needs
 
--- src/main.rt:89:17
 slice-aggregate-step : tie.Need-slice-aggregate-step
 slice-aggregate-step c = sym (length-take-le _ _ (omega arith))
 
--- src/main.rt:89:5
 step-requires : tie.Need-step-requires
 step-requires c κs = search needs
 
--- src/main.rt:83:1
 same-length : tie.Need-same-length
 same-length c = search needs
 
--- src/main.rt:83:1
 returns-2 : tie.Need-returns-2
 returns-2 c = search needs
 

@@ -11,35 +11,27 @@ use Rattle.node_vectors.proofs.call.Lts as lts
 use Rattle.node.proofs.call.node_call.Reads as node-call-reads
 use Rattle.node_vectors.proofs.line.print_called.Reads as print-called-reads
 
--- src/main.rt:174:9
 returns : tie.Need-returns
 returns c = search needs
 
--- src/main.rt:179:9
 slice-relend-prefix-node-call : tie.Need-slice-relend-prefix-node-call
 slice-relend-prefix-node-call c = search needs
 
--- src/main.rt:179:9
 slice-aggregate-node-call : tie.Need-slice-aggregate-node-call
 slice-aggregate-node-call c = sym (length-take-le _ _ (omega arith))
 
--- src/main.rt:177:9
 node-call-requires : tie.Need-node-call-requires
 node-call-requires c κs = search needs
 
--- src/main.rt:189:5
 print-called-requires : tie.Need-print-called-requires
 print-called-requires c κs = search needs
 
--- src/main.rt:163:1
 same-length : tie.Need-same-length
 same-length c = search needs
 
--- src/main.rt:163:1
 same-length-2 : tie.Need-same-length-2
 same-length-2 c = search needs
 
--- src/main.rt:163:1
 returns-2 : tie.Need-returns-2
 returns-2 c = search needs
 

@@ -12,123 +12,93 @@ use Rattle.io.proofs.read_full.Reads as read-full-reads
 use Rattle.node_vectors.proofs.call.Reads as call-reads
 use Rattle.node_vectors.proofs.input.next_two.Reads as next-two-reads
 
--- src/main.rt:138:17
 next-two-requires : tie.Need-next-two-requires
 next-two-requires c κs = search needs
 
--- src/main.rt:138:17
 cast-named : tie.Need-cast-named
 cast-named c = search needs
 
--- src/main.rt:140:9
 returns : tie.Need-returns
 returns c = search needs
 
--- src/main.rt:142:22
 slice-relend-prefix-read-full : tie.Need-slice-relend-prefix-read-full
 slice-relend-prefix-read-full c = search needs
 
--- src/main.rt:142:22
 slice-aggregate-read-full : tie.Need-slice-aggregate-read-full
 slice-aggregate-read-full c = sym (length-take-le _ _ (omega arith))
 
--- src/main.rt:142:5
 read-full-requires : tie.Need-read-full-requires
 read-full-requires c κs = search needs
 
--- src/main.rt:143:15
 next-two-requires-2 : tie.Need-next-two-requires-2
 next-two-requires-2 c κs = search needs
 
--- src/main.rt:143:15
 cast-len : tie.Need-cast-len
 cast-len c = search needs
 
--- src/main.rt:145:9
 same-length : tie.Need-same-length
 same-length c = search needs
 
--- src/main.rt:145:9
 returns-2 : tie.Need-returns-2
 returns-2 c = search needs
 
--- src/main.rt:147:22
 slice-relend-prefix-read-full-2 : tie.Need-slice-relend-prefix-read-full-2
 slice-relend-prefix-read-full-2 c = search needs
 
--- src/main.rt:147:22
 slice-aggregate-read-full-2 : tie.Need-slice-aggregate-read-full-2
 slice-aggregate-read-full-2 c = sym (length-take-le _ _ (omega arith))
 
--- src/main.rt:147:5
 read-full-requires-2 : tie.Need-read-full-requires-2
 read-full-requires-2 c κs = search needs
 
--- src/main.rt:148:16
 next-two-requires-3 : tie.Need-next-two-requires-3
 next-two-requires-3 c κs = search needs
 
--- src/main.rt:148:16
 cast-size : tie.Need-cast-size
 cast-size c = search needs
 
--- src/main.rt:150:9
 same-length-2 : tie.Need-same-length-2
 same-length-2 c = search needs
 
--- src/main.rt:150:9
 same-length-3 : tie.Need-same-length-3
 same-length-3 c = search needs
 
--- src/main.rt:150:9
 returns-3 : tie.Need-returns-3
 returns-3 c = search needs
 
--- src/main.rt:157:9
 slice-reshare-prefix-call : tie.Need-slice-reshare-prefix-call
 slice-reshare-prefix-call c = search needs
 
--- src/main.rt:157:9
 slice-aggregate-call : tie.Need-slice-aggregate-call
 slice-aggregate-call c = sym (length-take-le _ _ (omega arith))
 
--- src/main.rt:158:9
 slice-reshare-prefix-call-2 : tie.Need-slice-reshare-prefix-call-2
 slice-reshare-prefix-call-2 c = search needs
 
--- src/main.rt:158:9
 slice-aggregate-call-2 : tie.Need-slice-aggregate-call-2
 slice-aggregate-call-2 c = sym (length-take-le _ _ (omega arith))
 
--- src/main.rt:159:9
 slice-relend-prefix-call : tie.Need-slice-relend-prefix-call
 slice-relend-prefix-call c = search needs
 
--- src/main.rt:159:9
 slice-aggregate-call-3 : tie.Need-slice-aggregate-call-3
 slice-aggregate-call-3 c = sym (length-take-le _ _ (omega arith))
 
--- src/main.rt:152:5
 call-requires : tie.Need-call-requires
 call-requires c κs = search needs
 
--- src/main.rt:129:1
 same-length-4 : tie.Need-same-length-4
 same-length-4 c = search needs
 
--- src/main.rt:129:1
 same-length-5 : tie.Need-same-length-5
 same-length-5 c = search needs
 
--- src/main.rt:129:1
 same-length-6 : tie.Need-same-length-6
 same-length-6 c = search needs
 
--- src/main.rt:129:1
 same-length-7 : tie.Need-same-length-7
 same-length-7 c = search needs
 
--- src/main.rt:129:1
 returns-4 : tie.Need-returns-4
 returns-4 c = search needs
 

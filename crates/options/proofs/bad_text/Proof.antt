@@ -9,17 +9,14 @@ use Rattle.options.proofs.bad_text.Reads as reads
 use Rattle.options.proofs.bad_text.Lts as lts
 use Rattle.utf8.proofs.is_utf8.Reads as is-utf8-reads
 
--- src/lib.rt:23:8
 is-utf8-requires : tie.Need-is-utf8-requires
 is-utf8-requires c κs = search needs
 
--- src/lib.rt:24:9
 returns : tie.Need-returns
 unfolding badText pick
 returns c =
     rw (← c .before .is-utf8 .ensures, c .if1 .taken)
 
--- src/lib.rt:20:1
 returns-2 : tie.Need-returns-2
 unfolding badText pick
 returns-2 c =

@@ -8,12 +8,10 @@ use Rattle.options.proofs.first_of.Tie as tie
 use Rattle.options.proofs.first_of.Reads as reads
 use Rattle.options.proofs.first_of.Lts as lts
 
--- src/lib.rt:34:9
 returns : tie.Need-returns
 unfolding firstOf pick
 returns c = search tests
 
--- src/lib.rt:30:1
 returns-2 : tie.Need-returns-2
 unfolding firstOf pick
 returns-2 c = search tests

@@ -9,41 +9,32 @@ use Rattle.reader.proofs.read.Lts as lts
 use Rattle.message.proofs.examine.Reads as examine-reads
 use Rattle.reader.proofs.walk.Reads as walk-reads
 
--- src/lib.rt:17:9
 returns : tie.Need-returns
 returns c = read-none _ (c .if1 .taken)
 
--- src/lib.rt:20:9
 returns-2 : tie.Need-returns-2
 returns-2 c = read-long _ (c .before .if1 .left) (c .if2 .taken)
 
--- src/lib.rt:22:9
 examine-requires : tie.Need-examine-requires
 examine-requires c κs = search needs
 
--- src/lib.rt:24:30
 enum-known-answer : tie.Need-enum-known-answer
 enum-known-answer c = search needs
 
--- src/lib.rt:26:17
 returns-3 : tie.Need-returns-3
 returns-3 c =
     read-whole _ _ (c .before .before .before .before .before .before .if1 .left) (c .before .before .before .before .before .if2 .left) (c .before .before .before .before .examine .ensures) _ _ (λ i. c .before .before .before .before .before .before .before .shared-slice-known .given i .fits) (c .before .before .answer .given .1) (c .if3 .taken)
 
--- src/lib.rt:28:13
 returns-4 : tie.Need-returns-4
 returns-4 c =
     read-over _ _ (c .before .before .before .before .before .before .if1 .left) (c .before .before .before .before .before .if2 .left) (c .before .before .before .before .examine .ensures) _ _ (λ i. c .before .before .before .before .before .before .before .shared-slice-known .given i .fits) (c .before .before .answer .given .1) (c .if3 .left)
 
--- src/lib.rt:30:29
 enum-known-answer-2 : tie.Need-enum-known-answer-2
 enum-known-answer-2 c = search needs
 
--- src/lib.rt:31:37
 walk-requires : tie.Need-walk-requires
 walk-requires c κs = search needs
 
--- src/lib.rt:31:13
 returns-5 : tie.Need-returns-5
 returns-5 c =
     read-refused _ _ _ _ _ (c .before .before .before .before .before .before .if1 .left) (c .before .before .before .before .before .if2 .left) (c .before .before .before .before .examine .ensures) (c .before .before .answer2 .given .1) (c .walk .ensures)

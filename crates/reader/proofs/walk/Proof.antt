@@ -10,31 +10,25 @@ use Rattle.reader.proofs.walk.Reads as reads
 use Rattle.reader.proofs.walk.Lts as lts
 use Rattle.cbor.proofs.item.first.Reads as first-reads
 
--- src/lib.rt:40:9
 first-requires : tie.Need-first-requires
 first-requires c κs = search needs
 
--- src/lib.rt:42:29
 enum-known-whole : tie.Need-enum-known-whole
 enum-known-whole c = search needs
 
--- src/lib.rt:43:24
 enum-known-whole-2 : tie.Need-enum-known-whole-2
 enum-known-whole-2 c = search needs
 
--- src/lib.rt:45:17
 returns : tie.Need-returns
 unfolding walkedFirst walkedBy pick
 returns c =
     rw (← c .before .before .before .before .first .ensures, c .before .before .whole2 .given .1, ne-eqb _ _ (c .if1 .taken))
 
--- src/lib.rt:37:1
 returns-2 : tie.Need-returns-2
 unfolding walkedFirst walkedBy pick
 returns-2 c =
     rw (← c .before .before .before .first .ensures, c .before .whole .given .1)
 
--- src/lib.rt:37:1
 returns-3 : tie.Need-returns-3
 unfolding walkedFirst walkedBy pick
 returns-3 c =

@@ -14,91 +14,69 @@ use Rattle.write_vectors.proofs.next_byte.Reads as next-byte-reads
 use Rattle.write_vectors.proofs.next_four.Reads as next-four-reads
 use Rattle.write_vectors.proofs.next_two.Reads as next-two-reads
 
--- src/main.rt:139:15
 next-byte-requires : tie.Need-next-byte-requires
 next-byte-requires c κs = search needs
 
--- src/main.rt:139:15
 cast-len : tie.Need-cast-len
 cast-len c = search needs
 
--- src/main.rt:141:9
 returns : tie.Need-returns
 returns c = search needs
 
--- src/main.rt:143:22
 slice-relend-prefix-read-full : tie.Need-slice-relend-prefix-read-full
 slice-relend-prefix-read-full c = search needs
 
--- src/main.rt:143:22
 slice-aggregate-read-full : tie.Need-slice-aggregate-read-full
 slice-aggregate-read-full c = sym (length-take-le _ _ (omega arith))
 
--- src/main.rt:143:5
 read-full-requires : tie.Need-read-full-requires
 read-full-requires c κs = search needs
 
--- src/main.rt:144:9
 next-four-requires : tie.Need-next-four-requires
 next-four-requires c κs = search needs
 
--- src/main.rt:146:22
 slice-aggregate-read-full-2 : tie.Need-slice-aggregate-read-full-2
 slice-aggregate-read-full-2 c = search needs
 
--- src/main.rt:146:5
 read-full-requires-2 : tie.Need-read-full-requires-2
 read-full-requires-2 c κs = search needs
 
--- src/main.rt:147:9
 next-two-requires : tie.Need-next-two-requires
 next-two-requires c κs = search needs
 
--- src/main.rt:148:16
 next-two-requires-2 : tie.Need-next-two-requires-2
 next-two-requires-2 c κs = search needs
 
--- src/main.rt:148:16
 cast-size : tie.Need-cast-size
 cast-size c = search needs
 
--- src/main.rt:150:9
 same-length : tie.Need-same-length
 same-length c = search needs
 
--- src/main.rt:150:9
 returns-2 : tie.Need-returns-2
 returns-2 c = search needs
 
--- src/main.rt:154:9
 slice-reshare-prefix-answer : tie.Need-slice-reshare-prefix-answer
 slice-reshare-prefix-answer c = search needs
 
--- src/main.rt:154:9
 slice-aggregate-answer : tie.Need-slice-aggregate-answer
 slice-aggregate-answer c = sym (length-take-le _ _ (omega arith))
 
--- src/main.rt:158:9
 slice-relend-prefix-answer : tie.Need-slice-relend-prefix-answer
 slice-relend-prefix-answer c = search needs
 
--- src/main.rt:158:9
 slice-aggregate-answer-2 : tie.Need-slice-aggregate-answer-2
 slice-aggregate-answer-2 c = sym (length-take-le _ _ (omega arith))
 
--- src/main.rt:152:5
 answer-requires : tie.Need-answer-requires
 answer-requires c κs = search needs
 
--- src/main.rt:138:1
 same-length-2 : tie.Need-same-length-2
 same-length-2 c = search needs
 
--- src/main.rt:138:1
 same-length-3 : tie.Need-same-length-3
 same-length-3 c = search needs
 
--- src/main.rt:138:1
 returns-3 : tie.Need-returns-3
 returns-3 c = search needs
 

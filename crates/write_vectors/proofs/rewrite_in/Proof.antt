@@ -12,79 +12,60 @@ use Rattle.io.proofs.read_full.Reads as read-full-reads
 use Rattle.write_vectors.proofs.next_two.Reads as next-two-reads
 use Rattle.write_vectors.proofs.rewrite.Reads as rewrite-reads
 
--- src/main.rt:175:15
 next-two-requires : tie.Need-next-two-requires
 next-two-requires c κs = search needs
 
--- src/main.rt:175:15
 cast-len : tie.Need-cast-len
 cast-len c = search needs
 
--- src/main.rt:177:9
 returns : tie.Need-returns
 returns c = search needs
 
--- src/main.rt:179:22
 slice-relend-prefix-read-full : tie.Need-slice-relend-prefix-read-full
 slice-relend-prefix-read-full c = search needs
 
--- src/main.rt:179:22
 slice-aggregate-read-full : tie.Need-slice-aggregate-read-full
 slice-aggregate-read-full c = sym (length-take-le _ _ (omega arith))
 
--- src/main.rt:179:5
 read-full-requires : tie.Need-read-full-requires
 read-full-requires c κs = search needs
 
--- src/main.rt:180:16
 next-two-requires-2 : tie.Need-next-two-requires-2
 next-two-requires-2 c κs = search needs
 
--- src/main.rt:180:16
 cast-size : tie.Need-cast-size
 cast-size c = search needs
 
--- src/main.rt:182:9
 same-length : tie.Need-same-length
 same-length c = search needs
 
--- src/main.rt:182:9
 returns-2 : tie.Need-returns-2
 returns-2 c = search needs
 
--- src/main.rt:184:13
 slice-reshare-prefix-rewrite : tie.Need-slice-reshare-prefix-rewrite
 slice-reshare-prefix-rewrite c = search needs
 
--- src/main.rt:184:13
 slice-aggregate-rewrite : tie.Need-slice-aggregate-rewrite
 slice-aggregate-rewrite c = sym (length-take-le _ _ (omega arith))
 
--- src/main.rt:184:36
 slice-relend-prefix-rewrite : tie.Need-slice-relend-prefix-rewrite
 slice-relend-prefix-rewrite c = search needs
 
--- src/main.rt:184:36
 slice-aggregate-rewrite-2 : tie.Need-slice-aggregate-rewrite-2
 slice-aggregate-rewrite-2 c = sym (length-take-le _ _ (omega arith))
 
--- src/main.rt:184:5
 rewrite-requires : tie.Need-rewrite-requires
 rewrite-requires c κs = search needs
 
--- src/main.rt:174:1
 same-length-2 : tie.Need-same-length-2
 same-length-2 c = search needs
 
--- src/main.rt:174:1
 same-length-3 : tie.Need-same-length-3
 same-length-3 c = search needs
 
--- src/main.rt:174:1
 same-length-4 : tie.Need-same-length-4
 same-length-4 c = search needs
 
--- src/main.rt:174:1
 returns-3 : tie.Need-returns-3
 returns-3 c = search needs
 

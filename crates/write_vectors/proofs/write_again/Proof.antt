@@ -14,51 +14,39 @@ use Rattle.write_vectors.proofs.print_bytes.Reads as print-bytes-reads
 use Rattle.write_vectors.proofs.print_written.Reads as print-written-reads
 use Rattle.writer.proofs.write.Reads as write-reads
 
--- src/main.rt:200:9
 fill-requires : tie.Need-fill-requires
 fill-requires c κs = search needs
 
--- src/main.rt:202:9
 same-length : tie.Need-same-length
 same-length c = search needs
 
--- src/main.rt:202:9
 returns : tie.Need-returns
 returns c = search needs
 
--- src/main.rt:204:9
 description-of-requires : tie.Need-description-of-requires
 description-of-requires c κs = search needs
 
--- src/main.rt:205:42
 slice-reshare-prefix-write : tie.Need-slice-reshare-prefix-write
 slice-reshare-prefix-write c = search needs
 
--- src/main.rt:205:42
 slice-aggregate-write : tie.Need-slice-aggregate-write
 slice-aggregate-write c = sym (length-take-le _ _ (omega arith))
 
--- src/main.rt:205:19
 write-requires : tie.Need-write-requires
 write-requires c κs = search needs
 
--- src/main.rt:205:5
 print-written-requires : tie.Need-print-written-requires
 print-written-requires c κs = search needs
 
--- src/main.rt:206:5
 print-bytes-requires : tie.Need-print-bytes-requires
 print-bytes-requires c κs = search needs
 
--- src/main.rt:199:1
 same-length-2 : tie.Need-same-length-2
 same-length-2 c = search needs
 
--- src/main.rt:199:1
 same-length-3 : tie.Need-same-length-3
 same-length-3 c = search needs
 
--- src/main.rt:199:1
 returns-2 : tie.Need-returns-2
 returns-2 c = search needs
 

@@ -13,119 +13,90 @@ use Rattle.write_vectors.proofs.next_numbers.Reads as next-numbers-read
 use Rattle.write_vectors.proofs.next_two.Reads as next-two-reads
 use Rattle.write_vectors.proofs.write.Reads as write-reads
 
--- src/main.rt:76:16
 next-two-requires : tie.Need-next-two-requires
 next-two-requires c κs = search needs
 
--- src/main.rt:76:16
 cast-many : tie.Need-cast-many
 cast-many c = search needs
 
--- src/main.rt:78:9
 returns : tie.Need-returns
 returns c = search needs
 
--- src/main.rt:80:18
 slice-relend-prefix-next-numbers : tie.Need-slice-relend-prefix-next-numbers
 slice-relend-prefix-next-numbers c = search needs
 
--- src/main.rt:80:18
 slice-aggregate-next-numbers : tie.Need-slice-aggregate-next-numbers
 slice-aggregate-next-numbers c = sym (length-take-le _ _ (omega arith))
 
--- src/main.rt:80:5
 next-numbers-requires : tie.Need-next-numbers-requires
 next-numbers-requires c κs = search needs
 
--- src/main.rt:81:15
 next-two-requires-2 : tie.Need-next-two-requires-2
 next-two-requires-2 c κs = search needs
 
--- src/main.rt:81:15
 cast-len : tie.Need-cast-len
 cast-len c = search needs
 
--- src/main.rt:83:9
 same-length : tie.Need-same-length
 same-length c = search needs
 
--- src/main.rt:83:9
 returns-2 : tie.Need-returns-2
 returns-2 c = search needs
 
--- src/main.rt:85:22
 slice-relend-prefix-read-full : tie.Need-slice-relend-prefix-read-full
 slice-relend-prefix-read-full c = search needs
 
--- src/main.rt:85:22
 slice-aggregate-read-full : tie.Need-slice-aggregate-read-full
 slice-aggregate-read-full c = sym (length-take-le _ _ (omega arith))
 
--- src/main.rt:85:5
 read-full-requires : tie.Need-read-full-requires
 read-full-requires c κs = search needs
 
--- src/main.rt:86:16
 next-two-requires-3 : tie.Need-next-two-requires-3
 next-two-requires-3 c κs = search needs
 
--- src/main.rt:86:16
 cast-size : tie.Need-cast-size
 cast-size c = search needs
 
--- src/main.rt:88:9
 same-length-2 : tie.Need-same-length-2
 same-length-2 c = search needs
 
--- src/main.rt:88:9
 same-length-3 : tie.Need-same-length-3
 same-length-3 c = search needs
 
--- src/main.rt:88:9
 returns-3 : tie.Need-returns-3
 returns-3 c = search needs
 
--- src/main.rt:90:11
 slice-reshare-prefix-write : tie.Need-slice-reshare-prefix-write
 slice-reshare-prefix-write c = search needs
 
--- src/main.rt:90:11
 slice-aggregate-write : tie.Need-slice-aggregate-write
 slice-aggregate-write c = sym (length-take-le _ _ (omega arith))
 
--- src/main.rt:90:27
 slice-reshare-prefix-write-2 : tie.Need-slice-reshare-prefix-write-2
 slice-reshare-prefix-write-2 c = search needs
 
--- src/main.rt:90:27
 slice-aggregate-write-2 : tie.Need-slice-aggregate-write-2
 slice-aggregate-write-2 c = sym (length-take-le _ _ (omega arith))
 
--- src/main.rt:90:50
 slice-relend-prefix-write : tie.Need-slice-relend-prefix-write
 slice-relend-prefix-write c = search needs
 
--- src/main.rt:90:50
 slice-aggregate-write-3 : tie.Need-slice-aggregate-write-3
 slice-aggregate-write-3 c = sym (length-take-le _ _ (omega arith))
 
--- src/main.rt:90:5
 write-requires : tie.Need-write-requires
 write-requires c κs = search needs
 
--- src/main.rt:75:1
 same-length-4 : tie.Need-same-length-4
 same-length-4 c = search needs
 
--- src/main.rt:75:1
 same-length-5 : tie.Need-same-length-5
 same-length-5 c = search needs
 
--- src/main.rt:75:1
 same-length-6 : tie.Need-same-length-6
 same-length-6 c = search needs
 
--- src/main.rt:75:1
 returns-4 : tie.Need-returns-4
 returns-4 c = search needs
 

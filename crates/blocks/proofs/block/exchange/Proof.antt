@@ -9,15 +9,12 @@ use Rattle.blocks.proofs.block.exchange.Lts as lts
 use Rattle.blocks.proofs.block.opened.Reads as opened-reads
 use Rattle.blocks.proofs.block.with_objective.Reads as with-objective-reads
 
--- src/block.rt:64:20
 opened-requires : tie.Need-opened-requires
 opened-requires c κs = search needs
 
--- src/block.rt:64:5
 with-objective-requires : tie.Need-with-objective-requires
 with-objective-requires c κs = search needs
 
--- src/block.rt:61:1
 returns : tie.Need-returns
 unfolding exchangeBlock
 returns c =

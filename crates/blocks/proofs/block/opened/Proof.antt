@@ -8,27 +8,21 @@ use Rattle.blocks.proofs.block.opened.Tie as tie
 use Rattle.blocks.proofs.block.opened.Reads as reads
 use Rattle.blocks.proofs.block.opened.Lts as lts
 
--- src/block.rt:72:5
 array-write-b : tie.Need-array-write-b
 array-write-b c = search needs
 
--- src/block.rt:73:5
 array-write-b-2 : tie.Need-array-write-b-2
 array-write-b-2 c = search needs
 
--- src/block.rt:74:5
 array-write-b-3 : tie.Need-array-write-b-3
 array-write-b-3 c = search needs
 
--- src/block.rt:75:5
 array-write-b-4 : tie.Need-array-write-b-4
 array-write-b-4 c = search needs
 
--- src/block.rt:76:5
 array-write-b-5 : tie.Need-array-write-b-5
 array-write-b-5 c = search needs
 
--- src/block.rt:68:1
 returns : tie.Need-returns
 unfolding openedBlock
 returns c = refl

@@ -8,25 +8,20 @@ use Rattle.blocks.proofs.block.with_extra.Reads as reads
 use Rattle.blocks.proofs.block.with_extra.Lts as lts
 use Rattle.blocks.proofs.block.with_objective.Reads as with-objective-reads
 
--- src/block.rt:99:27
 enum-told : tie.Need-enum-told
 enum-told c = search needs
 
--- src/block.rt:100:21
 enum-known-extra : tie.Need-enum-known-extra
 enum-known-extra c = search needs
 
--- src/block.rt:100:35
 with-objective-requires : tie.Need-with-objective-requires
 with-objective-requires c κs = search needs
 
--- src/block.rt:95:1
 returns : tie.Need-returns
 unfolding withExtra
 returns c =
     rw (c .enum-told .given .1)
 
--- src/block.rt:95:1
 returns-2 : tie.Need-returns-2
 unfolding withExtra
 returns-2 c =

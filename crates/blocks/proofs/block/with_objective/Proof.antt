@@ -8,47 +8,36 @@ use Rattle.blocks.proofs.block.with_objective.Tie as tie
 use Rattle.blocks.proofs.block.with_objective.Reads as reads
 use Rattle.blocks.proofs.block.with_objective.Lts as lts
 
--- src/block.rt:84:5
 array-write-b : tie.Need-array-write-b
 array-write-b c = search needs
 
--- src/block.rt:85:5
 array-write-b-2 : tie.Need-array-write-b-2
 array-write-b-2 c = search needs
 
--- src/block.rt:86:5
 array-write-b-3 : tie.Need-array-write-b-3
 array-write-b-3 c = search needs
 
--- src/block.rt:87:12
 cast-b : tie.Need-cast-b
 cast-b c = search needs
 
--- src/block.rt:87:5
 array-write-b-4 : tie.Need-array-write-b-4
 array-write-b-4 c = search needs
 
--- src/block.rt:88:12
 cast-b-2 : tie.Need-cast-b-2
 cast-b-2 c = search needs
 
--- src/block.rt:88:5
 array-write-b-5 : tie.Need-array-write-b-5
 array-write-b-5 c = search needs
 
--- src/block.rt:89:5
 array-write-b-6 : tie.Need-array-write-b-6
 array-write-b-6 c = search needs
 
--- src/block.rt:90:5
 array-write-b-7 : tie.Need-array-write-b-7
 array-write-b-7 c = search needs
 
--- src/block.rt:91:5
 array-write-b-8 : tie.Need-array-write-b-8
 array-write-b-8 c = search needs
 
--- src/block.rt:80:1
 returns : tie.Need-returns
 unfolding withObjective
 returns c = refl

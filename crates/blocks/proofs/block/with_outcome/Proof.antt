@@ -8,43 +8,34 @@ use Rattle.blocks.proofs.block.with_outcome.Reads as reads
 use Rattle.blocks.proofs.block.with_outcome.Lts as lts
 use Rattle.blocks.proofs.block.with_span.Reads as with-span-reads
 
--- src/block.rt:13:20
 enum-told : tie.Need-enum-told
 enum-told c = search needs
 
--- src/block.rt:136:28
 with-span-requires : tie.Need-with-span-requires
 with-span-requires c κs = search needs
 
--- src/block.rt:13:20
 enum-told-2 : tie.Need-enum-told-2
 enum-told-2 c = search needs
 
--- src/block.rt:137:29
 with-span-requires-2 : tie.Need-with-span-requires-2
 with-span-requires-2 c κs = search needs
 
--- src/block.rt:138:25
 enum-known-outcome : tie.Need-enum-known-outcome
 enum-known-outcome c = search needs
 
--- src/block.rt:138:36
 with-span-requires-3 : tie.Need-with-span-requires-3
 with-span-requires-3 c κs = search needs
 
--- src/block.rt:132:1
 returns : tie.Need-returns
 unfolding outcomeBlock
 returns c =
     rw (c .before .enum-told .given .1, ← c .with-span .ensures)
 
--- src/block.rt:132:1
 returns-2 : tie.Need-returns-2
 unfolding outcomeBlock
 returns-2 c =
     rw (c .before .enum-told2 .given .1, ← c .with-span2 .ensures)
 
--- src/block.rt:132:1
 returns-3 : tie.Need-returns-3
 unfolding outcomeBlock
 returns-3 c =

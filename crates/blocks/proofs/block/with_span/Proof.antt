@@ -8,19 +8,15 @@ use Rattle.blocks.proofs.block.with_span.Tie as tie
 use Rattle.blocks.proofs.block.with_span.Reads as reads
 use Rattle.blocks.proofs.block.with_span.Lts as lts
 
--- src/block.rt:127:5
 array-write-b : tie.Need-array-write-b
 array-write-b c = search needs
 
--- src/block.rt:128:5
 array-write-b-2 : tie.Need-array-write-b-2
 array-write-b-2 c = search needs
 
--- src/block.rt:129:5
 array-write-b-3 : tie.Need-array-write-b-3
 array-write-b-3 c = search needs
 
--- src/block.rt:123:1
 returns : tie.Need-returns
 unfolding withSpan
 returns c = refl

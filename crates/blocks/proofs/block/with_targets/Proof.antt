@@ -8,29 +8,23 @@ use Rattle.blocks.proofs.block.with_targets.Reads as reads
 use Rattle.blocks.proofs.block.with_targets.Lts as lts
 use Rattle.blocks.proofs.block.with_series.Reads as with-series-reads
 
--- src/block.rt:118:27
 enum-known-targets : tie.Need-enum-known-targets
 enum-known-targets c = search needs
 
--- src/block.rt:118:38
 with-series-requires : tie.Need-with-series-requires
 with-series-requires c κs = search needs
 
--- src/block.rt:119:25
 enum-known-targets-2 : tie.Need-enum-known-targets-2
 enum-known-targets-2 c = search needs
 
--- src/block.rt:119:36
 with-series-requires-2 : tie.Need-with-series-requires-2
 with-series-requires-2 c κs = search needs
 
--- src/block.rt:114:1
 returns : tie.Need-returns
 unfolding targetsBlock
 returns c =
     rw (c .before .before .targets .given .1, ← c .with-series .ensures)
 
--- src/block.rt:114:1
 returns-2 : tie.Need-returns-2
 unfolding targetsBlock
 returns-2 c =

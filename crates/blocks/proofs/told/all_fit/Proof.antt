@@ -21,33 +21,26 @@ Inv-loop fields mask i₀ i = (i ≤ mostPlaces) × (allFrom (fieldFits fields m
 abbrev μ-loop : tie.MeasureT-loop
 μ-loop fields mask i₀ i = mostPlaces - i
 
--- src/told.rt:170:5
 loop-holds : tie.Need-loop-holds Inv-loop μ-loop
 unfolding allFit
 loop-holds c = (omega arith, refl)
 
--- src/told.rt:171:13
 field-fits-requires : tie.Need-field-fits-requires Inv-loop μ-loop
 field-fits-requires c κs = search needs
 
--- src/told.rt:172:13
 returns : tie.Need-returns Inv-loop μ-loop
 returns c = sym (all-stop (fieldFits (c .before .before .before .before .args .fields .now) (c .before .before .before .before .args .mask)) mostPlaces (c .before .before .before .loop .i) (omega (arith, c .before .before .loop-test .taken)) (sym (c .before .field-fits .ensures) ∙ not-true _ (c .if1 .taken))) ∙ c .before .before .before .loop .inv .1
 
--- src/told.rt:170:9
 add-i : tie.Need-add-i Inv-loop μ-loop
 add-i c = search needs
 
--- src/told.rt:170:5
 loop-less : tie.Need-loop-less Inv-loop μ-loop
 loop-less c = search needs
 
--- src/told.rt:170:5
 loop-again : tie.Need-loop-again Inv-loop μ-loop
 loop-again c =
     (omega arith, sym (all-step (fieldFits (c .before .before .before .before .args .fields .now) (c .before .before .before .before .args .mask)) mostPlaces (c .before .before .before .loop .i) (omega (arith, c .before .before .loop-test .taken)) (sym (c .before .field-fits .ensures) ∙ not-false _ (c .if1 .left))) ∙ c .before .before .before .loop .inv .1)
 
--- src/told.rt:167:1
 returns-2 : tie.Need-returns-2 Inv-loop μ-loop
 returns-2 c = sym (all-end (fieldFits (c .before .before .args .fields .now) (c .before .before .args .mask)) mostPlaces (c .before .loop .i) (omega (arith, c .loop-test .left))) ∙ c .before .loop .inv .1
 

@@ -8,49 +8,41 @@ use Rattle.blocks.proofs.told.allowed.Tie as tie
 use Rattle.blocks.proofs.told.allowed.Reads as reads
 use Rattle.blocks.proofs.told.allowed.Lts as lts
 
--- src/told.rt:142:9
 returns : tie.Need-returns
 unfolding allowedIn pick
 returns c =
     rw (eq-eqb _ _ (c .if1 .taken))
 
--- src/told.rt:145:9
 returns-2 : tie.Need-returns-2
 unfolding allowedIn pick
 returns-2 c =
     rw (ne-eqb _ _ (c .before .if1 .left), eq-eqb _ _ (c .if2 .taken))
 
--- src/told.rt:148:9
 returns-3 : tie.Need-returns-3
 unfolding allowedIn pick
 returns-3 c =
     rw (ne-eqb _ _ (c .before .before .if1 .left), ne-eqb _ _ (c .before .if2 .left), eq-eqb _ _ (c .if3 .taken))
 
--- src/told.rt:151:9
 returns-4 : tie.Need-returns-4
 unfolding allowedIn pick
 returns-4 c =
     rw (ne-eqb _ _ (c .before .before .before .if1 .left), ne-eqb _ _ (c .before .before .if2 .left), ne-eqb _ _ (c .before .if3 .left), eq-eqb _ _ (c .if4 .taken))
 
--- src/told.rt:154:9
 returns-5 : tie.Need-returns-5
 unfolding allowedIn pick
 returns-5 c =
     rw (ne-eqb _ _ (c .before .before .before .before .if1 .left), ne-eqb _ _ (c .before .before .before .if2 .left), ne-eqb _ _ (c .before .before .if3 .left), ne-eqb _ _ (c .before .if4 .left), eq-eqb _ _ (c .if5 .taken))
 
--- src/told.rt:157:9
 returns-6 : tie.Need-returns-6
 unfolding allowedIn pick
 returns-6 c =
     rw (ne-eqb _ _ (c .before .before .before .before .before .if1 .left), ne-eqb _ _ (c .before .before .before .before .if2 .left), ne-eqb _ _ (c .before .before .before .if3 .left), ne-eqb _ _ (c .before .before .if4 .left), ne-eqb _ _ (c .before .if5 .left), eq-eqb _ _ (c .if6 .taken))
 
--- src/told.rt:160:9
 returns-7 : tie.Need-returns-7
 unfolding allowedIn pick
 returns-7 c =
     rw (ne-eqb _ _ (c .before .before .before .before .before .before .if1 .left), ne-eqb _ _ (c .before .before .before .before .before .if2 .left), ne-eqb _ _ (c .before .before .before .before .if3 .left), ne-eqb _ _ (c .before .before .before .if4 .left), ne-eqb _ _ (c .before .before .if5 .left), ne-eqb _ _ (c .before .if6 .left), eq-eqb _ _ (c .if7 .taken))
 
--- src/told.rt:138:1
 returns-8 : tie.Need-returns-8
 unfolding allowedIn pick
 returns-8 c =

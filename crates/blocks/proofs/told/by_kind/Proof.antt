@@ -15,101 +15,80 @@ use Rattle.blocks.proofs.told.told_flood.Reads as told-flood-reads
 use Rattle.blocks.proofs.told.told_objective.Reads as told-objective-reads
 use Rattle.blocks.proofs.told.told_response.Reads as told-response-reads
 
--- src/told.rt:60:16
 element-copy-out-kind : tie.Need-element-copy-out-kind
 element-copy-out-kind c = search needs
 
--- src/told.rt:62:9
 returns : tie.Need-returns
 unfolding toldKind pick
 returns c =
     rw (eq-eqb _ _ (c .if1 .taken))
 
--- src/told.rt:65:9
 told-response-requires : tie.Need-told-response-requires
 told-response-requires c κs = search needs
 
--- src/told.rt:65:9
 returns-2 : tie.Need-returns-2
 unfolding toldKind pick
 returns-2 c =
     rw (ne-eqb _ _ (c .before .before .if1 .left), eq-eqb _ _ (c .before .if2 .taken), ← c .told-response .ensures)
 
--- src/told.rt:68:9
 told-end-requires : tie.Need-told-end-requires
 told-end-requires c κs = search needs
 
--- src/told.rt:68:9
 returns-3 : tie.Need-returns-3
 unfolding toldKind pick
 returns-3 c =
     rw (ne-eqb _ _ (c .before .before .before .if1 .left), ne-eqb _ _ (c .before .before .if2 .left), eq-eqb _ _ (c .before .if3 .taken), ← c .told-end .ensures)
 
--- src/told.rt:71:9
 returns-4 : tie.Need-returns-4
 unfolding toldKind pick
 returns-4 c =
     rw (ne-eqb _ _ (c .before .before .before .if1 .left), ne-eqb _ _ (c .before .before .if2 .left), ne-eqb _ _ (c .before .if3 .left), eq-eqb _ _ (c .if4 .taken))
 
--- src/told.rt:77:9
 told-flood-requires : tie.Need-told-flood-requires
 told-flood-requires c κs = search needs
 
--- src/told.rt:77:9
 returns-5 : tie.Need-returns-5
 unfolding toldKind pick
 returns-5 c =
     rw (ne-eqb _ _ (c .before .before .before .before .before .if1 .left), ne-eqb _ _ (c .before .before .before .before .if2 .left), ne-eqb _ _ (c .before .before .before .if3 .left), ne-eqb _ _ (c .before .before .if4 .left), eq-eqb _ _ (c .before .if5 .taken), ← c .told-flood .ensures)
 
--- src/told.rt:82:24
 element-copy-out-span : tie.Need-element-copy-out-span
 element-copy-out-span c = search needs
 
--- src/told.rt:82:36
 element-copy-out-span-2 : tie.Need-element-copy-out-span-2
 element-copy-out-span-2 c = search needs
 
--- src/told.rt:82:19
 span-requires : tie.Need-span-requires
 span-requires c κs = search needs
 
--- src/told.rt:80:9
 returns-6 : tie.Need-returns-6
 unfolding toldKind pick
 returns-6 c =
     rw (ne-eqb _ _ (c .before .before .before .before .before .before .before .before .if1 .left), ne-eqb _ _ (c .before .before .before .before .before .before .before .if2 .left), ne-eqb _ _ (c .before .before .before .before .before .before .if3 .left), ne-eqb _ _ (c .before .before .before .before .before .if4 .left), ne-eqb _ _ (c .before .before .before .before .if5 .left), eq-eqb _ _ (c .before .before .before .if6 .taken), ← c .span .ensures)
 
--- src/told.rt:85:8
 element-copy-out-if7 : tie.Need-element-copy-out-if7
 element-copy-out-if7 c = search needs
 
--- src/told.rt:86:9
 returns-7 : tie.Need-returns-7
 unfolding toldKind pick
 returns-7 c =
     rw (ne-eqb _ _ (c .before .before .before .before .before .before .before .if1 .left), ne-eqb _ _ (c .before .before .before .before .before .before .if2 .left), ne-eqb _ _ (c .before .before .before .before .before .if3 .left), ne-eqb _ _ (c .before .before .before .before .if4 .left), ne-eqb _ _ (c .before .before .before .if5 .left), ne-eqb _ _ (c .before .before .if6 .left), ne-eqb _ _ (c .if7 .taken))
 
--- src/told.rt:88:34
 element-copy-out-span-3 : tie.Need-element-copy-out-span-3
 element-copy-out-span-3 c = search needs
 
--- src/told.rt:88:45
 element-copy-out-span-4 : tie.Need-element-copy-out-span-4
 element-copy-out-span-4 c = search needs
 
--- src/told.rt:88:29
 span-requires-2 : tie.Need-span-requires-2
 span-requires-2 c κs = search needs
 
--- src/told.rt:88:57
 goal-requires : tie.Need-goal-requires
 goal-requires c κs = search needs
 
--- src/told.rt:88:5
 told-objective-requires : tie.Need-told-objective-requires
 told-objective-requires c κs = search needs
 
--- src/told.rt:57:1
 returns-8 : tie.Need-returns-8
 unfolding toldKind pick
 returns-8 c =

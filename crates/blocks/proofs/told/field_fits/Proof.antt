@@ -9,28 +9,22 @@ use Rattle.blocks.proofs.told.field_fits.Tie as tie
 use Rattle.blocks.proofs.told.field_fits.Reads as reads
 use Rattle.blocks.proofs.told.field_fits.Lts as lts
 
--- src/told.rt:182:8
 mul-if1 : tie.Need-mul-if1
 mul-if1 c = search needs
 
--- src/told.rt:182:8
 element-copy-out-if1 : tie.Need-element-copy-out-if1
 element-copy-out-if1 c = search needs
 
--- src/told.rt:183:9
 returns : tie.Need-returns
 unfolding fieldFits pick
 returns c = search tests
 
--- src/told.rt:185:14
 cast-result : tie.Need-cast-result
 cast-result c = search needs
 
--- src/told.rt:185:6
 shr-result : tie.Need-shr-result
 shr-result c = search needs
 
--- src/told.rt:178:1
 returns-2 : tie.Need-returns-2
 unfolding fieldFits pick
 returns-2 c = search tests

@@ -8,31 +8,24 @@ use Rattle.blocks.proofs.told.goal.Reads as reads
 use Rattle.blocks.proofs.told.goal.Lts as lts
 use Rattle.blocks.proofs.told.span.Reads as span-reads
 
--- src/told.rt:274:20
 element-copy-out-span : tie.Need-element-copy-out-span
 element-copy-out-span c = search needs
 
--- src/told.rt:274:31
 element-copy-out-span-2 : tie.Need-element-copy-out-span-2
 element-copy-out-span-2 c = search needs
 
--- src/told.rt:274:15
 span-requires : tie.Need-span-requires
 span-requires c κs = search needs
 
--- src/told.rt:277:21
 element-copy-out-span-3 : tie.Need-element-copy-out-span-3
 element-copy-out-span-3 c = search needs
 
--- src/told.rt:277:33
 element-copy-out-span-4 : tie.Need-element-copy-out-span-4
 element-copy-out-span-4 c = search needs
 
--- src/told.rt:277:16
 span-requires-2 : tie.Need-span-requires-2
 span-requires-2 c κs = search needs
 
--- src/told.rt:270:1
 returns : tie.Need-returns
 unfolding toldGoal
 returns c =

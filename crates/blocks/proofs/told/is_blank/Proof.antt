@@ -8,11 +8,9 @@ use Rattle.blocks.proofs.told.is_blank.Reads as reads
 use Rattle.blocks.proofs.told.is_blank.Lts as lts
 use Rattle.blocks.proofs.told.all_fit.Reads as all-fit-reads
 
--- src/told.rt:193:5
 all-fit-requires : tie.Need-all-fit-requires
 all-fit-requires c κs = search needs
 
--- src/told.rt:190:1
 returns : tie.Need-returns
 unfolding isBlank
 returns c =

@@ -8,19 +8,16 @@ use Rattle.blocks.proofs.told.response.Tie as tie
 use Rattle.blocks.proofs.told.response.Reads as reads
 use Rattle.blocks.proofs.told.response.Lts as lts
 
--- src/told.rt:202:9
 returns : tie.Need-returns
 unfolding toldTargets pick
 returns c =
     rw (eq-eqb _ _ (c .if1 .taken))
 
--- src/told.rt:211:9
 returns-2 : tie.Need-returns-2
 unfolding toldTargets pick
 returns-2 c =
     rw (ne-eqb _ _ (c .before .if1 .left), eq-eqb _ _ (c .if2 .taken))
 
--- src/told.rt:196:1
 returns-3 : tie.Need-returns-3
 unfolding toldTargets pick
 returns-3 c =

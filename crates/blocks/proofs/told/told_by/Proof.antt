@@ -12,85 +12,67 @@ use Rattle.blocks.proofs.told.all_fit.Reads as all-fit-reads
 use Rattle.blocks.proofs.told.allowed.Reads as allowed-reads
 use Rattle.blocks.proofs.told.by_kind.Reads as by-kind-reads
 
--- src/told.rt:29:19
 element-copy-out-session : tie.Need-element-copy-out-session
 element-copy-out-session c = search needs
 
--- src/told.rt:30:15
 element-copy-out-ttl : tie.Need-element-copy-out-ttl
 element-copy-out-ttl c = search needs
 
--- src/told.rt:31:17
 element-copy-out-flags : tie.Need-element-copy-out-flags
 element-copy-out-flags c = search needs
 
--- src/told.rt:32:17
 element-copy-out-count : tie.Need-element-copy-out-count
 element-copy-out-count c = search needs
 
--- src/told.rt:33:33
 element-copy-out-allowed : tie.Need-element-copy-out-allowed
 element-copy-out-allowed c = search needs
 
--- src/told.rt:33:25
 allowed-requires : tie.Need-allowed-requires
 allowed-requires c κs = search needs
 
--- src/told.rt:33:9
 all-fit-requires : tie.Need-all-fit-requires
 all-fit-requires c κs = search needs
 
--- src/told.rt:34:9
 returns : tie.Need-returns
 unfolding toldBy pick
 returns c =
     rw (← c .before .before .allowed .ensures, ← c .before .all-fit .ensures, not-true (c .before .all-fit .result) (c .if1 .taken))
 
--- src/told.rt:37:9
 returns-2 : tie.Need-returns-2
 unfolding toldBy pick
 returns-2 c =
     rw (← c .before .before .before .allowed .ensures, ← c .before .before .all-fit .ensures, not-false (c .before .before .all-fit .result) (c .before .if1 .left), lt-ltb _ _ (c .if2 .taken))
 
--- src/told.rt:40:9
 returns-3 : tie.Need-returns-3
 unfolding toldBy pick
 returns-3 c =
     rw (← c .before .before .before .before .allowed .ensures, ← c .before .before .before .all-fit .ensures, not-false (c .before .before .before .all-fit .result) (c .before .before .if1 .left), le-ltb _ _ (c .before .if2 .left), lt-ltb _ _ (c .if3 .taken))
 
--- src/told.rt:43:9
 returns-4 : tie.Need-returns-4
 unfolding toldBy pick
 returns-4 c =
     rw (← c .before .before .before .before .before .allowed .ensures, ← c .before .before .before .before .all-fit .ensures, not-false (c .before .before .before .before .all-fit .result) (c .before .before .before .if1 .left), le-ltb _ _ (c .before .before .if2 .left), le-ltb _ _ (c .before .if3 .left), lt-ltb _ _ (c .if4 .taken))
 
--- src/told.rt:46:9
 returns-5 : tie.Need-returns-5
 unfolding toldBy pick
 returns-5 c =
     rw (← c .before .before .before .before .before .before .allowed .ensures, ← c .before .before .before .before .before .all-fit .ensures, not-false (c .before .before .before .before .before .all-fit .result) (c .before .before .before .before .if1 .left), le-ltb _ _ (c .before .before .before .if2 .left), le-ltb _ _ (c .before .before .if3 .left), le-ltb _ _ (c .before .if4 .left), lt-ltb _ _ (c .if5 .taken))
 
--- src/told.rt:49:18
 cast-t18 : tie.Need-cast-t18
 cast-t18 c = search needs
 
--- src/told.rt:50:14
 cast-t22 : tie.Need-cast-t22
 cast-t22 c = search needs
 
--- src/told.rt:51:16
 cast-t23 : tie.Need-cast-t23
 cast-t23 c = search needs
 
--- src/told.rt:52:16
 cast-t24 : tie.Need-cast-t24
 cast-t24 c = search needs
 
--- src/told.rt:54:5
 by-kind-requires : tie.Need-by-kind-requires
 by-kind-requires c κs = search needs
 
--- src/told.rt:26:1
 returns-6 : tie.Need-returns-6
 unfolding toldBy pick
 returns-6 c =

@@ -10,69 +10,55 @@ use Rattle.blocks.proofs.told.told_end.Reads as reads
 use Rattle.blocks.proofs.told.told_end.Lts as lts
 use Rattle.blocks.proofs.told.span.Reads as span-reads
 
--- src/told.rt:226:23
 element-copy-out-span : tie.Need-element-copy-out-span
 element-copy-out-span c = search needs
 
--- src/told.rt:226:35
 element-copy-out-span-2 : tie.Need-element-copy-out-span-2
 element-copy-out-span-2 c = search needs
 
--- src/told.rt:226:9
 span-requires : tie.Need-span-requires
 span-requires c κs = search needs
 
--- src/told.rt:227:8
 element-copy-out-if1 : tie.Need-element-copy-out-if1
 element-copy-out-if1 c = search needs
 
--- src/told.rt:228:9
 returns : tie.Need-returns
 unfolding toldEnd pick
 returns c =
     rw (← c .before .before .span .ensures, eq-eqb _ _ (c .if1 .taken))
 
--- src/told.rt:233:8
 element-copy-out-if2 : tie.Need-element-copy-out-if2
 element-copy-out-if2 c = search needs
 
--- src/told.rt:234:9
 returns-2 : tie.Need-returns-2
 unfolding toldEnd pick
 returns-2 c =
     rw (ne-eqb _ _ (c .before .before .if1 .left), ne-eqb _ _ (c .if2 .taken))
 
--- src/told.rt:236:8
 element-copy-out-if3 : tie.Need-element-copy-out-if3
 element-copy-out-if3 c = search needs
 
--- src/told.rt:237:9
 returns-3 : tie.Need-returns-3
 unfolding toldEnd pick
 returns-3 c =
     rw (ne-eqb _ _ (c .before .before .before .before .if1 .left), eq-eqb _ _ (c .before .before .if2 .left), ne-eqb _ _ (c .if3 .taken))
 
--- src/told.rt:239:8
 element-copy-out-if4 : tie.Need-element-copy-out-if4
 element-copy-out-if4 c = search needs
 
--- src/told.rt:240:9
 returns-4 : tie.Need-returns-4
 unfolding toldEnd pick
 returns-4 c =
     rw (ne-eqb _ _ (c .before .before .before .before .before .before .if1 .left), eq-eqb _ _ (c .before .before .before .before .if2 .left), eq-eqb _ _ (c .before .before .if3 .left), eq-eqb _ _ (c .if4 .taken))
 
--- src/told.rt:245:8
 element-copy-out-if5 : tie.Need-element-copy-out-if5
 element-copy-out-if5 c = search needs
 
--- src/told.rt:246:9
 returns-5 : tie.Need-returns-5
 unfolding toldEnd pick
 returns-5 c =
     rw (ne-eqb _ _ (c .before .before .before .before .before .before .before .before .if1 .left), eq-eqb _ _ (c .before .before .before .before .before .before .if2 .left), eq-eqb _ _ (c .before .before .before .before .if3 .left), ne-eqb _ _ (c .before .before .if4 .left), eq-eqb _ _ (c .if5 .taken))
 
--- src/told.rt:222:1
 returns-6 : tie.Need-returns-6
 unfolding toldEnd pick
 returns-6 c =

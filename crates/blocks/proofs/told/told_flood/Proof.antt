@@ -10,39 +10,31 @@ use Rattle.blocks.proofs.told.told_flood.Reads as reads
 use Rattle.blocks.proofs.told.told_flood.Lts as lts
 use Rattle.blocks.proofs.told.span.Reads as span-reads
 
--- src/told.rt:257:8
 element-copy-out-if1 : tie.Need-element-copy-out-if1
 element-copy-out-if1 c = search needs
 
--- src/told.rt:258:9
 returns : tie.Need-returns
 unfolding toldFlood pick
 returns c =
     rw (ne-eqb _ _ (c .if1 .taken))
 
--- src/told.rt:260:8
 element-copy-out-if2 : tie.Need-element-copy-out-if2
 element-copy-out-if2 c = search needs
 
--- src/told.rt:261:9
 returns-2 : tie.Need-returns-2
 unfolding toldFlood pick
 returns-2 c =
     rw (eq-eqb _ _ (c .before .before .if1 .left), ne-eqb _ _ (c .if2 .taken))
 
--- src/told.rt:265:25
 element-copy-out-span : tie.Need-element-copy-out-span
 element-copy-out-span c = search needs
 
--- src/told.rt:265:36
 element-copy-out-span-2 : tie.Need-element-copy-out-span-2
 element-copy-out-span-2 c = search needs
 
--- src/told.rt:265:20
 span-requires : tie.Need-span-requires
 span-requires c κs = search needs
 
--- src/told.rt:254:1
 returns-3 : tie.Need-returns-3
 unfolding toldFlood pick
 returns-3 c =

@@ -8,37 +8,31 @@ use Rattle.blocks.proofs.told.told_objective.Tie as tie
 use Rattle.blocks.proofs.told.told_objective.Reads as reads
 use Rattle.blocks.proofs.told.told_objective.Lts as lts
 
--- src/told.rt:97:9
 returns : tie.Need-returns
 unfolding toldObjective pick
 returns c =
     rw (eq-eqb _ _ (c .if1 .taken))
 
--- src/told.rt:104:9
 returns-2 : tie.Need-returns-2
 unfolding toldObjective pick
 returns-2 c =
     rw (ne-eqb _ _ (c .before .if1 .left), eq-eqb _ _ (c .if2 .taken))
 
--- src/told.rt:107:9
 returns-3 : tie.Need-returns-3
 unfolding toldObjective pick
 returns-3 c =
     rw (ne-eqb _ _ (c .before .before .if1 .left), ne-eqb _ _ (c .before .if2 .left), eq-eqb _ _ (c .if3 .taken))
 
--- src/told.rt:110:9
 returns-4 : tie.Need-returns-4
 unfolding toldObjective pick
 returns-4 c =
     rw (ne-eqb _ _ (c .before .before .before .if1 .left), ne-eqb _ _ (c .before .before .if2 .left), ne-eqb _ _ (c .before .if3 .left), eq-eqb _ _ (c .if4 .taken))
 
--- src/told.rt:113:9
 returns-5 : tie.Need-returns-5
 unfolding toldObjective pick
 returns-5 c =
     rw (ne-eqb _ _ (c .before .before .before .before .if1 .left), ne-eqb _ _ (c .before .before .before .if2 .left), ne-eqb _ _ (c .before .before .if3 .left), ne-eqb _ _ (c .before .if4 .left), eq-eqb _ _ (c .if5 .taken))
 
--- src/told.rt:92:1
 returns-6 : tie.Need-returns-6
 unfolding toldObjective pick
 returns-6 c =

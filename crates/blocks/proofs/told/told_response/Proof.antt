@@ -13,79 +13,62 @@ use Rattle.blocks.proofs.told.is_blank.Reads as is-blank-reads
 use Rattle.blocks.proofs.told.response.Reads as response-reads
 use Rattle.blocks.proofs.told.span.Reads as span-reads
 
--- src/told.rt:121:8
 element-copy-out-if1 : tie.Need-element-copy-out-if1
 element-copy-out-if1 c = search needs
 
--- src/told.rt:122:9
 returns : tie.Need-returns
 unfolding toldResponse pick
 returns c =
     rw (ne-eqb _ _ (c .if1 .taken))
 
--- src/told.rt:124:26
 element-copy-out-span : tie.Need-element-copy-out-span
 element-copy-out-span c = search needs
 
--- src/told.rt:124:37
 element-copy-out-span-2 : tie.Need-element-copy-out-span-2
 element-copy-out-span-2 c = search needs
 
--- src/told.rt:124:9
 span-requires : tie.Need-span-requires
 span-requires c κs = search needs
 
--- src/told.rt:125:8
 element-copy-out-if2 : tie.Need-element-copy-out-if2
 element-copy-out-if2 c = search needs
 
--- src/told.rt:126:13
 is-blank-requires : tie.Need-is-blank-requires
 is-blank-requires c κs = search needs
 
--- src/told.rt:127:13
 returns-2 : tie.Need-returns-2
 unfolding toldResponse pick
 returns-2 c =
     rw (eq-eqb _ _ (c .before .before .before .before .before .before .before .if1 .left), ← c .before .before .before .before .span .ensures, eq-eqb _ _ (c .before .before .if2 .taken), ← c .before .is-blank .ensures, not-true (c .before .is-blank .result) (c .if3 .taken))
 
--- src/told.rt:129:25
 element-copy-out-response : tie.Need-element-copy-out-response
 element-copy-out-response c = search needs
 
--- src/told.rt:129:9
 response-requires : tie.Need-response-requires
 response-requires c κs = search needs
 
--- src/told.rt:129:9
 returns-3 : tie.Need-returns-3
 unfolding toldResponse pick
 returns-3 c =
     rw (eq-eqb _ _ (c .before .before .before .before .before .before .before .before .before .if1 .left), ← c .before .before .before .before .before .before .span .ensures, eq-eqb _ _ (c .before .before .before .before .if2 .taken), ← c .before .before .before .is-blank .ensures, not-false (c .before .before .before .is-blank .result) (c .before .before .if3 .left), ← c .response .ensures)
 
--- src/told.rt:131:8
 element-copy-out-if4 : tie.Need-element-copy-out-if4
 element-copy-out-if4 c = search needs
 
--- src/told.rt:132:9
 returns-4 : tie.Need-returns-4
 unfolding toldResponse pick
 returns-4 c =
     rw (eq-eqb _ _ (c .before .before .before .before .before .before .before .if1 .left), ← c .before .before .before .before .span .ensures, ne-eqb _ _ (c .before .before .if2 .left), ne-eqb _ _ (c .if4 .taken))
 
--- src/told.rt:134:14
 element-copy-out-response-2 : tie.Need-element-copy-out-response-2
 element-copy-out-response-2 c = search needs
 
--- src/told.rt:134:52
 goal-requires : tie.Need-goal-requires
 goal-requires c κs = search needs
 
--- src/told.rt:134:5
 response-requires-2 : tie.Need-response-requires-2
 response-requires-2 c κs = search needs
 
--- src/told.rt:118:1
 returns-5 : tie.Need-returns-5
 unfolding toldResponse pick
 returns-5 c =

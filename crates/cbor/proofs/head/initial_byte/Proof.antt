@@ -10,21 +10,17 @@ use Rattle.cbor.proofs.head.initial_byte.Reads as reads
 use Rattle.cbor.proofs.head.initial_byte.Lts as lts
 use Rattle.cbor.proofs.head.width_of.Reads as width-of-reads
 
--- src/head.rt:50:9
 returns : tie.Need-returns
 unfolding initialOf pick
 returns c = search tests
 
--- src/head.rt:53:9
 returns-2 : tie.Need-returns-2
 unfolding initialOf pick
 returns-2 c = search tests
 
--- src/head.rt:57:16
 width-of-requires : tie.Need-width-of-requires
 width-of-requires c κs = search needs
 
--- src/head.rt:45:1
 returns-3 : tie.Need-returns-3
 unfolding initialOf pick
 returns-3 c = search tests

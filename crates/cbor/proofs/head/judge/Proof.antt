@@ -11,36 +11,29 @@ use Rattle.cbor.proofs.head.judge.Reads as reads
 use Rattle.cbor.proofs.head.judge.Lts as lts
 use Rattle.cbor.proofs.head.least_of.Reads as least-of-reads
 
--- src/head.rt:114:15
 add-len : tie.Need-add-len
 add-len c = search needs
 
--- src/head.rt:118:17
 returns : tie.Need-returns
 unfolding judged pick
 returns c = search tests
 
--- src/head.rt:123:13
 returns-2 : tie.Need-returns-2
 unfolding judged pick
 returns-2 c = search tests
 
--- src/head.rt:125:9
 returns-3 : tie.Need-returns-3
 unfolding judged pick
 returns-3 c = search tests
 
--- src/head.rt:127:14
 least-of-requires : tie.Need-least-of-requires
 least-of-requires c κs = search needs
 
--- src/head.rt:128:9
 returns-4 : tie.Need-returns-4
 unfolding judged pick
 returns-4 c =
     rw (ne-eqb _ _ (c .before .before .if1 .left), ← c .before .least-of .ensures, lt-ltb _ _ (c .if4 .taken))
 
--- src/head.rt:110:1
 returns-5 : tie.Need-returns-5
 unfolding judged pick
 returns-5 c =

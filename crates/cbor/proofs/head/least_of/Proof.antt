@@ -8,27 +8,22 @@ use Rattle.cbor.proofs.head.least_of.Tie as tie
 use Rattle.cbor.proofs.head.least_of.Reads as reads
 use Rattle.cbor.proofs.head.least_of.Lts as lts
 
--- src/head.rt:141:9
 returns : tie.Need-returns
 unfolding leastOf pick
 returns c = search tests
 
--- src/head.rt:144:9
 returns-2 : tie.Need-returns-2
 unfolding leastOf pick
 returns-2 c = search tests
 
--- src/head.rt:147:9
 returns-3 : tie.Need-returns-3
 unfolding leastOf pick
 returns-3 c = search tests
 
--- src/head.rt:150:9
 returns-4 : tie.Need-returns-4
 unfolding leastOf pick
 returns-4 c = search tests
 
--- src/head.rt:137:1
 returns-5 : tie.Need-returns-5
 unfolding leastOf pick
 returns-5 c = search tests

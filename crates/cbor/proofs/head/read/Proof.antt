@@ -25,31 +25,24 @@ unfolding headAt
 nonempty [] h = absurd (h refl)
 nonempty (b ∷ s) h = refl
 
--- src/head.rt:25:9
 returns : tie.Need-returns
 returns c = empty _ (c .if1 .taken)
 
--- src/head.rt:30:15
 shared-slice-read-read-from : tie.Need-shared-slice-read-read-from
 shared-slice-read-read-from c = search needs
 
--- src/head.rt:30:21
 sub-read-from : tie.Need-sub-read-from
 sub-read-from c = search needs
 
--- src/head.rt:30:21
 part-read-from-start : tie.Need-part-read-from-start
 part-read-from-start c = search needs
 
--- src/head.rt:30:21
 part-read-from-end : tie.Need-part-read-from-end
 part-read-from-end c = search needs
 
--- src/head.rt:30:5
 read-from-requires : tie.Need-read-from-requires
 read-from-requires c κs = search needs
 
--- src/head.rt:21:1
 returns-2 : tie.Need-returns-2
 returns-2 c = c .read-from .ensures ∙ ap (headOf (getD (c .before .before .before .before .before .args .s .now) 0 0)) (rest-is 1 (c .before .before .before .before .before .args .s .now)) ∙ nonempty (c .before .before .before .before .before .args .s .now) (c .before .before .before .if1 .left)
 

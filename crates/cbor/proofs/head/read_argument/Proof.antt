@@ -11,39 +11,31 @@ use Rattle.cbor.proofs.head.read_argument.Lts as lts
 use Rattle.cbor.proofs.head.big_endian.Reads as big-endian-reads
 use Rattle.cbor.proofs.head.judge.Reads as judge-reads
 
--- src/head.rt:88:20
 add-place : tie.Need-add-place
 add-place c = search needs
 
--- src/head.rt:86:9
 returns : tie.Need-returns
 unfolding headFrom argOf pick
 returns c =
     rw (lt-ltb _ _ (c .if1 .taken))
 
--- src/head.rt:92:29
 cast-judge : tie.Need-cast-judge
 cast-judge c = search needs
 
--- src/head.rt:92:9
 judge-requires : tie.Need-judge-requires
 judge-requires c κs = search needs
 
--- src/head.rt:92:9
 returns-2 : tie.Need-returns-2
 unfolding headFrom argOf pick
 returns-2 c =
     rw (le-ltb _ _ (c .before .before .if1 .left), eq-eqb _ _ (c .before .if2 .taken), ← c .judge .ensures)
 
--- src/head.rt:94:18
 big-endian-requires : tie.Need-big-endian-requires
 big-endian-requires c κs = search needs
 
--- src/head.rt:94:5
 judge-requires-2 : tie.Need-judge-requires-2
 judge-requires-2 c κs = search needs
 
--- src/head.rt:81:1
 returns-3 : tie.Need-returns-3
 unfolding headFrom argOf pick
 returns-3 c =

@@ -11,28 +11,22 @@ use Rattle.cbor.proofs.head.read_from.Lts as lts
 use Rattle.cbor.proofs.head.initial_byte.Reads as initial-byte-reads
 use Rattle.cbor.proofs.head.read_argument.Reads as read-argument-reads
 
--- src/head.rt:37:9
 initial-byte-requires : tie.Need-initial-byte-requires
 initial-byte-requires c κs = search needs
 
--- src/head.rt:39:26
 enum-known-begun : tie.Need-enum-known-begun
 enum-known-begun c = search needs
 
--- src/head.rt:40:27
 enum-known-begun-2 : tie.Need-enum-known-begun-2
 enum-known-begun-2 c = search needs
 
--- src/head.rt:40:45
 read-argument-requires : tie.Need-read-argument-requires
 read-argument-requires c κs = subst InitialOk (sym (c .before .before .before .initial-byte .ensures) ∙ c .before .begun2 .given .1) (initial-ok _)
 
--- src/head.rt:34:1
 returns : tie.Need-returns
 unfolding headOf headBy
 returns c = ap (headBy (c .before .before .before .before .before .args .first) (c .before .before .before .before .before .args .rest .now)) (sym (c .before .begun .given .1) ∙ c .before .before .before .initial-byte .ensures)
 
--- src/head.rt:34:1
 returns-2 : tie.Need-returns-2
 unfolding headOf headBy
 returns-2 c = c .read-argument .ensures ∙ ap (headBy (c .before .before .before .before .before .before .args .first) (c .before .before .before .before .before .before .args .rest .now)) (sym (c .before .before .begun2 .given .1) ∙ c .before .before .before .before .initial-byte .ensures)

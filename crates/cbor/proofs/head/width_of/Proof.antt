@@ -8,27 +8,22 @@ use Rattle.cbor.proofs.head.width_of.Tie as tie
 use Rattle.cbor.proofs.head.width_of.Reads as reads
 use Rattle.cbor.proofs.head.width_of.Lts as lts
 
--- src/head.rt:66:9
 returns : tie.Need-returns
 unfolding widthOf pick
 returns c = search tests
 
--- src/head.rt:69:9
 returns-2 : tie.Need-returns-2
 unfolding widthOf pick
 returns-2 c = search tests
 
--- src/head.rt:72:9
 returns-3 : tie.Need-returns-3
 unfolding widthOf pick
 returns-3 c = search tests
 
--- src/head.rt:75:9
 returns-4 : tie.Need-returns-4
 unfolding widthOf pick
 returns-4 c = search tests
 
--- src/head.rt:62:1
 returns-5 : tie.Need-returns-5
 unfolding widthOf pick
 returns-5 c = search tests

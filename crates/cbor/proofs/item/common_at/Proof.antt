@@ -13,65 +13,51 @@ use Rattle.cbor.proofs.item.common_at.Reads as reads
 use Rattle.cbor.proofs.item.common_at.Lts as lts
 use Rattle.cbor.proofs.item.common_number.Reads as common-number-reads
 
--- src/item.rt:104:9
 returns : tie.Need-returns
 unfolding CommonIs
 returns c = tt
 
--- src/item.rt:106:17
 shared-slice-read-first : tie.Need-shared-slice-read-first
 shared-slice-read-first c = search needs
 
--- src/item.rt:108:9
 returns-2 : tie.Need-returns-2
 unfolding CommonIs
 returns-2 c = small-passed (c .before .before .before .before .args .s .now) (c .before .before .before .before .args .at) (c .before .before .before .before .args .left) (omega arith) (c .if2 .taken)
 
--- src/item.rt:110:16
 sub-rest : tie.Need-sub-rest
 sub-rest c = search needs
 
--- src/item.rt:110:16
 sub-rest-2 : tie.Need-sub-rest-2
 sub-rest-2 c = search needs
 
--- src/item.rt:113:13
 common-number-requires : tie.Need-common-number-requires
 common-number-requires c κs = search needs
 
--- src/item.rt:113:13
 returns-3 : tie.Need-returns-3
 unfolding CommonIs
 returns-3 c = c .common-number .ensures (c .before .before .before .before .before .before .before .args .left)
 
--- src/item.rt:115:20
 cast-info : tie.Need-cast-info
 cast-info c = search needs
 
--- src/item.rt:118:39
 add-t15 : tie.Need-add-t15
 add-t15 c = search needs
 
--- src/item.rt:118:17
 returns-4 : tie.Need-returns-4
 unfolding CommonIs
 returns-4 c = string-passed (c .before .before .before .before .before .before .before .before .args .s .now) (c .before .before .before .before .before .before .before .before .args .at) (c .before .before .before .before .before .before .before .before .args .left) (omega arith) (c .before .before .if4 .left) (c .before .before .before .if3 .taken) (c .before .if5 .taken) (c .if6 .taken)
 
--- src/item.rt:121:9
 returns-5 : tie.Need-returns-5
 unfolding CommonIs
 returns-5 c = tt
 
--- src/item.rt:121:9
 returns-6 : tie.Need-returns-6
 unfolding CommonIs
 returns-6 c = tt
 
--- src/item.rt:125:35
 cast-t18 : tie.Need-cast-t18
 cast-t18 c = search needs
 
--- src/item.rt:125:13
 returns-7 : tie.Need-returns-7
 unfolding CommonIs itemsOf pick
 returns-7 c = (_, false, array-opened (c .before .before .before .before .before .before .before .args .s .now) (c .before .before .before .before .before .before .before .args .at) (c .before .before .before .before .before .before .before .args .left) (omega arith) (c .before .before .if3 .left) (c .if8 .taken) (c .before .if7 .taken), refl)

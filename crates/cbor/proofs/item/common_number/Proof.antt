@@ -9,57 +9,45 @@ use Rattle.cbor.proofs.item.common_number.Tie as tie
 use Rattle.cbor.proofs.item.common_number.Reads as reads
 use Rattle.cbor.proofs.item.common_number.Lts as lts
 
--- src/item.rt:136:17
 shared-slice-read-first : tie.Need-shared-slice-read-first
 shared-slice-read-first c = search needs
 
--- src/item.rt:139:24
 add-if3 : tie.Need-add-if3
 add-if3 c = search needs
 
--- src/item.rt:139:22
 shared-slice-read-if3 : tie.Need-shared-slice-read-if3
 shared-slice-read-if3 c = search needs
 
--- src/item.rt:140:17
 returns : tie.Need-returns
 unfolding CommonIs
 returns c = λ left. byte-passed (c .before .before .before .before .before .args .s .now) (c .before .before .before .before .before .args .at) left (omega arith) (c .before .before .before .if1 .taken) (c .if3 .taken)
 
--- src/item.rt:143:9
 returns-2 : tie.Need-returns-2
 unfolding CommonIs
 returns-2 c = λ left. tt
 
--- src/item.rt:143:9
 returns-3 : tie.Need-returns-3
 unfolding CommonIs
 returns-3 c = λ left. tt
 
--- src/item.rt:147:22
 add-if6 : tie.Need-add-if6
 add-if6 c = search needs
 
--- src/item.rt:147:20
 shared-slice-read-if6 : tie.Need-shared-slice-read-if6
 shared-slice-read-if6 c = search needs
 
--- src/item.rt:148:17
 returns-4 : tie.Need-returns-4
 unfolding CommonIs
 returns-4 c = λ left. two-passed (c .before .before .before .before .before .before .args .s .now) (c .before .before .before .before .before .before .args .at) left (omega arith) (c .before .before .before .if4 .taken) (c .if6 .taken)
 
--- src/item.rt:132:1
 returns-5 : tie.Need-returns-5
 unfolding CommonIs
 returns-5 c = λ left. tt
 
--- src/item.rt:132:1
 returns-6 : tie.Need-returns-6
 unfolding CommonIs
 returns-6 c = λ left. tt
 
--- src/item.rt:132:1
 returns-7 : tie.Need-returns-7
 unfolding CommonIs
 returns-7 c = λ left. tt

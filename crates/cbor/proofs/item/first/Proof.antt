@@ -83,101 +83,81 @@ to-open : (k : Met) (len m : ℕ) → k .turn-at .result ≡ Turn.Opened len m �
 unfolding TurnIs
 to-open k len m e = answer k (Turn.Opened len m) e
 
--- src/item.rt:47:9
 left-under-requires : tie.Need-left-under-requires Inv-loop μ-loop
 left-under-requires c κs = search needs
 
--- src/item.rt:53:5
 loop-holds : tie.Need-loop-holds Inv-loop μ-loop
 loop-holds c =
     begun (c .before .before .args .levels) (c .before .before .args .s .now) _ (c .left-under .ensures)
 
--- src/item.rt:56:17
 returns : tie.Need-returns Inv-loop μ-loop
 returns c =
     let l = c .before .before in
     done _ (l .before .before .before .args .s .now) _ (l .loop .outer) (l .loop .depth) (l .loop .lacking) (l .loop .at) (l .loop .inv) (c .before .if1 .taken) (c .if2 .taken)
 
--- src/item.rt:58:21
 sub-depth : tie.Need-sub-depth Inv-loop μ-loop
 sub-depth c = search needs
 
--- src/item.rt:59:23
 mul-lacking : tie.Need-mul-lacking Inv-loop μ-loop
 mul-lacking c = search needs
 
--- src/item.rt:59:23
 array-read-lacking : tie.Need-array-read-lacking Inv-loop μ-loop
 array-read-lacking c = search needs
 
--- src/item.rt:53:5
 loop-less : tie.Need-loop-less Inv-loop μ-loop
 loop-less c = search needs
 
--- src/item.rt:53:5
 loop-again : tie.Need-loop-again Inv-loop μ-loop
 loop-again c =
     let l = c .before .before in
     closed _ (l .before .before .before .args .s .now) _ (l .loop .outer) (l .loop .depth) (l .loop .lacking) (l .loop .at) (l .loop .inv) (l .loop .depth - 1) (c .before .if1 .taken) (omega arith)
 
--- src/item.rt:61:32
 sub-turn-at : tie.Need-sub-turn-at Inv-loop μ-loop
 sub-turn-at c = search needs
 
--- src/item.rt:61:17
 turn-at-requires : tie.Need-turn-at-requires Inv-loop μ-loop
 turn-at-requires c κs = search needs
 
--- src/item.rt:63:33
 enum-known-turn : tie.Need-enum-known-turn Inv-loop μ-loop
 enum-known-turn c = search needs
 
--- src/item.rt:64:33
 add-place : tie.Need-add-place Inv-loop μ-loop
 add-place c =
     let k = c .before .before .before in
     let ok = within k _ (to-refuse k _ _ (c .before .turn .given .1)) in
     omega (arith, inv k .within, inv k .most-is, ok, short k)
 
--- src/item.rt:65:21
 returns-2 : tie.Need-returns-2 Inv-loop μ-loop
 returns-2 c =
     let k = c .before .before .before in
     refused (levels k) (bytes k) (most k) (outer k) (depth k) (lacking k) (at k) (inv k) (some k) _ _ (to-refuse k _ _ (c .before .turn .given .1))
 
--- src/item.rt:67:30
 enum-known-turn-2 : tie.Need-enum-known-turn-2 Inv-loop μ-loop
 enum-known-turn-2 c = search needs
 
--- src/item.rt:68:26
 add-at : tie.Need-add-at Inv-loop μ-loop
 add-at c =
     let k = c .before .before .before in
     let ok = within k _ (to-pass k _ (c .before .turn2 .given .1)) in
     omega (arith, inv k .within, inv k .most-is, ok, short k)
 
--- src/item.rt:69:31
 sub-lacking : tie.Need-sub-lacking Inv-loop μ-loop
 sub-lacking c = search needs
 
--- src/item.rt:53:5
 loop-less-2 : tie.Need-loop-less-2 Inv-loop μ-loop
 loop-less-2 c =
     let k = c .before .before .before in
     let ok = within k _ (to-pass k _ (c .before .turn2 .given .1)) in
     omega (arith, inv k .within, inv k .most-is, ok, short k)
 
--- src/item.rt:53:5
 loop-again-2 : tie.Need-loop-again-2 Inv-loop μ-loop
 loop-again-2 c =
     let k = c .before .before .before in
     passed (levels k) (bytes k) (most k) (outer k) (depth k) (lacking k) (at k) (inv k) (some k) _ (to-pass k _ (c .before .turn2 .given .1))
 
--- src/item.rt:71:32
 enum-known-turn-3 : tie.Need-enum-known-turn-3 Inv-loop μ-loop
 enum-known-turn-3 c = search needs
 
--- src/item.rt:72:26
 add-at-2 : tie.Need-add-at-2 Inv-loop μ-loop
 add-at-2 c =
     let k = c .before .before .before in
@@ -185,15 +165,12 @@ add-at-2 c =
     let ok = within k _ gives in
     omega (arith, inv k .within, inv k .most-is, ok, short k)
 
--- src/item.rt:73:36
 sub-outer : tie.Need-sub-outer Inv-loop μ-loop
 sub-outer c = search needs
 
--- src/item.rt:73:21
 mul-outer : tie.Need-mul-outer Inv-loop μ-loop
 mul-outer c = search needs
 
--- src/item.rt:73:21
 array-write-outer : tie.Need-array-write-outer Inv-loop μ-loop
 array-write-outer c =
     let k = c .before .before .before in
@@ -201,11 +178,9 @@ array-write-outer c =
     let ok = within k _ gives in
     omega (arith, inv k .within, inv k .most-is, ok, short k)
 
--- src/item.rt:74:29
 add-depth : tie.Need-add-depth Inv-loop μ-loop
 add-depth c = search needs
 
--- src/item.rt:53:5
 loop-less-3 : tie.Need-loop-less-3 Inv-loop μ-loop
 loop-less-3 c =
     let k = c .before .before .before in
@@ -213,7 +188,6 @@ loop-less-3 c =
     let ok = within k _ gives in
     omega (arith, inv k .within, inv k .most-is, ok, short k)
 
--- src/item.rt:53:5
 loop-again-3 : tie.Need-loop-again-3 Inv-loop μ-loop
 loop-again-3 c =
     let k = c .before .before .before in

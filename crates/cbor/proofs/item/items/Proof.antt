@@ -10,21 +10,17 @@ use Rattle.cbor.proofs.item.items.Tie as tie
 use Rattle.cbor.proofs.item.items.Reads as reads
 use Rattle.cbor.proofs.item.items.Lts as lts
 
--- src/item.rt:273:20
 mul-result : tie.Need-mul-result
 mul-result c = search needs
 
--- src/item.rt:273:13
 returns : tie.Need-returns
 unfolding Counts itemsOf pick
 returns c = inl (rw (c .before .if1 .taken))
 
--- src/item.rt:275:9
 returns-2 : tie.Need-returns-2
 unfolding Counts itemsOf pick
 returns-2 c = inr (rw (c .before .if1 .taken) (omega arith))
 
--- src/item.rt:268:1
 returns-3 : tie.Need-returns-3
 unfolding Counts itemsOf pick
 returns-3 c = inl (rw (c .if1 .left))

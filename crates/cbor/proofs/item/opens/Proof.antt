@@ -8,17 +8,14 @@ use Rattle.cbor.proofs.item.opens.Tie as tie
 use Rattle.cbor.proofs.item.opens.Reads as reads
 use Rattle.cbor.proofs.item.opens.Lts as lts
 
--- src/item.rt:233:9
 returns : tie.Need-returns
 unfolding opens pick
 returns c = search tests
 
--- src/item.rt:240:9
 returns-2 : tie.Need-returns-2
 unfolding opens pick
 returns-2 c = search tests
 
--- src/item.rt:229:1
 returns-3 : tie.Need-returns-3
 unfolding opens pick
 returns-3 c = search tests

@@ -12,28 +12,22 @@ use Rattle.cbor.proofs.item.step_at.Lts as lts
 use Rattle.cbor.proofs.head.read.Reads as read-reads
 use Rattle.cbor.proofs.item.step_of.Reads as step-of-reads
 
--- src/item.rt:79:9
 read-requires : tie.Need-read-requires
 read-requires c κs = search needs
 
--- src/item.rt:81:29
 enum-known-head : tie.Need-enum-known-head
 enum-known-head c = search needs
 
--- src/item.rt:82:26
 enum-known-head-2 : tie.Need-enum-known-head-2
 enum-known-head-2 c = search needs
 
--- src/item.rt:82:47
 step-of-requires : tie.Need-step-of-requires
 step-of-requires c κs = subst (HeadOk (length (c .before .before .before .before .before .args .s .now))) (sym (c .before .before .before .read .ensures) ∙ c .before .head2 .given .1) (head-ok (c .before .before .before .before .before .args .s .now)) .1
 
--- src/item.rt:76:1
 returns : tie.Need-returns
 unfolding stepAt stepFrom
 returns c = ap (stepFrom (c .before .before .before .before .before .args .left) (length (c .before .before .before .before .before .args .s .now))) (sym (c .before .head .given .1) ∙ c .before .before .before .read .ensures)
 
--- src/item.rt:76:1
 returns-2 : tie.Need-returns-2
 unfolding stepAt stepFrom
 returns-2 c = c .step-of .ensures ∙ ap (stepFrom (c .before .before .before .before .before .before .args .left) (length (c .before .before .before .before .before .before .args .s .now))) (sym (c .before .before .head2 .given .1) ∙ c .before .before .before .before .read .ensures)

@@ -11,44 +11,35 @@ use Rattle.cbor.proofs.item.step_of.Reads as reads
 use Rattle.cbor.proofs.item.step_of.Lts as lts
 use Rattle.cbor.proofs.item.opens.Reads as opens-reads
 
--- src/item.rt:204:9
 returns : tie.Need-returns
 unfolding stepOf pick
 returns c = search tests
 
--- src/item.rt:208:13
 returns-2 : tie.Need-returns-2
 unfolding stepOf pick
 returns-2 c = search tests
 
--- src/item.rt:213:9
 opens-requires : tie.Need-opens-requires
 opens-requires c κs = search needs
 
--- src/item.rt:213:9
 returns-3 : tie.Need-returns-3
 unfolding stepOf pick
 returns-3 c = rw (ne-eqb _ _ (c .before .before .before .if1 .left), le-leb _ _ (c .before .before .if2 .taken), ne-eqb _ _ (c .before .if3 .left)) (c .opens .ensures)
 
--- src/item.rt:216:20
 sub-if5 : tie.Need-sub-if5
 sub-if5 c = search needs
 
--- src/item.rt:217:23
 add-end : tie.Need-add-end
 add-end c = search needs
 
--- src/item.rt:218:13
 returns-4 : tie.Need-returns-4
 unfolding stepOf pick
 returns-4 c = search tests
 
--- src/item.rt:220:9
 returns-5 : tie.Need-returns-5
 unfolding stepOf pick
 returns-5 c = search tests
 
--- src/item.rt:199:1
 returns-6 : tie.Need-returns-6
 unfolding stepOf pick
 returns-6 c = search tests

@@ -15,53 +15,41 @@ use Rattle.cbor.proofs.item.common_at.Reads as common-at-reads
 use Rattle.cbor.proofs.item.step_at.Reads as step-at-reads
 use Rattle.cbor.proofs.item.turn_of.Reads as turn-of-reads
 
--- src/item.rt:97:9
 common-at-requires : tie.Need-common-at-requires
 common-at-requires c κs = search needs
 
--- src/item.rt:99:24
 enum-known-common : tie.Need-enum-known-common
 enum-known-common c = search needs
 
--- src/item.rt:100:24
 enum-known-common-2 : tie.Need-enum-known-common-2
 enum-known-common-2 c = search needs
 
--- src/item.rt:101:48
 enum-told : tie.Need-enum-told
 enum-told c = search needs
 
--- src/item.rt:101:48
 sub-step-at : tie.Need-sub-step-at
 sub-step-at c = search needs
 
--- src/item.rt:101:48
 part-step-at-start : tie.Need-part-step-at-start
 part-step-at-start c = search needs
 
--- src/item.rt:101:48
 part-step-at-end : tie.Need-part-step-at-end
 part-step-at-end c = search needs
 
--- src/item.rt:101:34
 step-at-requires : tie.Need-step-at-requires
 step-at-requires c κs = search needs
 
--- src/item.rt:101:26
 turn-of-requires : tie.Need-turn-of-requires
 turn-of-requires c κs = search needs
 
--- src/item.rt:93:1
 returns : tie.Need-returns
 unfolding TurnIs CommonIs
 returns c = subst (CommonIs (c .before .before .before .before .before .args .left) (drop (c .before .before .before .before .before .args .at) (c .before .before .before .before .before .args .s .now))) (c .before .common .given .1) (c .before .before .before .common-at .ensures)
 
--- src/item.rt:93:1
 returns-2 : tie.Need-returns-2
 unfolding Counts TurnIs CommonIs
 returns-2 c = let (m, pairs, gives, many) = subst (CommonIs (c .before .before .before .before .before .args .left) (drop (c .before .before .before .before .before .args .at) (c .before .before .before .before .before .args .s .now))) (c .before .common2 .given .1) (c .before .before .before .common-at .ensures) in (m, pairs, gives, inl many)
 
--- src/item.rt:93:1
 returns-3 : tie.Need-returns-3
 returns-3 c = subst (λ (step : Step). TurnIs step (c .turn-of .result)) (c .before .step-at .ensures ∙ ap (stepAt (c .before .before .before .before .before .before .before .args .left)) (rest-is (c .before .before .before .before .before .before .before .args .at) (c .before .before .before .before .before .before .before .args .s .now))) (c .turn-of .ensures)
 

@@ -8,33 +8,26 @@ use Rattle.cbor.proofs.item.turn_of.Reads as reads
 use Rattle.cbor.proofs.item.turn_of.Lts as lts
 use Rattle.cbor.proofs.item.items.Reads as items-reads
 
--- src/item.rt:258:22
 enum-known-step : tie.Need-enum-known-step
 enum-known-step c = search needs
 
--- src/item.rt:259:24
 enum-known-step-2 : tie.Need-enum-known-step-2
 enum-known-step-2 c = search needs
 
--- src/item.rt:260:17
 items-requires : tie.Need-items-requires
 items-requires c κs = search needs
 
--- src/item.rt:263:25
 enum-known-step-3 : tie.Need-enum-known-step-3
 enum-known-step-3 c = search needs
 
--- src/item.rt:254:1
 returns : tie.Need-returns
 unfolding TurnIs
 returns c = c .before .step .given .1
 
--- src/item.rt:254:1
 returns-2 : tie.Need-returns-2
 unfolding TurnIs
 returns-2 c = (_, _, c .before .before .step2 .given .1, c .items .ensures)
 
--- src/item.rt:254:1
 returns-3 : tie.Need-returns-3
 unfolding TurnIs
 returns-3 c = c .before .step3 .given .1

@@ -11,33 +11,26 @@ use Rattle.cbor.proofs.token.array_at.Lts as lts
 use Rattle.cbor.proofs.token.token_at.Reads as token-at-reads
 use Rattle.cbor.proofs.token.token_of.Reads as token-of-reads
 
--- src/token.rt:41:21
 shared-slice-read-first : tie.Need-shared-slice-read-first
 shared-slice-read-first c = search needs
 
--- src/token.rt:44:37
 sub-token-of : tie.Need-sub-token-of
 sub-token-of c = search needs
 
--- src/token.rt:44:54
 cast-token-of : tie.Need-cast-token-of
 cast-token-of c = search needs
 
--- src/token.rt:44:17
 token-of-requires : tie.Need-token-of-requires
 token-of-requires c κs = search needs
 
--- src/token.rt:44:17
 returns : tie.Need-returns
 returns c =
     let k = c .before .before .before .before .before .before in
     token-told (k .args .s .now) (k .args .at) _ _ _ _ _ (array-head (k .args .s .now) (k .args .at) (c .before .before .before .before .if1 .taken) (c .before .before .if2 .taken) (c .before .if3 .taken)) refl (c .token-of .ensures)
 
--- src/token.rt:48:5
 token-at-requires : tie.Need-token-at-requires
 token-at-requires c κs = search needs
 
--- src/token.rt:37:1
 returns-2 : tie.Need-returns-2
 returns-2 c = c .token-at .ensures
 

@@ -8,12 +8,10 @@ use Rattle.cbor.proofs.token.items_in.Tie as tie
 use Rattle.cbor.proofs.token.items_in.Reads as reads
 use Rattle.cbor.proofs.token.items_in.Lts as lts
 
--- src/token.rt:101:9
 returns : tie.Need-returns
 unfolding itemsIn pick
 returns c = search tests
 
--- src/token.rt:97:1
 returns-2 : tie.Need-returns-2
 unfolding itemsIn pick
 returns-2 c = search tests

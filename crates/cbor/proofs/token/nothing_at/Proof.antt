@@ -7,7 +7,6 @@ use Rattle.cbor.proofs.token.nothing_at.Tie as tie
 use Rattle.cbor.proofs.token.nothing_at.Reads as reads
 use Rattle.cbor.proofs.token.nothing_at.Lts as lts
 
--- src/token.rt:36:1
 returns : tie.Need-returns
 unfolding nothingAt
 returns c = search tests

@@ -14,85 +14,66 @@ use Rattle.cbor.proofs.head.two.Reads as two-reads
 use Rattle.cbor.proofs.token.token_at.Reads as token-at-reads
 use Rattle.cbor.proofs.token.token_of.Reads as token-of-reads
 
--- src/token.rt:70:21
 shared-slice-read-first : tie.Need-shared-slice-read-first
 shared-slice-read-first c = search needs
 
--- src/token.rt:71:20
 sub-room : tie.Need-sub-room
 sub-room c = search needs
 
--- src/token.rt:73:42
 cast-token-of : tie.Need-cast-token-of
 cast-token-of c = search needs
 
--- src/token.rt:73:13
 token-of-requires : tie.Need-token-of-requires
 token-of-requires c κs = search needs
 
--- src/token.rt:73:13
 returns : tie.Need-returns
 returns c =
     let k = c .before .before .before .before .before in
     token-told (k .args .s .now) (k .args .at) _ _ _ _ _ (small-head (k .args .s .now) (k .args .at) (c .before .before .before .if1 .taken) (c .before .if2 .taken)) refl (c .token-of .ensures)
 
--- src/token.rt:77:30
 add-high : tie.Need-add-high
 add-high c = search needs
 
--- src/token.rt:77:28
 shared-slice-read-high : tie.Need-shared-slice-read-high
 shared-slice-read-high c = search needs
 
--- src/token.rt:79:50
 cast-token-of-2 : tie.Need-cast-token-of-2
 cast-token-of-2 c = omega (arith, c .before .shared-slice-known3 .given (c .before .before .before .before .before .before .before .before .args .at + 1))
 
--- src/token.rt:79:21
 token-of-requires-2 : tie.Need-token-of-requires-2
 token-of-requires-2 c κs = search needs
 
--- src/token.rt:79:21
 returns-2 : tie.Need-returns-2
 returns-2 c =
     let k = c .before .before .before .before .before .before .before .before .before in
     token-told (k .args .s .now) (k .args .at) _ _ _ _ _ (two-bytes (k .args .s .now) (k .args .at) (omega arith) (c .before .before .before .before .if3 .taken) (c .before .if5 .taken)) refl (c .token-of2 .ensures)
 
--- src/token.rt:85:30
 add-high-2 : tie.Need-add-high-2
 add-high-2 c = search needs
 
--- src/token.rt:85:28
 shared-slice-read-high-2 : tie.Need-shared-slice-read-high-2
 shared-slice-read-high-2 c = search needs
 
--- src/token.rt:87:68
 add-two : tie.Need-add-two
 add-two c = search needs
 
--- src/token.rt:87:66
 shared-slice-read-two : tie.Need-shared-slice-read-two
 shared-slice-read-two c = search needs
 
--- src/token.rt:87:50
 two-requires : tie.Need-two-requires
 two-requires c κs = search needs
 
--- src/token.rt:87:21
 token-of-requires-3 : tie.Need-token-of-requires-3
 token-of-requires-3 c κs = search needs
 
--- src/token.rt:87:21
 returns-3 : tie.Need-returns-3
 returns-3 c =
     let k = c .before .before .before .before .before .before .before .before .before .before .before .before in
     token-told (k .args .s .now) (k .args .at) _ _ _ _ _ (three-bytes (k .args .s .now) (k .args .at) (omega arith) (c .before .before .before .before .before .before .if6 .taken) (c .before .before .before .if8 .taken)) (c .before .two .ensures) (c .token-of3 .ensures)
 
--- src/token.rt:92:5
 token-at-requires : tie.Need-token-at-requires
 token-at-requires c κs = search needs
 
--- src/token.rt:66:1
 returns-4 : tie.Need-returns-4
 returns-4 c = c .token-at .ensures
 

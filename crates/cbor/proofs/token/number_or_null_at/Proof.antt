@@ -11,29 +11,23 @@ use Rattle.cbor.proofs.token.number_or_null_at.Lts as lts
 use Rattle.cbor.proofs.token.number_at.Reads as number-at-reads
 use Rattle.cbor.proofs.token.token_of.Reads as token-of-reads
 
--- src/token.rt:100:12
 shared-slice-read-if2 : tie.Need-shared-slice-read-if2
 shared-slice-read-if2 c = search needs
 
--- src/token.rt:101:33
 sub-token-of : tie.Need-sub-token-of
 sub-token-of c = search needs
 
--- src/token.rt:101:13
 token-of-requires : tie.Need-token-of-requires
 token-of-requires c κs = search needs
 
--- src/token.rt:101:13
 returns : tie.Need-returns
 returns c =
     let k = c .before .before .before .before .before in
     token-told (k .args .s .now) (k .args .at) _ _ _ _ _ (null-head (k .args .s .now) (k .args .at) (c .before .before .before .if1 .taken) (c .before .if2 .taken)) refl (c .token-of .ensures)
 
--- src/token.rt:104:5
 number-at-requires : tie.Need-number-at-requires
 number-at-requires c κs = search needs
 
--- src/token.rt:96:1
 returns-2 : tie.Need-returns-2
 returns-2 c = search needs
 

@@ -10,40 +10,31 @@ use Rattle.cbor.proofs.token.size_at.Reads as reads
 use Rattle.cbor.proofs.token.size_at.Lts as lts
 use Rattle.cbor.proofs.item.first.Reads as first-reads
 
--- src/token.rt:84:9
 returns : tie.Need-returns
 returns c = size-none _ _ _ (c .if1 .taken)
 
--- src/token.rt:86:31
 sub-first : tie.Need-sub-first
 sub-first c = search needs
 
--- src/token.rt:86:31
 part-first-start : tie.Need-part-first-start
 part-first-start c = search needs
 
--- src/token.rt:86:31
 part-first-end : tie.Need-part-first-end
 part-first-end c = search needs
 
--- src/token.rt:86:9
 first-requires : tie.Need-first-requires
 first-requires c κs = search needs
 
--- src/token.rt:91:14
 enum-told : tie.Need-enum-told
 enum-told c = search needs
 
--- src/token.rt:92:24
 enum-known-read : tie.Need-enum-known-read
 enum-known-read c = search needs
 
--- src/token.rt:80:1
 returns-2 : tie.Need-returns-2
 unfolding sizeFrom
 returns-2 c = size-found _ _ _ (ItemRead.Refused _ _) _ (c .before .before .first .ensures) (c .enum-told .given .1)
 
--- src/token.rt:80:1
 returns-3 : tie.Need-returns-3
 unfolding sizeFrom
 returns-3 c = size-found _ _ _ (ItemRead.Ends _) _ (c .before .before .before .first .ensures) (c .before .read .given .1)

@@ -13,56 +13,43 @@ use Rattle.cbor.proofs.head.read.Reads as read-reads
 use Rattle.cbor.proofs.token.nothing_at.Reads as nothing-at-reads
 use Rattle.cbor.proofs.token.token_of.Reads as token-of-reads
 
--- src/token.rt:24:9
 nothing-at-requires : tie.Need-nothing-at-requires
 nothing-at-requires c κs = search needs
 
--- src/token.rt:24:9
 returns : tie.Need-returns
 returns c = token-none _ _ _ (c .before .if1 .taken) (c .nothing-at .ensures)
 
--- src/token.rt:26:27
 sub-read : tie.Need-sub-read
 sub-read c = search needs
 
--- src/token.rt:26:27
 part-read-start : tie.Need-part-read-start
 part-read-start c = search needs
 
--- src/token.rt:26:27
 part-read-end : tie.Need-part-read-end
 part-read-end c = search needs
 
--- src/token.rt:26:9
 read-requires : tie.Need-read-requires
 read-requires c κs = search needs
 
--- src/token.rt:31:14
 enum-told : tie.Need-enum-told
 enum-told c = search needs
 
--- src/token.rt:31:14
 nothing-at-requires-2 : tie.Need-nothing-at-requires-2
 nothing-at-requires-2 c κs = search needs
 
--- src/token.rt:32:26
 enum-known-head : tie.Need-enum-known-head
 enum-known-head c = search needs
 
--- src/token.rt:32:60
 sub-token-of : tie.Need-sub-token-of
 sub-token-of c = search needs
 
--- src/token.rt:32:47
 token-of-requires : tie.Need-token-of-requires
 token-of-requires c κs = (head-fits (c .before .before .before .before .before .before .before .args .s .now) (c .before .before .before .before .before .before .before .args .at) _ _ _ _ (c .before .before .before .read .ensures) (c .before .head .given .1), omega (arith, c .before .before .before .before .before .before .before .good, c .before .before .before .before .before .if1 .left))
 
--- src/token.rt:20:1
 returns-2 : tie.Need-returns-2
 unfolding tokenFrom
 returns-2 c = token-found _ _ _ (HeadRead.Refused _ _) _ (c .before .before .before .read .ensures) (c .before .enum-told .given .1) (c .nothing-at2 .ensures)
 
--- src/token.rt:20:1
 returns-3 : tie.Need-returns-3
 unfolding tokenFrom
 returns-3 c = token-found _ _ _ (HeadRead.Head _ _ _) _ (c .before .before .before .before .read .ensures) (c .before .before .head .given .1) (c .token-of .ensures)

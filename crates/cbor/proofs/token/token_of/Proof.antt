@@ -10,38 +10,30 @@ use Rattle.cbor.proofs.token.token_of.Reads as reads
 use Rattle.cbor.proofs.token.token_of.Lts as lts
 use Rattle.cbor.proofs.token.nothing_at.Reads as nothing-at-reads
 
--- src/token.rt:53:16
 add-body : tie.Need-add-body
 add-body c = search needs
 
--- src/token.rt:56:25
 sub-left : tie.Need-sub-left
 sub-left c = search needs
 
--- src/token.rt:58:28
 add-next : tie.Need-add-next
 add-next c = search needs
 
--- src/token.rt:59:17
 returns : tie.Need-returns
 unfolding tokenOf pick
 returns c = search tests
 
--- src/token.rt:67:13
 nothing-at-requires : tie.Need-nothing-at-requires
 nothing-at-requires c κs = search needs
 
--- src/token.rt:67:13
 returns-2 : tie.Need-returns-2
 unfolding tokenOf pick
 returns-2 c = rw (c .nothing-at .ensures) (search tests)
 
--- src/token.rt:49:1
 returns-3 : tie.Need-returns-3
 unfolding tokenOf pick
 returns-3 c = search tests
 
--- src/token.rt:49:1
 returns-4 : tie.Need-returns-4
 unfolding tokenOf pick
 returns-4 c = search tests

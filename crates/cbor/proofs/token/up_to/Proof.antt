@@ -9,25 +9,20 @@ use Rattle.cbor.proofs.token.up_to.Tie as tie
 use Rattle.cbor.proofs.token.up_to.Reads as reads
 use Rattle.cbor.proofs.token.up_to.Lts as lts
 
--- src/token.rt:113:13
 returns : tie.Need-returns
 unfolding upTo pick
 returns c = search tests
 
--- src/token.rt:115:16
 add-result : tie.Need-add-result
 add-result c = search needs
 
--- src/token.rt:115:9
 returns-2 : tie.Need-returns-2
 unfolding upTo pick
 returns-2 c = search tests
 
--- src/token.rt:117:5
 add-result-2 : tie.Need-add-result-2
 add-result-2 c = search needs
 
--- src/token.rt:107:1
 returns-3 : tie.Need-returns-3
 unfolding upTo pick
 returns-3 c = search tests

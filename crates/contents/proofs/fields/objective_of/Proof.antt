@@ -8,101 +8,79 @@ use Rattle.contents.proofs.fields.objective_of.Tie as tie
 use Rattle.contents.proofs.fields.objective_of.Reads as reads
 use Rattle.contents.proofs.fields.objective_of.Lts as lts
 
--- src/fields.rt:180:26
 enum-told : tie.Need-enum-told
 enum-told c = search needs
 
--- src/fields.rt:184:13
 enum-known-m : tie.Need-enum-known-m
 enum-known-m c = search needs
 
--- src/fields.rt:191:13
 enum-known-m-2 : tie.Need-enum-known-m-2
 enum-known-m-2 c = search needs
 
--- src/fields.rt:195:13
 enum-known-m-3 : tie.Need-enum-known-m-3
 enum-known-m-3 c = search needs
 
--- src/fields.rt:199:13
 enum-known-m-4 : tie.Need-enum-known-m-4
 enum-known-m-4 c = search needs
 
--- src/fields.rt:203:13
 enum-known-m-5 : tie.Need-enum-known-m-5
 enum-known-m-5 c = search needs
 
--- src/fields.rt:208:14
 enum-told-2 : tie.Need-enum-told-2
 enum-told-2 c = search needs
 
--- src/fields.rt:212:14
 enum-told-3 : tie.Need-enum-told-3
 enum-told-3 c = search needs
 
--- src/fields.rt:215:13
 enum-known-m-6 : tie.Need-enum-known-m-6
 enum-known-m-6 c = search needs
 
--- src/fields.rt:221:13
 enum-known-m-7 : tie.Need-enum-known-m-7
 enum-known-m-7 c = search needs
 
--- src/fields.rt:227:14
 enum-told-4 : tie.Need-enum-told-4
 enum-told-4 c = search needs
 
--- src/fields.rt:176:1
 returns : tie.Need-returns
 unfolding objectiveOf
 returns c = sym (ap objectiveOf (c .enum-told .given .1))
 
--- src/fields.rt:176:1
 returns-2 : tie.Need-returns-2
 unfolding objectiveOf
 returns-2 c = sym (ap objectiveOf (c .before .m .given .1))
 
--- src/fields.rt:176:1
 returns-3 : tie.Need-returns-3
 unfolding objectiveOf
 returns-3 c = sym (ap objectiveOf (c .before .m2 .given .1))
 
--- src/fields.rt:176:1
 returns-4 : tie.Need-returns-4
 unfolding objectiveOf
 returns-4 c = sym (ap objectiveOf (c .before .m3 .given .1))
 
--- src/fields.rt:176:1
 returns-5 : tie.Need-returns-5
 unfolding objectiveOf
 returns-5 c = sym (ap objectiveOf (c .before .m4 .given .1))
 
--- src/fields.rt:176:1
 returns-6 : tie.Need-returns-6
 unfolding objectiveOf
 returns-6 c = sym (ap objectiveOf (c .before .m5 .given .1))
 
--- src/fields.rt:176:1
 returns-7 : tie.Need-returns-7
 unfolding objectiveOf
 returns-7 c = sym (ap objectiveOf (c .enum-told2 .given .1))
 
--- src/fields.rt:176:1
 returns-8 : tie.Need-returns-8
 unfolding objectiveOf
 returns-8 c = sym (ap objectiveOf (c .enum-told3 .given .1))
 
--- src/fields.rt:176:1
 returns-9 : tie.Need-returns-9
 unfolding objectiveOf
 returns-9 c = sym (ap objectiveOf (c .before .m6 .given .1))
 
--- src/fields.rt:176:1
 returns-10 : tie.Need-returns-10
 unfolding objectiveOf
 returns-10 c = sym (ap objectiveOf (c .before .m7 .given .1))
 
--- src/fields.rt:176:1
 returns-11 : tie.Need-returns-11
 unfolding objectiveOf
 returns-11 c = sym (ap objectiveOf (c .enum-told4 .given .1))

@@ -8,101 +8,79 @@ use Rattle.contents.proofs.fields.session_of.Tie as tie
 use Rattle.contents.proofs.fields.session_of.Reads as reads
 use Rattle.contents.proofs.fields.session_of.Lts as lts
 
--- src/fields.rt:74:26
 enum-told : tie.Need-enum-told
 enum-told c = search needs
 
--- src/fields.rt:76:13
 enum-known-m : tie.Need-enum-known-m
 enum-known-m c = search needs
 
--- src/fields.rt:81:13
 enum-known-m-2 : tie.Need-enum-known-m-2
 enum-known-m-2 c = search needs
 
--- src/fields.rt:88:13
 enum-known-m-3 : tie.Need-enum-known-m-3
 enum-known-m-3 c = search needs
 
--- src/fields.rt:92:13
 enum-known-m-4 : tie.Need-enum-known-m-4
 enum-known-m-4 c = search needs
 
--- src/fields.rt:96:13
 enum-known-m-5 : tie.Need-enum-known-m-5
 enum-known-m-5 c = search needs
 
--- src/fields.rt:100:13
 enum-known-m-6 : tie.Need-enum-known-m-6
 enum-known-m-6 c = search needs
 
--- src/fields.rt:103:25
 enum-known-m-7 : tie.Need-enum-known-m-7
 enum-known-m-7 c = search needs
 
--- src/fields.rt:105:13
 enum-known-m-8 : tie.Need-enum-known-m-8
 enum-known-m-8 c = search needs
 
--- src/fields.rt:109:13
 enum-known-m-9 : tie.Need-enum-known-m-9
 enum-known-m-9 c = search needs
 
--- src/fields.rt:115:28
 enum-known-m-10 : tie.Need-enum-known-m-10
 enum-known-m-10 c = search needs
 
--- src/fields.rt:70:1
 returns : tie.Need-returns
 unfolding sessionOf
 returns c = sym (ap sessionOf (c .enum-told .given .1))
 
--- src/fields.rt:70:1
 returns-2 : tie.Need-returns-2
 unfolding sessionOf
 returns-2 c = sym (ap sessionOf (c .before .m .given .1))
 
--- src/fields.rt:70:1
 returns-3 : tie.Need-returns-3
 unfolding sessionOf
 returns-3 c = sym (ap sessionOf (c .before .m2 .given .1))
 
--- src/fields.rt:70:1
 returns-4 : tie.Need-returns-4
 unfolding sessionOf
 returns-4 c = sym (ap sessionOf (c .before .m3 .given .1))
 
--- src/fields.rt:70:1
 returns-5 : tie.Need-returns-5
 unfolding sessionOf
 returns-5 c = sym (ap sessionOf (c .before .m4 .given .1))
 
--- src/fields.rt:70:1
 returns-6 : tie.Need-returns-6
 unfolding sessionOf
 returns-6 c = sym (ap sessionOf (c .before .m5 .given .1))
 
--- src/fields.rt:70:1
 returns-7 : tie.Need-returns-7
 unfolding sessionOf
 returns-7 c = sym (ap sessionOf (c .before .m6 .given .1))
 
--- src/fields.rt:70:1
 returns-8 : tie.Need-returns-8
 unfolding sessionOf
 returns-8 c = sym (ap sessionOf (c .before .m7 .given .1))
 
--- src/fields.rt:70:1
 returns-9 : tie.Need-returns-9
 unfolding sessionOf
 returns-9 c = sym (ap sessionOf (c .before .m8 .given .1))
 
--- src/fields.rt:70:1
 returns-10 : tie.Need-returns-10
 unfolding sessionOf
 returns-10 c = sym (ap sessionOf (c .before .m9 .given .1))
 
--- src/fields.rt:70:1
 returns-11 : tie.Need-returns-11
 unfolding sessionOf
 returns-11 c = sym (ap sessionOf (c .before .m10 .given .1))

@@ -12,11 +12,9 @@ use Rattle.contents.proofs.line.kind_line.Reads as reads
 use Rattle.contents.proofs.line.kind_line.Lts as lts
 use Rattle.contents.proofs.line.with_number.Reads as with-number-reads
 
--- src/line.rt:32:5
 with-number-requires : tie.Need-with-number-requires
 with-number-requires c κs = search needs
 
--- src/line.rt:25:1
 returns : tie.Need-returns
 unfolding padded withText kindWord kindLine
 returns c =

@@ -11,37 +11,29 @@ use Rattle.contents.proofs.line.kind_line.Reads as kind-line-reads
 use Rattle.contents.proofs.line.refused_line.Reads as refused-line-reads
 use Rattle.reader.proofs.read.Reads as read-reads
 
--- src/line.rt:17:9
 read-requires : tie.Need-read-requires
 read-requires c κs = search needs
 
--- src/line.rt:19:26
 enum-known-reading : tie.Need-enum-known-reading
 enum-known-reading c = search needs
 
--- src/line.rt:19:37
 refused-line-requires : tie.Need-refused-line-requires
 refused-line-requires c κs = search needs
 
--- src/line.rt:20:23
 enum-known-reading-2 : tie.Need-enum-known-reading-2
 enum-known-reading-2 c = search needs
 
--- src/line.rt:20:45
 kind-of-requires : tie.Need-kind-of-requires
 kind-of-requires c κs = search needs
 
--- src/line.rt:20:35
 kind-line-requires : tie.Need-kind-line-requires
 kind-line-requires c κs = search needs
 
--- src/line.rt:14:1
 returns : tie.Need-returns
 unfolding lineOf lineFrom
 returns c =
     rw (← c .before .before .before .before .read .ensures, c .before .before .reading .given .1, ← c .refused-line .ensures)
 
--- src/line.rt:14:1
 returns-2 : tie.Need-returns-2
 unfolding lineOf lineFrom
 returns-2 c =

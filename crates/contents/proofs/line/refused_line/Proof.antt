@@ -12,11 +12,9 @@ use Rattle.contents.proofs.line.refused_line.Reads as reads
 use Rattle.contents.proofs.line.refused_line.Lts as lts
 use Rattle.contents.proofs.line.with_number.Reads as with-number-reads
 
--- src/line.rt:42:5
 with-number-requires : tie.Need-with-number-requires
 with-number-requires c κs = search needs
 
--- src/line.rt:35:1
 returns : tie.Need-returns
 unfolding padded withText refusedWord refusedLine
 returns c =

@@ -10,49 +10,38 @@ use Rattle.describe.proofs.rows.fill_locators.Reads as fill-locators-re
 use Rattle.describe.proofs.rows.fill_pairs.Reads as fill-pairs-reads
 use Rattle.describe.proofs.rows.rows_in.Reads as rows-in-reads
 
--- src/rows.rt:27:9
 rows-in-requires : tie.Need-rows-in-requires
 rows-in-requires c κs = search needs
 
--- src/rows.rt:29:26
 enum-told : tie.Need-enum-told
 enum-told c = search needs
 
--- src/rows.rt:30:24
 enum-known-rows : tie.Need-enum-known-rows
 enum-known-rows c = search needs
 
--- src/rows.rt:30:35
 fill-locators-requires : tie.Need-fill-locators-requires
 fill-locators-requires c κs = search needs
 
--- src/rows.rt:31:21
 enum-known-rows-2 : tie.Need-enum-known-rows-2
 enum-known-rows-2 c = search needs
 
--- src/rows.rt:31:32
 fill-pairs-requires : tie.Need-fill-pairs-requires
 fill-pairs-requires c κs = search needs
 
--- src/rows.rt:23:1
 returns : tie.Need-returns
 unfolding rowsEnd endBy rowsFilled filledBy
 returns c = (rw (← c .before .before .rows-in .ensures, c .enum-told .given .1), rw (← c .before .before .rows-in .ensures, c .enum-told .given .1))
 
--- src/rows.rt:23:1
 same-length : tie.Need-same-length
 same-length c = search needs
 
--- src/rows.rt:23:1
 returns-2 : tie.Need-returns-2
 unfolding rowsEnd endBy rowsFilled filledBy
 returns-2 c = (rw (← c .before .before .before .before .before .before .before .rows-in .ensures, c .before .before .before .before .before .rows .given .1) (c .before .before .fill-locators .ensures .0), rw (← c .before .before .before .before .before .before .before .rows-in .ensures, c .before .before .before .before .before .rows .given .1) (c .before .before .fill-locators .ensures .1))
 
--- src/rows.rt:23:1
 same-length-2 : tie.Need-same-length-2
 same-length-2 c = search needs
 
--- src/rows.rt:23:1
 returns-3 : tie.Need-returns-3
 unfolding rowsEnd endBy rowsFilled filledBy
 returns-3 c = (rw (← c .before .before .before .before .before .before .before .rows-in .ensures, c .before .before .before .before .before .rows2 .given .1) (c .before .before .fill-pairs .ensures .0), rw (← c .before .before .before .before .before .before .before .rows-in .ensures, c .before .before .before .before .before .rows2 .given .1) (c .before .before .fill-pairs .ensures .1))

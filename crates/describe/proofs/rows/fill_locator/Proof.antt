@@ -12,48 +12,37 @@ use Rattle.describe.proofs.rows.put_numbers.Reads as put-numbers-reads
 use Rattle.options.proofs.locator.numbers_of.Reads as numbers-of-reads
 use Rattle.options.proofs.locator.read_at.Reads as read-at-reads
 
--- src/rows.rt:80:9
 read-at-requires : tie.Need-read-at-requires
 read-at-requires c κs = search needs
 
--- src/rows.rt:82:32
 enum-told : tie.Need-enum-told
 enum-told c = search needs
 
--- src/rows.rt:84:13
 enum-known-read : tie.Need-enum-known-read
 enum-known-read c = search needs
 
--- src/rows.rt:88:21
 numbers-of-requires : tie.Need-numbers-of-requires
 numbers-of-requires c κs = search needs
 
--- src/rows.rt:89:31
 mul-put-numbers : tie.Need-mul-put-numbers
 mul-put-numbers c = search needs
 
--- src/rows.rt:89:38
 slice-aggregate-put-numbers : tie.Need-slice-aggregate-put-numbers
 slice-aggregate-put-numbers c = search needs
 
--- src/rows.rt:89:13
 put-numbers-requires : tie.Need-put-numbers-requires
 put-numbers-requires c κs = search needs
 
--- src/rows.rt:90:13
 add-result : tie.Need-add-result
 add-result c = omega (arith, c .before .before .before .before .before .before .before .before .before .before .before .before .good, c .before .before .before .before .before .before .before .before .before .before .before .before .fits, locator-within (c .before .before .before .before .before .before .before .before .before .before .before .before .args .s .now) _ (c .before .before .before .before .before .before .before .before .before .before .before .before .args .at) _ _ (c .before .before .before .before .before .before .before .before .before .read-at .ensures) (c .before .before .before .before .before .before .before .read .given .1))
 
--- src/rows.rt:75:1
 returns : tie.Need-returns
 unfolding locatorNext locatorNextFrom locatorStored locatorStoredFrom
 returns c = (rw (← c .before .before .read-at .ensures, c .enum-told .given .1), rw (← c .before .before .read-at .ensures, c .enum-told .given .1))
 
--- src/rows.rt:75:1
 same-length : tie.Need-same-length
 same-length c = search needs
 
--- src/rows.rt:75:1
 returns-2 : tie.Need-returns-2
 unfolding locatorNext locatorNextFrom locatorStored locatorStoredFrom
 returns-2 c = (rw (← c .before .before .before .before .before .before .before .before .before .read-at .ensures, c .before .before .before .before .before .before .before .read .given .1), rw (c .before .before .put-numbers .ensures, ← c .before .before .before .before .before .before .before .before .before .read-at .ensures, c .before .before .before .before .before .before .before .read .given .1, ← c .before .before .before .before .before .numbers-of .ensures))

@@ -19,44 +19,34 @@ Inv-loop s list₀ many room n at₀ i₀ list at i = Filling (pairNext s) (pair
 abbrev μ-loop : tie.MeasureT-loop
 μ-loop s list₀ many room n at₀ i₀ list at i = n - i
 
--- src/rows.rt:105:16
 add-result : tie.Need-add-result Inv-loop μ-loop
 add-result c = search needs
 
--- src/rows.rt:105:9
 returns : tie.Need-returns Inv-loop μ-loop
 unfolding seriesEnd seriesFilled pick
 returns c = (rw (lt-ltb _ _ (c .if1 .taken)), rw (lt-ltb _ _ (c .if1 .taken)))
 
--- src/rows.rt:109:5
 loop-holds : tie.Need-loop-holds Inv-loop μ-loop
 loop-holds c = begun _ _ _ _ _
 
--- src/rows.rt:110:9
 fill-pair-requires : tie.Need-fill-pair-requires Inv-loop μ-loop
 fill-pair-requires c κs = omega (arith, c .before .before .loop .inv .within, c .before .before .loop .inv .same-length, c .before .loop-test .taken, c .before .before .before .if1 .left)
 
--- src/rows.rt:109:9
 add-i : tie.Need-add-i Inv-loop μ-loop
 add-i c = search needs
 
--- src/rows.rt:109:5
 loop-less : tie.Need-loop-less Inv-loop μ-loop
 loop-less c = search needs
 
--- src/rows.rt:109:5
 loop-again : tie.Need-loop-again Inv-loop μ-loop
 loop-again c = fill-turn _ _ _ _ _ (c .before .before .before .before .before .loop .i) (c .before .before .before .before .before .loop .at) (c .before .before .before .before .before .loop .list) (c .before .before .before .before .before .loop .inv) _ _ (c .before .before .before .before .loop-test .taken) (c .before .before .fill-pair .ensures .0) (c .before .before .fill-pair .ensures .1) (pair-length _ _ _ _)
 
--- src/rows.rt:112:5
 mul-result : tie.Need-mul-result Inv-loop μ-loop
 mul-result c = omega (arith, c .before .loop .inv .same-length, c .before .before .if1 .left, c .before .before .before .before .before .good)
 
--- src/rows.rt:98:1
 same-length : tie.Need-same-length Inv-loop μ-loop
 same-length c = c .before .loop .inv .same-length
 
--- src/rows.rt:98:1
 returns-2 : tie.Need-returns-2 Inv-loop μ-loop
 unfolding seriesEnd seriesFilled pick
 returns-2 c = (rw (le-ltb _ _ (c .before .before .if1 .left)), rw (le-ltb _ _ (c .before .before .if1 .left)) (filled _ _ _ _ _ (c .before .loop .i) (c .before .loop .at) (c .before .loop .list) (c .before .loop .inv) (omega (arith, c .loop-test .left))))

@@ -16,47 +16,36 @@ Inv-loop list₀ at numbers i₀ list i = Putting list₀ at numbers i list
 abbrev μ-loop : tie.MeasureT-loop
 μ-loop list₀ at numbers i₀ list i = length numbers - i
 
--- src/rows.rt:142:5
 loop-holds : tie.Need-loop-holds Inv-loop μ-loop
 loop-holds c = put-begun _ _ _
 
--- src/rows.rt:143:24
 mul-list : tie.Need-mul-list Inv-loop μ-loop
 mul-list c = search needs
 
--- src/rows.rt:143:24
 shared-slice-read-list : tie.Need-shared-slice-read-list Inv-loop μ-loop
 shared-slice-read-list c = omega arith
 
--- src/rows.rt:143:14
 add-list : tie.Need-add-list Inv-loop μ-loop
 add-list c = search needs
 
--- src/rows.rt:143:9
 mul-list-2 : tie.Need-mul-list-2 Inv-loop μ-loop
 mul-list-2 c = search needs
 
--- src/rows.rt:143:9
 slice-write-list : tie.Need-slice-write-list Inv-loop μ-loop
 slice-write-list c = omega (arith, c .before .before .loop .inv .same-length)
 
--- src/rows.rt:144:9
 add-i : tie.Need-add-i Inv-loop μ-loop
 add-i c = search needs
 
--- src/rows.rt:142:5
 loop-less : tie.Need-loop-less Inv-loop μ-loop
 loop-less c = omega arith
 
--- src/rows.rt:142:5
 loop-again : tie.Need-loop-again Inv-loop μ-loop
 loop-again c = put-turn _ _ _ _ _ (c .before .before .loop .inv) (omega arith)
 
--- src/rows.rt:137:1
 same-length : tie.Need-same-length Inv-loop μ-loop
 same-length c = c .before .loop .inv .same-length
 
--- src/rows.rt:137:1
 returns : tie.Need-returns Inv-loop μ-loop
 returns c = put-done _ _ _ _ _ (c .before .loop .inv) (omega arith)
 

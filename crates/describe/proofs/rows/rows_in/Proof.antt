@@ -7,125 +7,100 @@ use Rattle.describe.proofs.rows.rows_in.Tie as tie
 use Rattle.describe.proofs.rows.rows_in.Reads as reads
 use Rattle.describe.proofs.rows.rows_in.Lts as lts
 
--- src/rows.rt:39:26
 enum-told : tie.Need-enum-told
 enum-told c = search needs
 
--- src/rows.rt:40:38
 enum-told-2 : tie.Need-enum-told-2
 enum-told-2 c = search needs
 
--- src/rows.rt:41:29
 enum-known-m : tie.Need-enum-known-m
 enum-known-m c = search needs
 
--- src/rows.rt:42:31
 enum-known-targets : tie.Need-enum-known-targets
 enum-known-targets c = search needs
 
--- src/rows.rt:43:29
 enum-known-targets-2 : tie.Need-enum-known-targets-2
 enum-known-targets-2 c = search needs
 
--- src/rows.rt:45:47
 enum-told-3 : tie.Need-enum-told-3
 enum-told-3 c = search needs
 
--- src/rows.rt:46:51
 enum-told-4 : tie.Need-enum-told-4
 enum-told-4 c = search needs
 
--- src/rows.rt:47:38
 enum-told-5 : tie.Need-enum-told-5
 enum-told-5 c = search needs
 
--- src/rows.rt:48:32
 enum-told-6 : tie.Need-enum-told-6
 enum-told-6 c = search needs
 
--- src/rows.rt:49:33
 enum-told-7 : tie.Need-enum-told-7
 enum-told-7 c = search needs
 
--- src/rows.rt:50:34
 enum-told-8 : tie.Need-enum-told-8
 enum-told-8 c = search needs
 
--- src/rows.rt:51:26
 enum-known-m-2 : tie.Need-enum-known-m-2
 enum-known-m-2 c = search needs
 
--- src/rows.rt:52:36
 enum-told-9 : tie.Need-enum-told-9
 enum-told-9 c = search needs
 
--- src/rows.rt:35:1
 returns : tie.Need-returns
 unfolding rowsIn targetRows
 returns c =
     rw (c .enum-told .given .1)
 
--- src/rows.rt:35:1
 returns-2 : tie.Need-returns-2
 unfolding rowsIn targetRows
 returns-2 c =
     rw (c .enum-told2 .given .1)
 
--- src/rows.rt:35:1
 returns-3 : tie.Need-returns-3
 unfolding rowsIn targetRows
 returns-3 c =
     rw (c .before .before .before .before .m .given .1, c .before .targets .given .1)
 
--- src/rows.rt:35:1
 returns-4 : tie.Need-returns-4
 unfolding rowsIn targetRows
 returns-4 c =
     rw (c .before .before .before .before .m .given .1, c .before .targets2 .given .1)
 
--- src/rows.rt:35:1
 returns-5 : tie.Need-returns-5
 unfolding rowsIn targetRows
 returns-5 c =
     rw (c .enum-told3 .given .1)
 
--- src/rows.rt:35:1
 returns-6 : tie.Need-returns-6
 unfolding rowsIn targetRows
 returns-6 c =
     rw (c .enum-told4 .given .1)
 
--- src/rows.rt:35:1
 returns-7 : tie.Need-returns-7
 unfolding rowsIn targetRows
 returns-7 c =
     rw (c .enum-told5 .given .1)
 
--- src/rows.rt:35:1
 returns-8 : tie.Need-returns-8
 unfolding rowsIn targetRows
 returns-8 c =
     rw (c .enum-told6 .given .1)
 
--- src/rows.rt:35:1
 returns-9 : tie.Need-returns-9
 unfolding rowsIn targetRows
 returns-9 c =
     rw (c .enum-told7 .given .1)
 
--- src/rows.rt:35:1
 returns-10 : tie.Need-returns-10
 unfolding rowsIn targetRows
 returns-10 c =
     rw (c .enum-told8 .given .1)
 
--- src/rows.rt:35:1
 returns-11 : tie.Need-returns-11
 unfolding rowsIn targetRows
 returns-11 c =
     rw (c .before .m2 .given .1)
 
--- src/rows.rt:35:1
 returns-12 : tie.Need-returns-12
 unfolding rowsIn targetRows
 returns-12 c =

@@ -8,20 +8,16 @@ use Rattle.description.proofs.counts.how_many.Tie as tie
 use Rattle.description.proofs.counts.how_many.Reads as reads
 use Rattle.description.proofs.counts.how_many.Lts as lts
 
--- src/counts.rt:-8:27
 enum-told : tie.Need-enum-told
 enum-told c = search needs
 
--- src/counts.rt:-7:27
 enum-told-2 : tie.Need-enum-told-2
 enum-told-2 c = search needs
 
--- src/counts.rt:-12:1
 returns : tie.Need-returns
 unfolding howMany extraOf
 returns c = rw (c .enum-told .given .1)
 
--- src/counts.rt:-12:1
 returns-2 : tie.Need-returns-2
 unfolding howMany extraOf
 returns-2 c = rw (c .enum-told2 .given .1)

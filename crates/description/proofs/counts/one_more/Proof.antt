@@ -8,15 +8,12 @@ use Rattle.description.proofs.counts.one_more.Reads as reads
 use Rattle.description.proofs.counts.one_more.Lts as lts
 use Rattle.description.proofs.spans.covered.Reads as covered-reads
 
--- src/counts.rt:33:8
 covered-requires : tie.Need-covered-requires
 covered-requires c κs = search needs
 
--- src/counts.rt:34:9
 returns : tie.Need-returns
 returns c = more-none _ _ (c .before .covered .ensures) (c .if1 .taken)
 
--- src/counts.rt:30:1
 returns-2 : tie.Need-returns-2
 returns-2 c = more-one _ _ (c .before .covered .ensures) (c .if1 .left)
 

@@ -9,12 +9,10 @@ use Rattle.description.proofs.counts.target_items.Tie as tie
 use Rattle.description.proofs.counts.target_items.Reads as reads
 use Rattle.description.proofs.counts.target_items.Lts as lts
 
--- src/counts.rt:-12:9
 returns : tie.Need-returns
 unfolding targetItems targetsOf
 returns c = rw (c .if1 .taken) refl
 
--- src/counts.rt:-16:1
 returns-2 : tie.Need-returns-2
 returns-2 c = rw (c .if1 .left) (rows-many _)
 

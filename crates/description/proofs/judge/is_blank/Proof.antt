@@ -8,22 +8,18 @@ use Rattle.description.proofs.judge.is_blank.Tie as tie
 use Rattle.description.proofs.judge.is_blank.Reads as reads
 use Rattle.description.proofs.judge.is_blank.Lts as lts
 
--- src/judge.rt:198:9
 returns : tie.Need-returns
 unfolding blank pick
 returns c = rw (ne-eqb _ _ (c .if1 .taken))
 
--- src/judge.rt:201:9
 returns-2 : tie.Need-returns-2
 unfolding blank pick
 returns-2 c = rw (eq-eqb _ _ (c .before .before .if1 .left), ne-eqb _ _ (c .if2 .taken))
 
--- src/judge.rt:204:9
 returns-3 : tie.Need-returns-3
 unfolding blank pick
 returns-3 c = rw (eq-eqb _ _ (c .before .before .before .before .if1 .left), eq-eqb _ _ (c .before .before .if2 .left), ne-eqb _ _ (c .if3 .taken))
 
--- src/judge.rt:194:1
 returns-4 : tie.Need-returns-4
 unfolding blank pick
 returns-4 c = rw (eq-eqb _ _ (c .before .before .before .before .before .if1 .left), eq-eqb _ _ (c .before .before .before .if2 .left), eq-eqb _ _ (c .before .if3 .left))

@@ -8,11 +8,9 @@ use Rattle.description.proofs.judge.is_inside.Reads as reads
 use Rattle.description.proofs.judge.is_inside.Lts as lts
 use Rattle.description.proofs.spans.covered.Reads as covered-reads
 
--- src/judge.rt:251:5
 covered-requires : tie.Need-covered-requires
 covered-requires c κs = search needs
 
--- src/judge.rt:248:1
 returns : tie.Need-returns
 unfolding inside
 returns c = rw (c .before .covered .ensures)

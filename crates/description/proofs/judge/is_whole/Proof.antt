@@ -10,24 +10,19 @@ use Rattle.description.proofs.judge.is_whole.Reads as reads
 use Rattle.description.proofs.judge.is_whole.Lts as lts
 use Rattle.cbor.proofs.item.first.Reads as first-reads
 
--- src/judge.rt:283:9
 first-requires : tie.Need-first-requires
 first-requires c κs = search needs
 
--- src/judge.rt:285:54
 enum-told : tie.Need-enum-told
 enum-told c = search needs
 
--- src/judge.rt:286:24
 enum-known-read : tie.Need-enum-known-read
 enum-known-read c = search needs
 
--- src/judge.rt:280:1
 returns : tie.Need-returns
 unfolding whole alone
 returns c = rw (← (c .before .before .first .ensures), (c .enum-told .given .1))
 
--- src/judge.rt:280:1
 returns-2 : tie.Need-returns-2
 unfolding whole alone
 returns-2 c = rw (← (c .before .before .before .first .ensures), (c .before .read .given .1)) (sym (pick-same _))

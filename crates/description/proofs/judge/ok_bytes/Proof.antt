@@ -10,16 +10,13 @@ use Rattle.description.proofs.judge.ok_bytes.Reads as reads
 use Rattle.description.proofs.judge.ok_bytes.Lts as lts
 use Rattle.description.proofs.judge.is_whole.Reads as is-whole-reads
 
--- src/judge.rt:274:9
 returns : tie.Need-returns
 unfolding okValue pick
 returns c = rw (eq-eqb _ _ (c .if1 .taken))
 
--- src/judge.rt:276:5
 is-whole-requires : tie.Need-is-whole-requires
 is-whole-requires c κs = search needs
 
--- src/judge.rt:270:1
 returns-2 : tie.Need-returns-2
 unfolding okValue pick
 returns-2 c = rw (ne-eqb _ _ (c .before .if1 .left)) (c .is-whole .ensures)

@@ -10,20 +10,16 @@ use Rattle.description.proofs.judge.ok_described.Lts as lts
 use Rattle.description.proofs.judge.ok_list.Reads as ok-list-reads
 use Rattle.description.proofs.judge.ok_parts.Reads as ok-parts-reads
 
--- src/judge.rt:26:8
 ok-list-requires : tie.Need-ok-list-requires
 ok-list-requires c κs = search needs
 
--- src/judge.rt:27:9
 ok-parts-requires : tie.Need-ok-parts-requires
 ok-parts-requires c κs = search needs
 
--- src/judge.rt:27:9
 returns : tie.Need-returns
 unfolding okDescribed pick
 returns c = rw (← (c .before .before .ok-list .ensures), (c .before .if1 .taken)) (c .ok-parts .ensures)
 
--- src/judge.rt:23:1
 returns-2 : tie.Need-returns-2
 unfolding okDescribed pick
 returns-2 c = rw (← (c .before .ok-list .ensures), (c .if1 .left))

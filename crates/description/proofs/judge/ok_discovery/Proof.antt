@@ -10,20 +10,16 @@ use Rattle.description.proofs.judge.ok_discovery.Lts as lts
 use Rattle.description.proofs.judge.is_inside.Reads as is-inside-reads
 use Rattle.description.proofs.judge.ok_goal.Reads as ok-goal-reads
 
--- src/judge.rt:80:8
 is-inside-requires : tie.Need-is-inside-requires
 is-inside-requires c κs = search needs
 
--- src/judge.rt:81:9
 ok-goal-requires : tie.Need-ok-goal-requires
 ok-goal-requires c κs = search needs
 
--- src/judge.rt:81:9
 returns : tie.Need-returns
 unfolding okDiscovery pick
 returns c = rw (← (c .before .before .is-inside .ensures), (c .before .if1 .taken)) (c .ok-goal .ensures)
 
--- src/judge.rt:77:1
 returns-2 : tie.Need-returns-2
 unfolding okDiscovery pick
 returns-2 c = rw (← (c .before .is-inside .ensures), (c .if1 .left))

@@ -10,20 +10,16 @@ use Rattle.description.proofs.judge.ok_entry.Lts as lts
 use Rattle.description.proofs.judge.is_inside.Reads as is-inside-reads
 use Rattle.description.proofs.judge.ok_item.Reads as ok-item-reads
 
--- src/judge.rt:232:8
 is-inside-requires : tie.Need-is-inside-requires
 is-inside-requires c κs = search needs
 
--- src/judge.rt:233:9
 ok-item-requires : tie.Need-ok-item-requires
 ok-item-requires c κs = search needs
 
--- src/judge.rt:233:9
 returns : tie.Need-returns
 unfolding okEntry pick
 returns c = rw (← (c .before .before .is-inside .ensures), (c .before .if1 .taken)) (c .ok-item .ensures)
 
--- src/judge.rt:229:1
 returns-2 : tie.Need-returns-2
 unfolding okEntry pick
 returns-2 c = rw (← (c .before .is-inside .ensures), (c .if1 .left))

@@ -8,24 +8,19 @@ use Rattle.description.proofs.judge.ok_extra.Reads as reads
 use Rattle.description.proofs.judge.ok_extra.Lts as lts
 use Rattle.description.proofs.judge.ok_goal.Reads as ok-goal-reads
 
--- src/judge.rt:102:27
 enum-told : tie.Need-enum-told
 enum-told c = search needs
 
--- src/judge.rt:103:21
 enum-known-extra : tie.Need-enum-known-extra
 enum-known-extra c = search needs
 
--- src/judge.rt:103:27
 ok-goal-requires : tie.Need-ok-goal-requires
 ok-goal-requires c κs = search needs
 
--- src/judge.rt:98:1
 returns : tie.Need-returns
 unfolding okExtra
 returns c = rw (c .enum-told .given .1)
 
--- src/judge.rt:98:1
 returns-2 : tie.Need-returns-2
 unfolding okExtra
 returns-2 c = rw (c .before .before .extra .given .1) (c .ok-goal .ensures)

@@ -10,20 +10,16 @@ use Rattle.description.proofs.judge.ok_flood.Lts as lts
 use Rattle.description.proofs.judge.is_inside.Reads as is-inside-reads
 use Rattle.description.proofs.judge.ok_pairs.Reads as ok-pairs-reads
 
--- src/judge.rt:120:8
 is-inside-requires : tie.Need-is-inside-requires
 is-inside-requires c κs = search needs
 
--- src/judge.rt:121:9
 ok-pairs-requires : tie.Need-ok-pairs-requires
 ok-pairs-requires c κs = search needs
 
--- src/judge.rt:121:9
 returns : tie.Need-returns
 unfolding okFlood pick
 returns c = rw (← (c .before .before .is-inside .ensures), (c .before .if1 .taken)) (c .ok-pairs .ensures)
 
--- src/judge.rt:117:1
 returns-2 : tie.Need-returns-2
 unfolding okFlood pick
 returns-2 c = rw (← (c .before .is-inside .ensures), (c .if1 .left))

@@ -8,15 +8,12 @@ use Rattle.description.proofs.judge.ok_goal.Lts as lts
 use Rattle.description.proofs.judge.ok_entry.Reads as ok-entry-reads
 use Rattle.description.proofs.rows.entry_of.Reads as entry-of-reads
 
--- src/judge.rt:225:9
 entry-of-requires : tie.Need-entry-of-requires
 entry-of-requires c κs = search needs
 
--- src/judge.rt:226:5
 ok-entry-requires : tie.Need-ok-entry-requires
 ok-entry-requires c κs = search needs
 
--- src/judge.rt:222:1
 returns : tie.Need-returns
 returns c = rw (← (c .before .entry-of .ensures)) (c .ok-entry .ensures)
 

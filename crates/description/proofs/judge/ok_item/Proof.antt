@@ -10,20 +10,16 @@ use Rattle.description.proofs.judge.ok_item.Lts as lts
 use Rattle.description.proofs.judge.is_inside.Reads as is-inside-reads
 use Rattle.description.proofs.judge.ok_value.Reads as ok-value-reads
 
--- src/judge.rt:242:8
 is-inside-requires : tie.Need-is-inside-requires
 is-inside-requires c κs = search needs
 
--- src/judge.rt:243:9
 ok-value-requires : tie.Need-ok-value-requires
 ok-value-requires c κs = search needs
 
--- src/judge.rt:243:9
 returns : tie.Need-returns
 unfolding okItem pick
 returns c = rw (← (c .before .before .is-inside .ensures), (c .before .if1 .taken)) (c .ok-value .ensures)
 
--- src/judge.rt:239:1
 returns-2 : tie.Need-returns-2
 unfolding okItem pick
 returns-2 c = rw (← (c .before .is-inside .ensures), (c .if1 .left))

@@ -9,16 +9,13 @@ use Rattle.description.proofs.judge.ok_list.Reads as reads
 use Rattle.description.proofs.judge.ok_list.Lts as lts
 use Rattle.description.proofs.judge.has_list.Reads as has-list-reads
 
--- src/judge.rt:35:8
 has-list-requires : tie.Need-has-list-requires
 has-list-requires c κs = search needs
 
--- src/judge.rt:36:9
 returns : tie.Need-returns
 unfolding okList pick
 returns c = rw (← (c .before .has-list .ensures), (c .if1 .taken))
 
--- src/judge.rt:32:1
 returns-2 : tie.Need-returns-2
 unfolding okList pick
 returns-2 c = rw (← (c .before .has-list .ensures), (c .if1 .left))

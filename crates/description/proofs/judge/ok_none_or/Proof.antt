@@ -11,20 +11,16 @@ use Rattle.description.proofs.judge.ok_none_or.Lts as lts
 use Rattle.description.proofs.judge.is_blank.Reads as is-blank-reads
 use Rattle.description.proofs.judge.ok_place.Reads as ok-place-reads
 
--- src/judge.rt:189:9
 is-blank-requires : tie.Need-is-blank-requires
 is-blank-requires c κs = search needs
 
--- src/judge.rt:189:9
 returns : tie.Need-returns
 unfolding okNoneOr pick
 returns c = rw (eq-eqb _ _ (c .before .if1 .taken)) (c .is-blank .ensures)
 
--- src/judge.rt:191:5
 ok-place-requires : tie.Need-ok-place-requires
 ok-place-requires c κs = search needs
 
--- src/judge.rt:184:1
 returns-2 : tie.Need-returns-2
 unfolding okNoneOr pick
 returns-2 c = rw (ne-eqb _ _ (c .before .if1 .left)) (c .ok-place .ensures)

@@ -8,33 +8,26 @@ use Rattle.description.proofs.judge.ok_outcome.Reads as reads
 use Rattle.description.proofs.judge.ok_outcome.Lts as lts
 use Rattle.description.proofs.judge.is_inside.Reads as is-inside-reads
 
--- src/judge.rt:111:27
 enum-told : tie.Need-enum-told
 enum-told c = search needs
 
--- src/judge.rt:112:28
 enum-told-2 : tie.Need-enum-told-2
 enum-told-2 c = search needs
 
--- src/judge.rt:113:24
 enum-known-outcome : tie.Need-enum-known-outcome
 enum-known-outcome c = search needs
 
--- src/judge.rt:113:33
 is-inside-requires : tie.Need-is-inside-requires
 is-inside-requires c κs = search needs
 
--- src/judge.rt:107:1
 returns : tie.Need-returns
 unfolding okOutcome
 returns c = rw (c .enum-told .given .1)
 
--- src/judge.rt:107:1
 returns-2 : tie.Need-returns-2
 unfolding okOutcome
 returns-2 c = rw (c .enum-told2 .given .1)
 
--- src/judge.rt:107:1
 returns-3 : tie.Need-returns-3
 unfolding okOutcome
 returns-3 c = rw (c .before .before .outcome .given .1) (c .is-inside .ensures)

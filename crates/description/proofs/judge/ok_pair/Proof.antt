@@ -13,61 +13,47 @@ use Rattle.description.proofs.judge.ok_none_or.Reads as ok-none-or-read
 use Rattle.description.proofs.rows.place_at.Reads as place-at-reads
 use Rattle.description.proofs.rows.entry_at.Reads as entry-at-reads
 
--- src/judge.rt:172:13
 mul-if1 : tie.Need-mul-if1
 mul-if1 c = search needs
 
--- src/judge.rt:172:13
 add-if1 : tie.Need-add-if1
 add-if1 c = search needs
 
--- src/judge.rt:172:8
 mul-if1-2 : tie.Need-mul-if1-2
 mul-if1-2 c = search needs
 
--- src/judge.rt:172:8
 shared-slice-read-if1 : tie.Need-shared-slice-read-if1
 shared-slice-read-if1 c = search needs
 
--- src/judge.rt:173:9
 returns : tie.Need-returns
 unfolding okPair pick
 returns c = rw (ne-eqb _ _ (c .if1 .taken))
 
--- src/judge.rt:175:39
 mul-entry-at : tie.Need-mul-entry-at
 mul-entry-at c = search needs
 
--- src/judge.rt:175:9
 entry-at-requires : tie.Need-entry-at-requires
 entry-at-requires c κs = search needs
 
--- src/judge.rt:176:37
 mul-place-at : tie.Need-mul-place-at
 mul-place-at c = search needs
 
--- src/judge.rt:176:37
 add-place-at : tie.Need-add-place-at
 add-place-at c = search needs
 
--- src/judge.rt:176:9
 place-at-requires : tie.Need-place-at-requires
 place-at-requires c κs = search needs
 
--- src/judge.rt:177:8
 ok-entry-requires : tie.Need-ok-entry-requires
 ok-entry-requires c κs = search needs
 
--- src/judge.rt:178:9
 ok-none-or-requires : tie.Need-ok-none-or-requires
 ok-none-or-requires c κs = search needs
 
--- src/judge.rt:178:9
 returns-2 : tie.Need-returns-2
 unfolding okPair pick
 returns-2 c = rw (eq-eqb _ _ (c .before .before .before .before .before .if1 .left), ← (c .before .before .before .before .entry-at .ensures), ← (c .before .before .before .place-at .ensures), ← (c .before .before .ok-entry .ensures), (c .before .if2 .taken)) (c .ok-none-or .ensures)
 
--- src/judge.rt:168:1
 returns-3 : tie.Need-returns-3
 unfolding okPair pick
 returns-3 c = rw (eq-eqb _ _ (c .before .before .before .before .if1 .left), ← (c .before .before .before .entry-at .ensures), ← (c .before .ok-entry .ensures), (c .if2 .left))

@@ -20,37 +20,29 @@ Inv-loop source list rows i₀ i = (i ≤ length list / pairRow) × (allFrom (ok
 abbrev μ-loop : tie.MeasureT-loop
 μ-loop source list rows i₀ i = length list / pairRow - i
 
--- src/judge.rt:155:9
 returns : tie.Need-returns Inv-loop μ-loop
 unfolding okPairs
 returns c = each-bad _ _ _ (c .if1 .taken)
 
--- src/judge.rt:159:5
 loop-holds : tie.Need-loop-holds Inv-loop μ-loop
 unfolding okPairs
 loop-holds c = (omega arith, each-start _ _ _ (c .if1 .left))
 
--- src/judge.rt:160:13
 ok-pair-requires : tie.Need-ok-pair-requires Inv-loop μ-loop
 ok-pair-requires c κs = omega arith
 
--- src/judge.rt:161:13
 returns-2 : tie.Need-returns-2 Inv-loop μ-loop
 returns-2 c = sym (all-stop _ _ _ (c .before .before .loop-test .taken) (sym (c .before .ok-pair .ensures) ∙ not-true _ (c .if2 .taken))) ∙ (c .before .before .before .loop .inv .1)
 
--- src/judge.rt:163:9
 add-i : tie.Need-add-i Inv-loop μ-loop
 add-i c = omega arith
 
--- src/judge.rt:159:5
 loop-less : tie.Need-loop-less Inv-loop μ-loop
 loop-less c = omega arith
 
--- src/judge.rt:159:5
 loop-again : tie.Need-loop-again Inv-loop μ-loop
 loop-again c = (omega arith, sym (all-step _ _ _ (c .before .before .loop-test .taken) (sym (c .before .ok-pair .ensures) ∙ not-false _ (c .if2 .left))) ∙ (c .before .before .before .loop .inv .1))
 
--- src/judge.rt:151:1
 returns-3 : tie.Need-returns-3 Inv-loop μ-loop
 returns-3 c = sym (all-end _ _ _ (c .loop-test .left)) ∙ (c .before .loop .inv .1)
 

@@ -13,137 +13,106 @@ use Rattle.description.proofs.judge.ok_flood.Reads as ok-flood-reads
 use Rattle.description.proofs.judge.ok_item.Reads as ok-item-reads
 use Rattle.description.proofs.judge.ok_response.Reads as ok-response-reads
 
--- src/judge.rt:63:30
 enum-told : tie.Need-enum-told
 enum-told c = search needs
 
--- src/judge.rt:64:46
 enum-known-m : tie.Need-enum-known-m
 enum-known-m c = search needs
 
--- src/judge.rt:64:72
 ok-discovery-requires : tie.Need-ok-discovery-requires
 ok-discovery-requires c κs = search needs
 
--- src/judge.rt:65:45
 enum-known-m-2 : tie.Need-enum-known-m-2
 enum-known-m-2 c = search needs
 
--- src/judge.rt:65:90
 ok-response-requires : tie.Need-ok-response-requires
 ok-response-requires c κs = search needs
 
--- src/judge.rt:66:55
 enum-known-m-3 : tie.Need-enum-known-m-3
 enum-known-m-3 c = search needs
 
--- src/judge.rt:66:70
 ok-goal-requires : tie.Need-ok-goal-requires
 ok-goal-requires c κs = search needs
 
--- src/judge.rt:67:59
 enum-known-m-4 : tie.Need-enum-known-m-4
 enum-known-m-4 c = search needs
 
--- src/judge.rt:67:74
 ok-goal-requires-2 : tie.Need-ok-goal-requires-2
 ok-goal-requires-2 c κs = search needs
 
--- src/judge.rt:68:46
 enum-known-m-5 : tie.Need-enum-known-m-5
 enum-known-m-5 c = search needs
 
--- src/judge.rt:68:61
 ok-goal-requires-3 : tie.Need-ok-goal-requires-3
 ok-goal-requires-3 c κs = search needs
 
--- src/judge.rt:69:40
 enum-known-m-6 : tie.Need-enum-known-m-6
 enum-known-m-6 c = search needs
 
--- src/judge.rt:69:52
 ok-outcome-requires : tie.Need-ok-outcome-requires
 ok-outcome-requires c κs = search needs
 
--- src/judge.rt:70:54
 enum-told-2 : tie.Need-enum-told-2
 enum-told-2 c = search needs
 
--- src/judge.rt:71:42
 enum-known-m-7 : tie.Need-enum-known-m-7
 enum-known-m-7 c = search needs
 
--- src/judge.rt:71:57
 ok-goal-requires-4 : tie.Need-ok-goal-requires-4
 ok-goal-requires-4 c κs = search needs
 
--- src/judge.rt:72:42
 enum-known-m-8 : tie.Need-enum-known-m-8
 enum-known-m-8 c = search needs
 
--- src/judge.rt:72:65
 ok-flood-requires : tie.Need-ok-flood-requires
 ok-flood-requires c κs = search needs
 
--- src/judge.rt:73:44
 enum-known-m-9 : tie.Need-enum-known-m-9
 enum-known-m-9 c = search needs
 
--- src/judge.rt:73:54
 ok-item-requires : tie.Need-ok-item-requires
 ok-item-requires c κs = search needs
 
--- src/judge.rt:59:1
 returns : tie.Need-returns
 unfolding okParts
 returns c = rw (c .enum-told .given .1)
 
--- src/judge.rt:59:1
 returns-2 : tie.Need-returns-2
 unfolding okParts
 returns-2 c = rw (c .before .before .m .given .1) (c .ok-discovery .ensures)
 
--- src/judge.rt:59:1
 returns-3 : tie.Need-returns-3
 unfolding okParts
 returns-3 c = rw (c .before .before .m2 .given .1) (c .ok-response .ensures)
 
--- src/judge.rt:59:1
 returns-4 : tie.Need-returns-4
 unfolding okParts
 returns-4 c = rw (c .before .before .m3 .given .1) (c .ok-goal .ensures)
 
--- src/judge.rt:59:1
 returns-5 : tie.Need-returns-5
 unfolding okParts
 returns-5 c = rw (c .before .before .m4 .given .1) (c .ok-goal2 .ensures)
 
--- src/judge.rt:59:1
 returns-6 : tie.Need-returns-6
 unfolding okParts
 returns-6 c = rw (c .before .before .m5 .given .1) (c .ok-goal3 .ensures)
 
--- src/judge.rt:59:1
 returns-7 : tie.Need-returns-7
 unfolding okParts
 returns-7 c = rw (c .before .before .m6 .given .1) (c .ok-outcome .ensures)
 
--- src/judge.rt:59:1
 returns-8 : tie.Need-returns-8
 unfolding okParts
 returns-8 c = rw (c .enum-told2 .given .1)
 
--- src/judge.rt:59:1
 returns-9 : tie.Need-returns-9
 unfolding okParts
 returns-9 c = rw (c .before .before .m7 .given .1) (c .ok-goal4 .ensures)
 
--- src/judge.rt:59:1
 returns-10 : tie.Need-returns-10
 unfolding okParts
 returns-10 c = rw (c .before .before .m8 .given .1) (c .ok-flood .ensures)
 
--- src/judge.rt:59:1
 returns-11 : tie.Need-returns-11
 unfolding okParts
 returns-11 c = rw (c .before .before .m9 .given .1) (c .ok-item .ensures)

@@ -10,21 +10,17 @@ use Rattle.description.proofs.judge.ok_place.Reads as reads
 use Rattle.description.proofs.judge.ok_place.Lts as lts
 use Rattle.description.proofs.judge.is_inside.Reads as is-inside-reads
 
--- src/judge.rt:214:9
 returns : tie.Need-returns
 unfolding okPlace pick
 returns c = rw (lt-ltb _ _ (c .if1 .taken))
 
--- src/judge.rt:217:9
 returns-2 : tie.Need-returns-2
 unfolding okPlace pick
 returns-2 c = rw (le-ltb _ _ (c .before .if1 .left), lt-ltb _ _ (c .if2 .taken))
 
--- src/judge.rt:219:5
 is-inside-requires : tie.Need-is-inside-requires
 is-inside-requires c κs = search needs
 
--- src/judge.rt:209:1
 returns-3 : tie.Need-returns-3
 unfolding okPlace pick
 returns-3 c = rw (le-ltb _ _ (c .before .before .if1 .left), le-ltb _ _ (c .before .if2 .left)) (c .is-inside .ensures)

@@ -11,29 +11,23 @@ use Rattle.description.proofs.judge.is_inside.Reads as is-inside-reads
 use Rattle.description.proofs.judge.ok_extra.Reads as ok-extra-reads
 use Rattle.description.proofs.judge.ok_rows.Reads as ok-rows-reads
 
--- src/judge.rt:89:8
 is-inside-requires : tie.Need-is-inside-requires
 is-inside-requires c κs = search needs
 
--- src/judge.rt:90:12
 ok-rows-requires : tie.Need-ok-rows-requires
 ok-rows-requires c κs = search needs
 
--- src/judge.rt:91:13
 ok-extra-requires : tie.Need-ok-extra-requires
 ok-extra-requires c κs = search needs
 
--- src/judge.rt:91:13
 returns : tie.Need-returns
 unfolding okResponse pick
 returns c = rw (← (c .before .before .before .before .is-inside .ensures), (c .before .before .before .if1 .taken), ← (c .before .before .ok-rows .ensures), (c .before .if2 .taken)) (c .ok-extra .ensures)
 
--- src/judge.rt:93:9
 returns-2 : tie.Need-returns-2
 unfolding okResponse pick
 returns-2 c = rw (← (c .before .before .before .is-inside .ensures), (c .before .before .if1 .taken), ← (c .before .ok-rows .ensures), (c .if2 .left))
 
--- src/judge.rt:86:1
 returns-3 : tie.Need-returns-3
 unfolding okResponse pick
 returns-3 c = rw (← (c .before .is-inside .ensures), (c .if1 .left))

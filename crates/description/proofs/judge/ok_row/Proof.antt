@@ -9,19 +9,15 @@ use Rattle.description.proofs.judge.ok_row.Lts as lts
 use Rattle.description.proofs.judge.ok_place.Reads as ok-place-reads
 use Rattle.description.proofs.rows.place_at.Reads as place-at-reads
 
--- src/judge.rt:147:37
 mul-place-at : tie.Need-mul-place-at
 mul-place-at c = search needs
 
--- src/judge.rt:147:9
 place-at-requires : tie.Need-place-at-requires
 place-at-requires c κs = search needs
 
--- src/judge.rt:148:5
 ok-place-requires : tie.Need-ok-place-requires
 ok-place-requires c κs = search needs
 
--- src/judge.rt:143:1
 returns : tie.Need-returns
 unfolding okRow
 returns c = rw (← (c .before .place-at .ensures)) (c .ok-place .ensures)

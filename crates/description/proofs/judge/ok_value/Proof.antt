@@ -8,55 +8,42 @@ use Rattle.description.proofs.judge.ok_value.Reads as reads
 use Rattle.description.proofs.judge.ok_value.Lts as lts
 use Rattle.description.proofs.judge.ok_bytes.Reads as ok-bytes-reads
 
--- src/judge.rt:260:9
 returns : tie.Need-returns
 returns c = value-none (c .before .before .args .source .now) (c .before .before .args .s) (c .if1 .taken)
 
--- src/judge.rt:262:16
 sub-room : tie.Need-sub-room
 sub-room c = search needs
 
--- src/judge.rt:264:25
 sub-ok-bytes : tie.Need-sub-ok-bytes
 sub-ok-bytes c = search needs
 
--- src/judge.rt:264:25
 part-ok-bytes-start : tie.Need-part-ok-bytes-start
 part-ok-bytes-start c = search needs
 
--- src/judge.rt:264:25
 part-ok-bytes-end : tie.Need-part-ok-bytes-end
 part-ok-bytes-end c = search needs
 
--- src/judge.rt:264:9
 ok-bytes-requires : tie.Need-ok-bytes-requires
 ok-bytes-requires c κs = search needs
 
--- src/judge.rt:264:9
 returns-2 : tie.Need-returns-2
 returns-2 c = value-rest (c .before .before .before .before .before .args .source .now) (c .before .before .before .before .before .args .s) _ (c .before .before .if2 .taken) (c .ok-bytes .ensures)
 
--- src/judge.rt:266:15
 add-end : tie.Need-add-end
 add-end c = search needs
 
--- src/judge.rt:267:14
 sub-ok-bytes-2 : tie.Need-sub-ok-bytes-2
 sub-ok-bytes-2 c = search needs
 
--- src/judge.rt:267:14
 part-ok-bytes-start-2 : tie.Need-part-ok-bytes-start-2
 part-ok-bytes-start-2 c = search needs
 
--- src/judge.rt:267:14
 part-ok-bytes-end-2 : tie.Need-part-ok-bytes-end-2
 part-ok-bytes-end-2 c = search needs
 
--- src/judge.rt:267:5
 ok-bytes-requires-2 : tie.Need-ok-bytes-requires-2
 ok-bytes-requires-2 c κs = search needs
 
--- src/judge.rt:254:1
 returns-3 : tie.Need-returns-3
 returns-3 c = value-in (c .before .before .before .before .before .args .source .now) (c .before .before .before .before .before .args .s) _ (c .ok-bytes2 .ensures)
 

@@ -8,55 +8,42 @@ use Rattle.description.proofs.rows.entry_at.Reads as reads
 use Rattle.description.proofs.rows.entry_at.Lts as lts
 use Rattle.description.proofs.rows.number.Reads as number-reads
 
--- src/rows.rt:75:9
 returns : tie.Need-returns
 returns c = no-entry _ _ (c .if1 .taken)
 
--- src/rows.rt:82:14
 number-requires : tie.Need-number-requires
 number-requires c κs = search needs
 
--- src/rows.rt:83:28
 add-number : tie.Need-add-number
 add-number c = search needs
 
--- src/rows.rt:83:15
 number-requires-2 : tie.Need-number-requires-2
 number-requires-2 c κs = search needs
 
--- src/rows.rt:84:30
 add-number-2 : tie.Need-add-number-2
 add-number-2 c = search needs
 
--- src/rows.rt:84:9
 number-requires-3 : tie.Need-number-requires-3
 number-requires-3 c κs = search needs
 
--- src/rows.rt:85:30
 add-number-3 : tie.Need-add-number-3
 add-number-3 c = search needs
 
--- src/rows.rt:85:9
 number-requires-4 : tie.Need-number-requires-4
 number-requires-4 c κs = search needs
 
--- src/rows.rt:86:33
 add-number-4 : tie.Need-add-number-4
 add-number-4 c = search needs
 
--- src/rows.rt:86:20
 number-requires-5 : tie.Need-number-requires-5
 number-requires-5 c κs = search needs
 
--- src/rows.rt:87:34
 add-number-5 : tie.Need-add-number-5
 add-number-5 c = search needs
 
--- src/rows.rt:87:21
 number-requires-6 : tie.Need-number-requires-6
 number-requires-6 c κs = search needs
 
--- src/rows.rt:71:1
 returns-2 : tie.Need-returns-2
 returns-2 c = entry-is _ _ (c .before .before .before .before .before .number .ensures) (c .before .before .before .before .number2 .ensures) (c .before .before .before .number3 .ensures) (c .before .before .number4 .ensures) (c .before .number5 .ensures) (c .number6 .ensures)
 

@@ -8,19 +8,15 @@ use Rattle.description.proofs.rows.number.Tie as tie
 use Rattle.description.proofs.rows.number.Reads as reads
 use Rattle.description.proofs.rows.number.Lts as lts
 
--- src/rows.rt:103:16
 mul-result : tie.Need-mul-result
 mul-result c = search needs
 
--- src/rows.rt:103:16
 shared-slice-read-result : tie.Need-shared-slice-read-result
 shared-slice-read-result c = search needs
 
--- src/rows.rt:103:9
 returns : tie.Need-returns
 returns c = search needs
 
--- src/rows.rt:99:1
 returns-2 : tie.Need-returns-2
 returns-2 c = sym (List·getD-eq-default (c .before .args .list .now) 0 (c .if1 .left))
 

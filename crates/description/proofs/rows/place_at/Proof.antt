@@ -8,47 +8,36 @@ use Rattle.description.proofs.rows.place_at.Reads as reads
 use Rattle.description.proofs.rows.place_at.Lts as lts
 use Rattle.description.proofs.rows.number.Reads as number-reads
 
--- src/rows.rt:50:9
 returns : tie.Need-returns
 returns c = no-place _ _ (c .if1 .taken)
 
--- src/rows.rt:57:9
 number-requires : tie.Need-number-requires
 number-requires c κs = search needs
 
--- src/rows.rt:58:27
 add-number : tie.Need-add-number
 add-number c = search needs
 
--- src/rows.rt:58:14
 number-requires-2 : tie.Need-number-requires-2
 number-requires-2 c κs = search needs
 
--- src/rows.rt:59:28
 add-number-2 : tie.Need-add-number-2
 add-number-2 c = search needs
 
--- src/rows.rt:59:15
 number-requires-3 : tie.Need-number-requires-3
 number-requires-3 c κs = search needs
 
--- src/rows.rt:60:33
 add-number-3 : tie.Need-add-number-3
 add-number-3 c = search needs
 
--- src/rows.rt:60:9
 number-requires-4 : tie.Need-number-requires-4
 number-requires-4 c κs = search needs
 
--- src/rows.rt:61:29
 add-number-4 : tie.Need-add-number-4
 add-number-4 c = search needs
 
--- src/rows.rt:61:9
 number-requires-5 : tie.Need-number-requires-5
 number-requires-5 c κs = search needs
 
--- src/rows.rt:46:1
 returns-2 : tie.Need-returns-2
 returns-2 c = place-is _ _ (c .before .before .before .before .number .ensures) (c .before .before .before .number2 .ensures) (c .before .before .number3 .ensures) (c .before .number4 .ensures) (c .number5 .ensures)
 

@@ -9,19 +9,15 @@ use Rattle.description.proofs.spans.covered.Tie as tie
 use Rattle.description.proofs.spans.covered.Reads as reads
 use Rattle.description.proofs.spans.covered.Lts as lts
 
--- src/spans.rt:13:9
 returns : tie.Need-returns
 returns c = sym (ap length (held-none (c .before .args .source .now) (c .before .args .s) (c .if1 .taken)))
 
--- src/spans.rt:15:16
 sub-room : tie.Need-sub-room
 sub-room c = search needs
 
--- src/spans.rt:17:9
 returns-2 : tie.Need-returns-2
 returns-2 c = length-held (c .before .before .before .args .source .now) (c .before .before .before .args .s) (c .if2 .taken)
 
--- src/spans.rt:8:1
 returns-3 : tie.Need-returns-3
 returns-3 c = length-held-in (c .before .before .before .args .source .now) (c .before .before .before .args .s) (c .if2 .left)
 

@@ -11,27 +11,21 @@ use Rattle.host.proofs.call.call_into.Reads as call-into-reads
 use Rattle.host.proofs.records.node_of.Reads as node-of-reads
 use Rattle.host.proofs.records.put.Reads as put-reads
 
--- src/call.rt:24:9
 node-of-requires : tie.Need-node-of-requires
 node-of-requires c κs = search needs
 
--- src/call.rt:42:9
 call-into-requires : tie.Need-call-into-requires
 call-into-requires c κs = search needs
 
--- src/call.rt:26:5
 put-requires : tie.Need-put-requires
 put-requires c κs = search needs
 
--- src/call.rt:10:1
 same-length : tie.Need-same-length
 same-length c = search needs
 
--- src/call.rt:10:1
 same-length-2 : tie.Need-same-length-2
 same-length-2 c = search needs
 
--- src/call.rt:10:1
 returns : tie.Need-returns
 returns c = host-left (c .before .before .before .before .before .before .before .before .before .before .before .before .before .before .before .before .args .address .now) (c .before .before .before .before .before .before .before .before .before .before .before .before .before .before .before .before .args .numbers .now) (c .before .before .before .before .before .before .before .before .before .before .before .before .before .before .before .before .args .bytes .now) (callOf (c .before .before .before .before .before .before .before .before .before .before .before .before .before .before .before .before .args .clock) (c .before .before .before .before .before .before .before .before .before .before .before .before .before .before .before .before .args .interface) (c .before .before .before .before .before .before .before .before .before .before .before .before .before .before .before .before .args .names .now) (c .before .before .before .before .before .before .before .before .before .before .before .before .before .before .before .before .args .message .now) (c .before .before .before .before .before .before .before .before .before .before .before .before .before .before .before .before .args .out .now)) (c .before .before .before .before .before .before .before .before .before .before .before .before .before .before .before .before .args .answer .now) _ (c .before .before .before .before .before .before .before .before .before .before .node-of .ensures) _ _ _ _ (c .before .before .before .before .before .before .call-into .ensures) _ _ (c .put .ensures .0) (c .put .ensures .1)
 

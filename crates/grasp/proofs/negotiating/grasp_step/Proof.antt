@@ -11,36 +11,28 @@ use Rattle.host.proofs.states.side_of.Reads as side-of-reads
 use Rattle.host.proofs.states.state_of.Reads as state-of-reads
 use Rattle.negotiation.proofs.step.Reads as step-reads
 
--- src/negotiating.rt:14:9
 state-of-requires : tie.Need-state-of-requires
 state-of-requires c κs = search needs
 
--- src/negotiating.rt:15:54
 side-of-requires : tie.Need-side-of-requires
 side-of-requires c κs = search needs
 
--- src/negotiating.rt:15:9
 step-requires : tie.Need-step-requires
 step-requires c κs = search needs
 
--- src/negotiating.rt:16:26
 enum-known-stepped : tie.Need-enum-known-stepped
 enum-known-stepped c = search needs
 
--- src/negotiating.rt:17:24
 enum-known-stepped-2 : tie.Need-enum-known-stepped-2
 enum-known-stepped-2 c = search needs
 
--- src/negotiating.rt:19:22
 numbers-of-requires : tie.Need-numbers-of-requires
 numbers-of-requires c κs = search needs
 
--- src/negotiating.rt:8:1
 returns : tie.Need-returns
 unfolding stepNumber numberFrom stateAfter numbersFrom
 returns c = (rw (← c .before .before .before .before .before .state-of .ensures, ← c .before .before .before .before .side-of .ensures, ← c .before .before .before .step .ensures, c .before .stepped .given .1), rw (← c .before .before .before .before .before .state-of .ensures, ← c .before .before .before .before .side-of .ensures, ← c .before .before .before .step .ensures, c .before .stepped .given .1))
 
--- src/negotiating.rt:8:1
 returns-2 : tie.Need-returns-2
 unfolding stepNumber numberFrom stateAfter numbersFrom
 returns-2 c = (rw (← c .before .before .before .before .before .before .state-of .ensures, ← c .before .before .before .before .before .side-of .ensures, ← c .before .before .before .before .step .ensures, c .before .before .stepped2 .given .1), rw (← c .before .before .before .before .before .before .state-of .ensures, ← c .before .before .before .before .before .side-of .ensures, ← c .before .before .before .before .step .ensures, c .before .before .stepped2 .given .1) (c .numbers-of .ensures))

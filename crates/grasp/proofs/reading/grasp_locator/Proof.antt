@@ -10,32 +10,25 @@ use Rattle.grasp.proofs.reading.grasp_locator.Reads as reads
 use Rattle.grasp.proofs.reading.grasp_locator.Lts as lts
 use Rattle.options.proofs.locator.read_at.Reads as read-at-reads
 
--- src/reading.rt:31:9
 read-at-requires : tie.Need-read-at-requires
 read-at-requires c κs = search needs
 
--- src/reading.rt:33:32
 enum-told : tie.Need-enum-told
 enum-told c = search needs
 
--- src/reading.rt:35:13
 enum-known-read : tie.Need-enum-known-read
 enum-known-read c = search needs
 
--- src/reading.rt:39:23
 numbers-of-requires : tie.Need-numbers-of-requires
 numbers-of-requires c κs = search needs
 
--- src/reading.rt:40:13
 add-result : tie.Need-add-result
 add-result c = omega (arith, c .before .before .before .before .before .before .good, c .before .before .before .before .before .before .fits, locator-within (c .before .before .before .before .before .before .args .bytes .now) _ (c .before .before .before .before .before .before .args .at) _ _ (c .before .before .before .before .read-at .ensures) (c .before .before .read .given .1))
 
--- src/reading.rt:26:1
 returns : tie.Need-returns
 unfolding locatorEnd locatorEndFrom locatorAfter locatorFrom
 returns c = (rw (← c .before .before .read-at .ensures, c .enum-told .given .1), rw (← c .before .before .read-at .ensures, c .enum-told .given .1))
 
--- src/reading.rt:26:1
 returns-2 : tie.Need-returns-2
 unfolding locatorEnd locatorEndFrom locatorAfter locatorFrom
 returns-2 c = (rw (← c .before .before .before .before .read-at .ensures, c .before .before .read .given .1), rw (← c .before .before .before .before .read-at .ensures, c .before .before .read .given .1) (c .numbers-of .ensures))

@@ -10,32 +10,25 @@ use Rattle.grasp.proofs.reading.grasp_pair.Reads as reads
 use Rattle.grasp.proofs.reading.grasp_pair.Lts as lts
 use Rattle.options.proofs.pair.read_at.Reads as read-at-reads
 
--- src/reading.rt:51:9
 read-at-requires : tie.Need-read-at-requires
 read-at-requires c κs = search needs
 
--- src/reading.rt:53:29
 enum-told : tie.Need-enum-told
 enum-told c = search needs
 
--- src/reading.rt:55:13
 enum-known-read : tie.Need-enum-known-read
 enum-known-read c = search needs
 
--- src/reading.rt:61:23
 numbers-of-requires : tie.Need-numbers-of-requires
 numbers-of-requires c κs = search needs
 
--- src/reading.rt:62:13
 add-result : tie.Need-add-result
 add-result c = omega (arith, c .before .before .before .before .before .before .good, c .before .before .before .before .before .before .fits, pair-within (c .before .before .before .before .before .before .args .bytes .now) _ (c .before .before .before .before .before .before .args .at) _ _ (c .before .before .before .before .read-at .ensures) (c .before .before .read .given .1))
 
--- src/reading.rt:46:1
 returns : tie.Need-returns
 unfolding pairEnd pairEndFrom pairAfter pairFrom
 returns c = (rw (← c .before .before .read-at .ensures, c .enum-told .given .1), rw (← c .before .before .read-at .ensures, c .enum-told .given .1))
 
--- src/reading.rt:46:1
 returns-2 : tie.Need-returns-2
 unfolding pairEnd pairEndFrom pairAfter pairFrom
 returns-2 c = (rw (← c .before .before .before .before .read-at .ensures, c .before .before .read .given .1), rw (← c .before .before .before .before .read-at .ensures, c .before .before .read .given .1) (c .numbers-of .ensures))

@@ -9,28 +9,22 @@ use Rattle.grasp.proofs.reading.grasp_read.Lts as lts
 use Rattle.blocks.proofs.block.block_of.Reads as block-of-reads
 use Rattle.reader.proofs.read.Reads as read-reads
 
--- src/reading.rt:15:9
 read-requires : tie.Need-read-requires
 read-requires c κs = search needs
 
--- src/reading.rt:17:26
 enum-known-reading : tie.Need-enum-known-reading
 enum-known-reading c = search needs
 
--- src/reading.rt:18:23
 enum-known-reading-2 : tie.Need-enum-known-reading-2
 enum-known-reading-2 c = search needs
 
--- src/reading.rt:19:23
 block-of-requires : tie.Need-block-of-requires
 block-of-requires c κs = search needs
 
--- src/reading.rt:10:1
 returns : tie.Need-returns
 unfolding readNumber numberFrom readBlock blockFrom
 returns c = (rw (← c .before .before .before .read .ensures, c .before .reading .given .1), rw (← c .before .before .before .read .ensures, c .before .reading .given .1))
 
--- src/reading.rt:10:1
 returns-2 : tie.Need-returns-2
 unfolding readNumber numberFrom readBlock blockFrom
 returns-2 c = (rw (← c .before .before .before .before .read .ensures, c .before .before .reading2 .given .1), rw (← c .before .before .before .before .read .ensures, c .before .before .reading2 .given .1) (c .block-of .ensures))

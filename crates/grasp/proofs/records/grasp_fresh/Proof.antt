@@ -8,15 +8,12 @@ use Rattle.grasp.proofs.records.grasp_fresh.Lts as lts
 use Rattle.host.proofs.records.put.Reads as put-reads
 use Rattle.node_state.proofs.Record.fresh.Reads as fresh-reads
 
--- src/records.rt:21:9
 fresh-requires : tie.Need-fresh-requires
 fresh-requires c κs = search needs
 
--- src/records.rt:22:5
 put-requires : tie.Need-put-requires
 put-requires c κs = search needs
 
--- src/records.rt:9:1
 returns : tie.Need-returns
 returns c = (rw (← c .before .before .fresh .ensures) (c .put .ensures .0), rw (← c .before .before .fresh .ensures) (c .put .ensures .1))
 

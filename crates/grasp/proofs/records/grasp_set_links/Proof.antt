@@ -9,19 +9,15 @@ use Rattle.host.proofs.records.node_of.Reads as node-of-reads
 use Rattle.host.proofs.records.put.Reads as put-reads
 use Rattle.node_state.proofs.Record.set_links.Reads as set-links-reads
 
--- src/records.rt:31:9
 node-of-requires : tie.Need-node-of-requires
 node-of-requires c κs = search needs
 
--- src/records.rt:32:9
 set-links-requires : tie.Need-set-links-requires
 set-links-requires c κs = search needs
 
--- src/records.rt:33:5
 put-requires : tie.Need-put-requires
 put-requires c κs = search needs
 
--- src/records.rt:26:1
 returns : tie.Need-returns
 returns c = (rw (← c .before .before .before .node-of .ensures, ← c .before .before .set-links .ensures) (c .put .ensures .0), rw (← c .before .before .before .node-of .ensures, ← c .before .before .set-links .ensures) (c .put .ensures .1))
 

@@ -9,49 +9,38 @@ use Rattle.grasp.proofs.writing.grasp_write.Lts as lts
 use Rattle.blocks.proofs.told.told_by.Reads as told-by-reads
 use Rattle.writer.proofs.write.Reads as write-reads
 
--- src/writing.rt:31:9
 told-by-requires : tie.Need-told-by-requires
 told-by-requires c κs = search needs
 
--- src/writing.rt:23:26
 enum-told : tie.Need-enum-told
 enum-told c = search needs
 
--- src/writing.rt:24:20
 enum-known-told : tie.Need-enum-known-told
 enum-known-told c = search needs
 
--- src/writing.rt:25:17
 write-requires : tie.Need-write-requires
 write-requires c κs = search needs
 
--- src/writing.rt:27:34
 enum-known-written : tie.Need-enum-known-written
 enum-known-written c = search needs
 
--- src/writing.rt:28:33
 enum-known-written-2 : tie.Need-enum-known-written-2
 enum-known-written-2 c = search needs
 
--- src/writing.rt:9:1
 returns : tie.Need-returns
 unfolding writeNumber numberBy numberOf writeBytes bytesBy writeLength lengthBy lengthOf
 returns c = (rw (← c .before .before .told-by .ensures, c .enum-told .given .1), (rw (← c .before .before .told-by .ensures, c .enum-told .given .1), rw (← c .before .before .told-by .ensures, c .enum-told .given .1)))
 
--- src/writing.rt:9:1
 same-length : tie.Need-same-length
 same-length c = search needs
 
--- src/writing.rt:9:1
 returns-2 : tie.Need-returns-2
 unfolding writeNumber numberBy numberOf writeBytes bytesBy writeLength lengthBy lengthOf
 returns-2 c = (rw (← c .before .before .before .before .before .before .before .before .before .before .told-by .ensures, c .before .before .before .before .before .before .before .before .told .given .1, ← c .before .before .before .before .before .write .ensures .0, c .before .written .given .1), (rw (← c .before .before .before .before .before .before .before .before .before .before .told-by .ensures, c .before .before .before .before .before .before .before .before .told .given .1) (c .before .before .before .before .before .write .ensures .1), rw (← c .before .before .before .before .before .before .before .before .before .before .told-by .ensures, c .before .before .before .before .before .before .before .before .told .given .1, ← c .before .before .before .before .before .write .ensures .0, c .before .written .given .1)))
 
--- src/writing.rt:9:1
 same-length-2 : tie.Need-same-length-2
 same-length-2 c = search needs
 
--- src/writing.rt:9:1
 returns-3 : tie.Need-returns-3
 unfolding writeNumber numberBy numberOf writeBytes bytesBy writeLength lengthBy lengthOf
 returns-3 c = (rw (← c .before .before .before .before .before .before .before .before .before .before .told-by .ensures, c .before .before .before .before .before .before .before .before .told .given .1, ← c .before .before .before .before .before .write .ensures .0, c .before .written2 .given .1), (rw (← c .before .before .before .before .before .before .before .before .before .before .told-by .ensures, c .before .before .before .before .before .before .before .before .told .given .1) (c .before .before .before .before .before .write .ensures .1), rw (← c .before .before .before .before .before .before .before .before .before .before .told-by .ensures, c .before .before .before .before .before .before .before .before .told .given .1, ← c .before .before .before .before .before .write .ensures .0, c .before .written2 .given .1)))

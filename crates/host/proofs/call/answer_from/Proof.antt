@@ -10,28 +10,22 @@ use Rattle.host.proofs.call.answer_from.Lts as lts
 use Rattle.host.proofs.call.up_number.Reads as up-number-reads
 use Rattle.host.proofs.call.verdict_number.Reads as verdict-number-reads
 
--- src/call.rt:91:24
 enum-known-reply : tie.Need-enum-known-reply
 enum-known-reply c = search needs
 
--- src/call.rt:100:13
 enum-known-reply-2 : tie.Need-enum-known-reply-2
 enum-known-reply-2 c = search needs
 
--- src/call.rt:106:22
 verdict-number-requires : tie.Need-verdict-number-requires
 verdict-number-requires c κs = search needs
 
--- src/call.rt:107:24
 up-number-requires : tie.Need-up-number-requires
 up-number-requires c κs = search needs
 
--- src/call.rt:85:1
 returns : tie.Need-returns
 unfolding answerFrom replyNumbers
 returns c = rw (c .before .reply .given .1) refl
 
--- src/call.rt:85:1
 returns-2 : tie.Need-returns-2
 unfolding answerFrom replyNumbers
 returns-2 c = rw (c .before .before .before .reply2 .given .1, c .before .verdict-number .ensures, c .up-number .ensures) refl

@@ -10,43 +10,33 @@ use Rattle.host.proofs.call.call_into.Reads as reads
 use Rattle.host.proofs.call.call_into.Lts as lts
 use Rattle.host.proofs.call.call_with.Reads as call-with-reads
 
--- src/call.rt:37:9
 call-with-requires : tie.Need-call-with-requires
 call-with-requires c κs = search needs
 
--- src/call.rt:40:9
 same-length : tie.Need-same-length
 same-length c = search needs
 
--- src/call.rt:40:9
 same-length-2 : tie.Need-same-length-2
 same-length-2 c = search needs
 
--- src/call.rt:40:9
 returns : tie.Need-returns
 returns c = left-refused (c .before .before .before .before .before .before .before .before .before .before .before .before .args .node) (c .before .before .before .before .before .before .before .before .before .before .before .before .args .bytes .now) (callOf (c .before .before .before .before .before .before .before .before .before .before .before .before .args .clock) (c .before .before .before .before .before .before .before .before .before .before .before .before .args .interface) (c .before .before .before .before .before .before .before .before .before .before .before .before .args .names .now) (c .before .before .before .before .before .before .before .before .before .before .before .before .args .message .now) (c .before .before .before .before .before .before .before .before .before .before .before .before .args .out .now)) (c .before .before .before .before .before .before .before .before .before .before .before .before .args .answer .now) _ _ _ (c .before .before .before .before .before .call-with .ensures .0) (c .before .before .before .before .before .call-with .ensures .1 .0) (c .before .before .before .before .before .call-with .ensures .1 .1) (c .if1 .taken)
 
--- src/call.rt:43:9
 cast-t17 : tie.Need-cast-t17
 cast-t17 c = search needs
 
--- src/call.rt:44:9
 cast-t18 : tie.Need-cast-t18
 cast-t18 c = search needs
 
--- src/call.rt:45:9
 cast-t19 : tie.Need-cast-t19
 cast-t19 c = search needs
 
--- src/call.rt:25:1
 same-length-3 : tie.Need-same-length-3
 same-length-3 c = search needs
 
--- src/call.rt:25:1
 same-length-4 : tie.Need-same-length-4
 same-length-4 c = search needs
 
--- src/call.rt:25:1
 returns-2 : tie.Need-returns-2
 unfolding answerNumbers
 returns-2 c = left-given (c .before .before .before .before .before .before .before .before .before .before .before .before .before .before .before .before .before .args .node) (c .before .before .before .before .before .before .before .before .before .before .before .before .before .before .before .before .before .args .bytes .now) (callOf (c .before .before .before .before .before .before .before .before .before .before .before .before .before .before .before .before .before .args .clock) (c .before .before .before .before .before .before .before .before .before .before .before .before .before .before .before .before .before .args .interface) (c .before .before .before .before .before .before .before .before .before .before .before .before .before .before .before .before .before .args .names .now) (c .before .before .before .before .before .before .before .before .before .before .before .before .before .before .before .before .before .args .message .now) (c .before .before .before .before .before .before .before .before .before .before .before .before .before .before .before .before .before .args .out .now)) (c .before .before .before .before .before .before .before .before .before .before .before .before .before .before .before .before .before .args .answer .now) _ _ _ (c .before .before .before .before .before .before .before .before .before .before .call-with .ensures .0) (c .before .before .before .before .before .before .before .before .before .before .call-with .ensures .1 .0) (c .before .before .before .before .before .before .before .before .before .before .call-with .ensures .1 .1) (c .before .before .before .before .before .if1 .left)

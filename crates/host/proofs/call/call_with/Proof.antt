@@ -12,75 +12,57 @@ use Rattle.host.proofs.table.load.Reads as load-reads
 use Rattle.host.proofs.table.save.Reads as save-reads
 use Rattle.node.proofs.call.node_call.Reads as node-call-reads
 
--- src/call.rt:71:44
 slice-aggregate-node-call : tie.Need-slice-aggregate-node-call
 slice-aggregate-node-call c = search needs
 
--- src/call.rt:71:13
 node-call-requires : tie.Need-node-call-requires
 node-call-requires c κs = search needs
 
--- src/call.rt:72:9
 answer-from-requires : tie.Need-answer-from-requires
 answer-from-requires c κs = search needs
 
--- src/call.rt:72:9
 same-length : tie.Need-same-length
 same-length c = search needs
 
--- src/call.rt:72:9
 returns : tie.Need-returns
 returns c = let h = other-length (c .before .before .before .before .before .before .before .before .before .before .before .before .args .node) (c .before .before .before .before .before .before .before .before .before .before .before .before .args .bytes .now) (callOf (c .before .before .before .before .before .before .before .before .before .before .before .before .args .clock) (c .before .before .before .before .before .before .before .before .before .before .before .before .args .interface) (c .before .before .before .before .before .before .before .before .before .before .before .before .args .names .now) (c .before .before .before .before .before .before .before .before .before .before .before .before .args .message .now) (c .before .before .before .before .before .before .before .before .before .before .before .before .args .out .now)) _ _ _ _ (c .answer-from .ensures) (c .before .before .before .before .before .before .before .if1 .taken) (c .before .before .before .before .node-call .ensures) in (h .0, (h .1, h .2))
 
--- src/call.rt:75:24
 slice-aggregate-load : tie.Need-slice-aggregate-load
 slice-aggregate-load c = search needs
 
--- src/call.rt:75:5
 load-requires : tie.Need-load-requires
 load-requires c κs = search needs
 
--- src/call.rt:76:40
 slice-aggregate-node-call-2 : tie.Need-slice-aggregate-node-call-2
 slice-aggregate-node-call-2 c = search needs
 
--- src/call.rt:76:9
 node-call-requires-2 : tie.Need-node-call-requires-2
 node-call-requires-2 c κs = search needs
 
--- src/call.rt:77:9
 answer-from-requires-2 : tie.Need-answer-from-requires-2
 answer-from-requires-2 c κs = search needs
 
--- src/call.rt:79:21
 slice-aggregate-save : tie.Need-slice-aggregate-save
 slice-aggregate-save c = search needs
 
--- src/call.rt:79:9
 save-requires : tie.Need-save-requires
 save-requires c κs = search needs
 
--- src/call.rt:56:1
 same-length-2 : tie.Need-same-length-2
 same-length-2 c = search needs
 
--- src/call.rt:56:1
 same-length-3 : tie.Need-same-length-3
 same-length-3 c = search needs
 
--- src/call.rt:56:1
 returns-2 : tie.Need-returns-2
 returns-2 c = let h = call-given (c .before .before .before .before .before .before .before .before .before .before .before .before .before .before .before .before .before .before .before .before .before .before .before .args .node) (c .before .before .before .before .before .before .before .before .before .before .before .before .before .before .before .before .before .before .before .before .before .before .before .args .bytes .now) (callOf (c .before .before .before .before .before .before .before .before .before .before .before .before .before .before .before .before .before .before .before .before .before .before .before .args .clock) (c .before .before .before .before .before .before .before .before .before .before .before .before .before .before .before .before .before .before .before .before .before .before .before .args .interface) (c .before .before .before .before .before .before .before .before .before .before .before .before .before .before .before .before .before .before .before .before .before .before .before .args .names .now) (c .before .before .before .before .before .before .before .before .before .before .before .before .before .before .before .before .before .before .before .before .before .before .before .args .message .now) (c .before .before .before .before .before .before .before .before .before .before .before .before .before .before .before .before .before .before .before .before .before .before .before .args .out .now)) _ _ _ _ (c .before .before .before .before .before .before .before .answer-from2 .ensures) _ (c .before .before .before .before .before .before .before .before .before .before .before .before .before .before .before .before .before .before .if1 .left) (c .before .before .before .before .before .before .before .before .before .before .before .before .before .before .before .load .ensures) (c .before .before .before .before .before .before .before .before .before .before .before .node-call2 .ensures) _ (c .before .before .before .before .before .if2 .taken) (c .before .before .save .ensures) in (h .0, (h .1, h .2))
 
--- src/call.rt:56:1
 same-length-4 : tie.Need-same-length-4
 same-length-4 c = search needs
 
--- src/call.rt:56:1
 same-length-5 : tie.Need-same-length-5
 same-length-5 c = search needs
 
--- src/call.rt:56:1
 returns-3 : tie.Need-returns-3
 returns-3 c = let h = call-refused (c .before .before .before .before .before .before .before .before .before .before .before .before .before .before .before .before .before .before .args .node) (c .before .before .before .before .before .before .before .before .before .before .before .before .before .before .before .before .before .before .args .bytes .now) (callOf (c .before .before .before .before .before .before .before .before .before .before .before .before .before .before .before .before .before .before .args .clock) (c .before .before .before .before .before .before .before .before .before .before .before .before .before .before .before .before .before .before .args .interface) (c .before .before .before .before .before .before .before .before .before .before .before .before .before .before .before .before .before .before .args .names .now) (c .before .before .before .before .before .before .before .before .before .before .before .before .before .before .before .before .before .before .args .message .now) (c .before .before .before .before .before .before .before .before .before .before .before .before .before .before .before .before .before .before .args .out .now)) _ _ _ _ (c .before .before .answer-from2 .ensures) _ (c .before .before .before .before .before .before .before .before .before .before .before .before .before .if1 .left) (c .before .before .before .before .before .before .before .before .before .before .load .ensures) (c .before .before .before .before .before .before .node-call2 .ensures) (c .if2 .left) in (h .0, (h .1, h .2))
 

@@ -7,12 +7,10 @@ use Rattle.host.proofs.call.up_number.Tie as tie
 use Rattle.host.proofs.call.up_number.Reads as reads
 use Rattle.host.proofs.call.up_number.Lts as lts
 
--- src/call.rt:119:9
 returns : tie.Need-returns
 unfolding upNumber
 returns c = rw (c .if1 .taken) refl
 
--- src/call.rt:115:1
 returns-2 : tie.Need-returns-2
 unfolding upNumber
 returns-2 c = rw (c .if1 .left) refl

@@ -11,16 +11,13 @@ use Rattle.host.proofs.records.fresh_over.Reads as reads
 use Rattle.host.proofs.records.fresh_over.Lts as lts
 use Rattle.node_state.proofs.Record.fresh.Reads as fresh-reads
 
--- src/records.rt:91:9
 fresh-requires : tie.Need-fresh-requires
 fresh-requires c κs = search needs
 
--- src/records.rt:94:9
 returns : tie.Need-returns
 unfolding freshOver pick
 returns c = rw (← c .before .fresh .ensures, ne-eqb _ _ (c .if1 .taken)) refl
 
--- src/records.rt:81:1
 returns-2 : tie.Need-returns-2
 unfolding freshOver pick
 returns-2 c = rw (← c .before .fresh .ensures, eq-eqb _ _ (c .if1 .left)) refl

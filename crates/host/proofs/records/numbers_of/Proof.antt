@@ -8,23 +8,18 @@ use Rattle.host.proofs.records.numbers_of.Tie as tie
 use Rattle.host.proofs.records.numbers_of.Reads as reads
 use Rattle.host.proofs.records.numbers_of.Lts as lts
 
--- src/records.rt:71:9
 cast-t2 : tie.Need-cast-t2
 cast-t2 c = search needs
 
--- src/records.rt:72:9
 cast-t3 : tie.Need-cast-t3
 cast-t3 c = search needs
 
--- src/records.rt:73:9
 cast-t4 : tie.Need-cast-t4
 cast-t4 c = search needs
 
--- src/records.rt:74:9
 cast-t5 : tie.Need-cast-t5
 cast-t5 c = search needs
 
--- src/records.rt:67:1
 returns : tie.Need-returns
 unfolding nodeNumbers
 returns c = refl

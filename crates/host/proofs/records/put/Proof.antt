@@ -11,16 +11,13 @@ use Rattle.host.proofs.records.put.Reads as reads
 use Rattle.host.proofs.records.put.Lts as lts
 use Rattle.host.proofs.records.numbers_of.Reads as numbers-of-reads
 
--- src/records.rt:15:9
 returns : tie.Need-returns
 unfolding numbersAfter pick
 returns c = (refl, rw (ne-eqb _ _ (c .if1 .taken)))
 
--- src/records.rt:18:16
 numbers-of-requires : tie.Need-numbers-of-requires
 numbers-of-requires c κs = search needs
 
--- src/records.rt:9:1
 returns-2 : tie.Need-returns-2
 unfolding numbersAfter pick
 returns-2 c = (sym (c .before .before .if1 .left), rw (eq-eqb _ _ (c .before .before .if1 .left)) (c .numbers-of .ensures))

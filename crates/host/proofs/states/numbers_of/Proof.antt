@@ -8,41 +8,32 @@ use Rattle.host.proofs.states.numbers_of.Reads as reads
 use Rattle.host.proofs.states.numbers_of.Lts as lts
 use Rattle.host.proofs.states.number_of.Reads as number-of-reads
 
--- src/states.rt:45:25
 enum-told : tie.Need-enum-told
 enum-told c = search needs
 
--- src/states.rt:47:13
 enum-known-state : tie.Need-enum-known-state
 enum-known-state c = search needs
 
--- src/states.rt:50:18
 cast-t6 : tie.Need-cast-t6
 cast-t6 c = search needs
 
--- src/states.rt:50:34
 cast-t7 : tie.Need-cast-t7
 cast-t7 c = search needs
 
--- src/states.rt:50:48
 number-of-requires : tie.Need-number-of-requires
 number-of-requires c κs = search needs
 
--- src/states.rt:51:26
 enum-told-2 : tie.Need-enum-told-2
 enum-told-2 c = search needs
 
--- src/states.rt:41:1
 returns : tie.Need-returns
 unfolding stateNumbers
 returns c = rw (c .enum-told .given .1)
 
--- src/states.rt:41:1
 returns-2 : tie.Need-returns-2
 unfolding stateNumbers
 returns-2 c = rw (c .before .before .state .given .1, c .number-of .ensures)
 
--- src/states.rt:41:1
 returns-3 : tie.Need-returns-3
 unfolding stateNumbers
 returns-3 c = rw (c .enum-told2 .given .1)

@@ -8,12 +8,10 @@ use Rattle.host.proofs.states.side_of.Tie as tie
 use Rattle.host.proofs.states.side_of.Reads as reads
 use Rattle.host.proofs.states.side_of.Lts as lts
 
--- src/states.rt:59:9
 returns : tie.Need-returns
 unfolding sideOf pick
 returns c = rw (eq-eqb _ _ (c .if1 .taken))
 
--- src/states.rt:55:1
 returns-2 : tie.Need-returns-2
 unfolding sideOf pick
 returns-2 c = rw (ne-eqb _ _ (c .if1 .left))

@@ -10,65 +10,51 @@ use Rattle.host.proofs.states.state_of.Reads as reads
 use Rattle.host.proofs.states.state_of.Lts as lts
 use Rattle.host.proofs.states.side_of.Reads as side-of-reads
 
--- src/states.rt:12:17
 element-copy-out-phase : tie.Need-element-copy-out-phase
 element-copy-out-phase c = search needs
 
--- src/states.rt:13:19
 element-copy-out-session : tie.Need-element-copy-out-session
 element-copy-out-session c = search needs
 
--- src/states.rt:14:17
 element-copy-out-count : tie.Need-element-copy-out-count
 element-copy-out-count c = search needs
 
--- src/states.rt:15:16
 element-copy-out-turn : tie.Need-element-copy-out-turn
 element-copy-out-turn c = search needs
 
--- src/states.rt:17:9
 returns : tie.Need-returns
 unfolding stateOf pick
 returns c = rw (lt-ltb _ _ (c .if1 .taken))
 
--- src/states.rt:20:9
 returns-2 : tie.Need-returns-2
 unfolding stateOf pick
 returns-2 c = rw (le-ltb _ _ (c .before .if1 .left), lt-ltb _ _ (c .if2 .taken))
 
--- src/states.rt:23:9
 returns-3 : tie.Need-returns-3
 unfolding stateOf pick
 returns-3 c = rw (le-ltb _ _ (c .before .before .if1 .left), le-ltb _ _ (c .before .if2 .left), lt-ltb _ _ (c .if3 .taken))
 
--- src/states.rt:26:9
 returns-4 : tie.Need-returns-4
 unfolding stateOf pick
 returns-4 c = rw (le-ltb _ _ (c .before .before .before .if1 .left), le-ltb _ _ (c .before .before .if2 .left), le-ltb _ _ (c .before .if3 .left), lt-ltb _ _ (c .if4 .taken))
 
--- src/states.rt:29:9
 returns-5 : tie.Need-returns-5
 unfolding stateOf pick
 returns-5 c = rw (le-ltb _ _ (c .before .before .before .before .if1 .left), le-ltb _ _ (c .before .before .before .if2 .left), le-ltb _ _ (c .before .before .if3 .left), le-ltb _ _ (c .before .if4 .left), eq-eqb _ _ (c .if5 .taken))
 
--- src/states.rt:33:22
 cast-t17 : tie.Need-cast-t17
 cast-t17 c = search needs
 
--- src/states.rt:34:20
 cast-t18 : tie.Need-cast-t18
 cast-t18 c = search needs
 
--- src/states.rt:35:19
 side-of-requires : tie.Need-side-of-requires
 side-of-requires c κs = search needs
 
--- src/states.rt:32:9
 returns-6 : tie.Need-returns-6
 unfolding stateOf pick
 returns-6 c = rw (le-ltb _ _ (c .before .before .before .before .before .before .if1 .left), le-ltb _ _ (c .before .before .before .before .before .if2 .left), le-ltb _ _ (c .before .before .before .before .if3 .left), le-ltb _ _ (c .before .before .before .if4 .left), ne-eqb _ _ (c .before .before .if5 .left), eq-eqb _ _ (c .before .if6 .taken), ← c .side-of .ensures)
 
--- src/states.rt:9:1
 returns-7 : tie.Need-returns-7
 unfolding stateOf pick
 returns-7 c = rw (le-ltb _ _ (c .before .before .before .before .before .if1 .left), le-ltb _ _ (c .before .before .before .before .if2 .left), le-ltb _ _ (c .before .before .before .if3 .left), le-ltb _ _ (c .before .before .if4 .left), ne-eqb _ _ (c .before .if5 .left), ne-eqb _ _ (c .if6 .left))

@@ -20,99 +20,75 @@ Inv-loop bytes table₀ i₀ table i = (i ≤ tableNumbers) × (i % 4 ≡ 0) × 
 abbrev μ-loop : tie.MeasureT-loop
 μ-loop bytes table₀ i₀ table i = tableNumbers - i
 
--- src/table.rt:46:5
 loop-holds : tie.Need-loop-holds Inv-loop μ-loop
 loop-holds c = (omega arith, omega arith, c .before .before .pre .1, load-begun _ _ (c .before .before .pre .1))
 
--- src/table.rt:47:20
 number-at-requires : tie.Need-number-at-requires Inv-loop μ-loop
 number-at-requires c κs = search needs
 
--- src/table.rt:47:9
 mul-table : tie.Need-mul-table Inv-loop μ-loop
 mul-table c = omega arith
 
--- src/table.rt:47:9
 slice-write-table : tie.Need-slice-write-table Inv-loop μ-loop
 slice-write-table c = omega arith
 
--- src/table.rt:48:41
 add-number-at : tie.Need-add-number-at Inv-loop μ-loop
 add-number-at c = omega arith
 
--- src/table.rt:48:24
 number-at-requires-2 : tie.Need-number-at-requires-2 Inv-loop μ-loop
 number-at-requires-2 c κs = (omega arith, omega arith)
 
--- src/table.rt:48:15
 add-table : tie.Need-add-table Inv-loop μ-loop
 add-table c = omega arith
 
--- src/table.rt:48:9
 mul-table-2 : tie.Need-mul-table-2 Inv-loop μ-loop
 mul-table-2 c = omega arith
 
--- src/table.rt:48:9
 slice-write-table-2 : tie.Need-slice-write-table-2 Inv-loop μ-loop
 slice-write-table-2 c = simp length-set (omega arith)
 
--- src/table.rt:49:41
 add-number-at-2 : tie.Need-add-number-at-2 Inv-loop μ-loop
 add-number-at-2 c = omega arith
 
--- src/table.rt:49:24
 number-at-requires-3 : tie.Need-number-at-requires-3 Inv-loop μ-loop
 number-at-requires-3 c κs = (omega arith, omega arith)
 
--- src/table.rt:49:15
 add-table-2 : tie.Need-add-table-2 Inv-loop μ-loop
 add-table-2 c = omega arith
 
--- src/table.rt:49:9
 mul-table-3 : tie.Need-mul-table-3 Inv-loop μ-loop
 mul-table-3 c = omega arith
 
--- src/table.rt:49:9
 slice-write-table-3 : tie.Need-slice-write-table-3 Inv-loop μ-loop
 slice-write-table-3 c = simp length-set (omega arith)
 
--- src/table.rt:50:41
 add-number-at-3 : tie.Need-add-number-at-3 Inv-loop μ-loop
 add-number-at-3 c = omega arith
 
--- src/table.rt:50:24
 number-at-requires-4 : tie.Need-number-at-requires-4 Inv-loop μ-loop
 number-at-requires-4 c κs = (omega arith, omega arith)
 
--- src/table.rt:50:15
 add-table-3 : tie.Need-add-table-3 Inv-loop μ-loop
 add-table-3 c = omega arith
 
--- src/table.rt:50:9
 mul-table-4 : tie.Need-mul-table-4 Inv-loop μ-loop
 mul-table-4 c = omega arith
 
--- src/table.rt:50:9
 slice-write-table-4 : tie.Need-slice-write-table-4 Inv-loop μ-loop
 slice-write-table-4 c = simp length-set (omega arith)
 
--- src/table.rt:51:9
 add-i : tie.Need-add-i Inv-loop μ-loop
 add-i c = omega arith
 
--- src/table.rt:46:5
 loop-less : tie.Need-loop-less Inv-loop μ-loop
 loop-less c = omega arith
 
--- src/table.rt:46:5
 loop-again : tie.Need-loop-again Inv-loop μ-loop
 loop-again c = (omega arith, omega arith, simp length-set (omega arith), load-turn _ _ _ _ _ _ _ (omega arith) (c .before .before .before .before .before .loop .inv .3) (c .before .before .before .number-at .ensures) (c .before .before .number-at2 .ensures) (c .before .number-at3 .ensures) (c .number-at4 .ensures))
 
--- src/table.rt:41:1
 same-length : tie.Need-same-length Inv-loop μ-loop
 same-length c = omega arith
 
--- src/table.rt:41:1
 returns : tie.Need-returns Inv-loop μ-loop
 returns c = load-done _ _ (rw (le-antisymm (c .before .loop .inv .0) (c .loop-test .left)) at (c .before .loop .inv .3))
 

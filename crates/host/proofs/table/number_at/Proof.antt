@@ -11,75 +11,57 @@ use Rattle.host.proofs.table.number_at.Reads as reads
 use Rattle.host.proofs.table.number_at.Lts as lts
 use Rattle.host.proofs.table.spelled_by.Reads as spelled-by-reads
 
--- src/table.rt:27:14
 mul-at : tie.Need-mul-at
 mul-at c = search needs
 
--- src/table.rt:29:9
 shared-slice-read-spelled-by : tie.Need-shared-slice-read-spelled-by
 shared-slice-read-spelled-by c = search needs
 
--- src/table.rt:30:15
 add-spelled-by : tie.Need-add-spelled-by
 add-spelled-by c = search needs
 
--- src/table.rt:30:9
 shared-slice-read-spelled-by-2 : tie.Need-shared-slice-read-spelled-by-2
 shared-slice-read-spelled-by-2 c = search needs
 
--- src/table.rt:31:15
 add-spelled-by-2 : tie.Need-add-spelled-by-2
 add-spelled-by-2 c = search needs
 
--- src/table.rt:31:9
 shared-slice-read-spelled-by-3 : tie.Need-shared-slice-read-spelled-by-3
 shared-slice-read-spelled-by-3 c = search needs
 
--- src/table.rt:32:15
 add-spelled-by-3 : tie.Need-add-spelled-by-3
 add-spelled-by-3 c = search needs
 
--- src/table.rt:32:9
 shared-slice-read-spelled-by-4 : tie.Need-shared-slice-read-spelled-by-4
 shared-slice-read-spelled-by-4 c = search needs
 
--- src/table.rt:33:15
 add-spelled-by-4 : tie.Need-add-spelled-by-4
 add-spelled-by-4 c = search needs
 
--- src/table.rt:33:9
 shared-slice-read-spelled-by-5 : tie.Need-shared-slice-read-spelled-by-5
 shared-slice-read-spelled-by-5 c = search needs
 
--- src/table.rt:34:15
 add-spelled-by-5 : tie.Need-add-spelled-by-5
 add-spelled-by-5 c = search needs
 
--- src/table.rt:34:9
 shared-slice-read-spelled-by-6 : tie.Need-shared-slice-read-spelled-by-6
 shared-slice-read-spelled-by-6 c = search needs
 
--- src/table.rt:35:15
 add-spelled-by-6 : tie.Need-add-spelled-by-6
 add-spelled-by-6 c = search needs
 
--- src/table.rt:35:9
 shared-slice-read-spelled-by-7 : tie.Need-shared-slice-read-spelled-by-7
 shared-slice-read-spelled-by-7 c = search needs
 
--- src/table.rt:36:15
 add-spelled-by-7 : tie.Need-add-spelled-by-7
 add-spelled-by-7 c = search needs
 
--- src/table.rt:36:9
 shared-slice-read-spelled-by-8 : tie.Need-shared-slice-read-spelled-by-8
 shared-slice-read-spelled-by-8 c = search needs
 
--- src/table.rt:28:5
 spelled-by-requires : tie.Need-spelled-by-requires
 spelled-by-requires c κs = search needs
 
--- src/table.rt:23:1
 returns : tie.Need-returns
 unfolding bigEndian
 returns c = simp (getD-drop, add-zero) (omega (arith, c .spelled-by .ensures))

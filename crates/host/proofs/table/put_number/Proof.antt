@@ -12,107 +12,81 @@ use Rattle.host.proofs.table.put_number.Tie as tie
 use Rattle.host.proofs.table.put_number.Reads as reads
 use Rattle.host.proofs.table.put_number.Lts as lts
 
--- src/table.rt:60:14
 mul-at : tie.Need-mul-at
 mul-at c = search needs
 
--- src/table.rt:61:17
 cast-bytes : tie.Need-cast-bytes
 cast-bytes c = search needs
 
--- src/table.rt:61:5
 slice-write-bytes : tie.Need-slice-write-bytes
 slice-write-bytes c = search needs
 
--- src/table.rt:62:21
 cast-bytes-2 : tie.Need-cast-bytes-2
 cast-bytes-2 c = search needs
 
--- src/table.rt:62:11
 add-bytes : tie.Need-add-bytes
 add-bytes c = search needs
 
--- src/table.rt:62:5
 slice-write-bytes-2 : tie.Need-slice-write-bytes-2
 slice-write-bytes-2 c = simp length-set (omega arith)
 
--- src/table.rt:63:21
 cast-bytes-3 : tie.Need-cast-bytes-3
 cast-bytes-3 c = search needs
 
--- src/table.rt:63:11
 add-bytes-2 : tie.Need-add-bytes-2
 add-bytes-2 c = search needs
 
--- src/table.rt:63:5
 slice-write-bytes-3 : tie.Need-slice-write-bytes-3
 slice-write-bytes-3 c = simp length-set (omega arith)
 
--- src/table.rt:64:21
 cast-bytes-4 : tie.Need-cast-bytes-4
 cast-bytes-4 c = search needs
 
--- src/table.rt:64:11
 add-bytes-3 : tie.Need-add-bytes-3
 add-bytes-3 c = search needs
 
--- src/table.rt:64:5
 slice-write-bytes-4 : tie.Need-slice-write-bytes-4
 slice-write-bytes-4 c = simp length-set (omega arith)
 
--- src/table.rt:65:21
 cast-bytes-5 : tie.Need-cast-bytes-5
 cast-bytes-5 c = search needs
 
--- src/table.rt:65:11
 add-bytes-4 : tie.Need-add-bytes-4
 add-bytes-4 c = search needs
 
--- src/table.rt:65:5
 slice-write-bytes-5 : tie.Need-slice-write-bytes-5
 slice-write-bytes-5 c = simp length-set (omega arith)
 
--- src/table.rt:66:21
 cast-bytes-6 : tie.Need-cast-bytes-6
 cast-bytes-6 c = search needs
 
--- src/table.rt:66:11
 add-bytes-5 : tie.Need-add-bytes-5
 add-bytes-5 c = search needs
 
--- src/table.rt:66:5
 slice-write-bytes-6 : tie.Need-slice-write-bytes-6
 slice-write-bytes-6 c = simp length-set (omega arith)
 
--- src/table.rt:67:21
 cast-bytes-7 : tie.Need-cast-bytes-7
 cast-bytes-7 c = search needs
 
--- src/table.rt:67:11
 add-bytes-6 : tie.Need-add-bytes-6
 add-bytes-6 c = search needs
 
--- src/table.rt:67:5
 slice-write-bytes-7 : tie.Need-slice-write-bytes-7
 slice-write-bytes-7 c = simp length-set (omega arith)
 
--- src/table.rt:68:21
 cast-bytes-8 : tie.Need-cast-bytes-8
 cast-bytes-8 c = search needs
 
--- src/table.rt:68:11
 add-bytes-7 : tie.Need-add-bytes-7
 add-bytes-7 c = search needs
 
--- src/table.rt:68:5
 slice-write-bytes-8 : tie.Need-slice-write-bytes-8
 slice-write-bytes-8 c = simp length-set (omega arith)
 
--- src/table.rt:56:1
 same-length : tie.Need-same-length
 same-length c = simp length-set
 
--- src/table.rt:56:1
 returns : tie.Need-returns
 unfolding put bytesOf
 returns c = simp (div-div-eq-div-mul, towards-suc)

@@ -21,99 +21,75 @@ Inv-loop table bytes₀ i₀ bytes i = (i ≤ tableNumbers) × (i % 4 ≡ 0) × 
 abbrev μ-loop : tie.MeasureT-loop
 μ-loop table bytes₀ i₀ bytes i = tableNumbers - i
 
--- src/table.rt:77:5
 loop-holds : tie.Need-loop-holds Inv-loop μ-loop
 loop-holds c = (omega arith, omega arith, c .before .before .pre .1, save-begun _ _ (c .before .before .pre .0) (c .before .before .pre .1))
 
--- src/table.rt:78:30
 mul-put-number : tie.Need-mul-put-number Inv-loop μ-loop
 mul-put-number c = omega arith
 
--- src/table.rt:78:30
 shared-slice-read-put-number : tie.Need-shared-slice-read-put-number Inv-loop μ-loop
 shared-slice-read-put-number c = omega arith
 
--- src/table.rt:78:9
 put-number-requires : tie.Need-put-number-requires Inv-loop μ-loop
 put-number-requires c κs = search needs
 
--- src/table.rt:79:27
 add-put-number : tie.Need-add-put-number Inv-loop μ-loop
 add-put-number c = omega arith
 
--- src/table.rt:79:40
 add-put-number-2 : tie.Need-add-put-number-2 Inv-loop μ-loop
 add-put-number-2 c = omega arith
 
--- src/table.rt:79:34
 mul-put-number-2 : tie.Need-mul-put-number-2 Inv-loop μ-loop
 mul-put-number-2 c = omega arith
 
--- src/table.rt:79:34
 shared-slice-read-put-number-2 : tie.Need-shared-slice-read-put-number-2 Inv-loop μ-loop
 shared-slice-read-put-number-2 c = omega arith
 
--- src/table.rt:79:9
 put-number-requires-2 : tie.Need-put-number-requires-2 Inv-loop μ-loop
 put-number-requires-2 c κs = (omega arith, omega arith)
 
--- src/table.rt:80:27
 add-put-number-3 : tie.Need-add-put-number-3 Inv-loop μ-loop
 add-put-number-3 c = omega arith
 
--- src/table.rt:80:40
 add-put-number-4 : tie.Need-add-put-number-4 Inv-loop μ-loop
 add-put-number-4 c = omega arith
 
--- src/table.rt:80:34
 mul-put-number-3 : tie.Need-mul-put-number-3 Inv-loop μ-loop
 mul-put-number-3 c = omega arith
 
--- src/table.rt:80:34
 shared-slice-read-put-number-3 : tie.Need-shared-slice-read-put-number-3 Inv-loop μ-loop
 shared-slice-read-put-number-3 c = omega arith
 
--- src/table.rt:80:9
 put-number-requires-3 : tie.Need-put-number-requires-3 Inv-loop μ-loop
 put-number-requires-3 c κs = (omega arith, omega arith)
 
--- src/table.rt:81:27
 add-put-number-5 : tie.Need-add-put-number-5 Inv-loop μ-loop
 add-put-number-5 c = omega arith
 
--- src/table.rt:81:40
 add-put-number-6 : tie.Need-add-put-number-6 Inv-loop μ-loop
 add-put-number-6 c = omega arith
 
--- src/table.rt:81:34
 mul-put-number-4 : tie.Need-mul-put-number-4 Inv-loop μ-loop
 mul-put-number-4 c = omega arith
 
--- src/table.rt:81:34
 shared-slice-read-put-number-4 : tie.Need-shared-slice-read-put-number-4 Inv-loop μ-loop
 shared-slice-read-put-number-4 c = omega arith
 
--- src/table.rt:81:9
 put-number-requires-4 : tie.Need-put-number-requires-4 Inv-loop μ-loop
 put-number-requires-4 c κs = (omega arith, omega arith)
 
--- src/table.rt:82:9
 add-i : tie.Need-add-i Inv-loop μ-loop
 add-i c = omega arith
 
--- src/table.rt:77:5
 loop-less : tie.Need-loop-less Inv-loop μ-loop
 loop-less c = omega arith
 
--- src/table.rt:77:5
 loop-again : tie.Need-loop-again Inv-loop μ-loop
 loop-again c = (omega arith, omega arith, omega arith, save-turn _ _ _ _ _ _ _ (omega arith) (c .before .before .before .before .before .before .before .before .before .before .before .before .before .before .before .before .before .before .before .before .before .loop .inv .3) (c .before .before .before .before .before .before .before .before .before .before .before .before .before .before .before .before .before .put-number .ensures) (c .before .before .before .before .before .before .before .before .before .before .before .before .put-number2 .ensures) (c .before .before .before .before .before .before .before .put-number3 .ensures) (c .before .before .put-number4 .ensures))
 
--- src/table.rt:72:1
 same-length : tie.Need-same-length Inv-loop μ-loop
 same-length c = omega arith
 
--- src/table.rt:72:1
 returns : tie.Need-returns Inv-loop μ-loop
 returns c = save-done _ _ (c .before .before .before .before .pre .0) (rw (le-antisymm (c .before .loop .inv .0) (c .loop-test .left)) at (c .before .loop .inv .3))
 

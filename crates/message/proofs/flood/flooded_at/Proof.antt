@@ -11,51 +11,40 @@ use Rattle.message.proofs.flood.flooded_at.Lts as lts
 use Rattle.message.proofs.sequence.read_pairs.Reads as read-pairs-reads
 use Rattle.options.proofs.pair.read_at.Reads as read-at-reads
 
--- src/flood.rt:37:9
 read-at-requires : tie.Need-read-at-requires
 read-at-requires c κs = search needs
 
--- src/flood.rt:39:23
 enum-known-read : tie.Need-enum-known-read
 enum-known-read c = search needs
 
--- src/flood.rt:41:13
 enum-known-read-2 : tie.Need-enum-known-read-2
 enum-known-read-2 c = search needs
 
--- src/flood.rt:47:48
 sub-read-pairs : tie.Need-sub-read-pairs
 sub-read-pairs c = search needs
 
--- src/flood.rt:47:55
 add-read-pairs : tie.Need-add-read-pairs
 add-read-pairs c = omega (arith, c .before .before .before .before .before .before .pre, c .before .before .before .before .before .before .good, pair-within (c .before .before .before .before .before .before .args .s .now) _ (c .before .before .before .before .before .before .args .at) _ _ (c .before .before .before .read-at .ensures) (c .before .read2 .given .1))
 
--- src/flood.rt:47:17
 read-pairs-requires : tie.Need-read-pairs-requires
 read-pairs-requires c κs = omega (arith, c .before .before .before .before .before .before .pre, c .before .before .before .before .before .before .good, pair-within (c .before .before .before .before .before .before .args .s .now) _ (c .before .before .before .before .before .before .args .at) _ _ (c .before .before .before .read-at .ensures) (c .before .read2 .given .1))
 
--- src/flood.rt:49:32
 enum-known-more : tie.Need-enum-known-more
 enum-known-more c = search needs
 
--- src/flood.rt:51:26
 enum-known-more-2 : tie.Need-enum-known-more-2
 enum-known-more-2 c = search needs
 
--- src/flood.rt:32:1
 returns : tie.Need-returns
 unfolding floodedAt floodedOf floodedBy
 returns c =
     rw (← c .before .before .before .read-at .ensures, c .before .read .given .1)
 
--- src/flood.rt:32:1
 returns-2 : tie.Need-returns-2
 unfolding floodedAt floodedOf floodedBy
 returns-2 c =
     rw (← c .before .before .before .before .before .before .before .read-at .ensures, c .before .before .before .before .before .read2 .given .1, ← c .before .before .before .read-pairs .ensures, c .before .more .given .1)
 
--- src/flood.rt:32:1
 returns-3 : tie.Need-returns-3
 unfolding floodedAt floodedOf floodedBy
 returns-3 c =

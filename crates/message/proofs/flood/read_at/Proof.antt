@@ -15,39 +15,31 @@ use Rattle.message.proofs.flood.read_at.Lts as lts
 use Rattle.message.proofs.flood.flooded_at.Reads as flooded-at-reads
 use Rattle.message.proofs.opening.read_at.Reads as read-at-reads
 
--- src/flood.rt:22:9
 returns : tie.Need-returns
 unfolding floodAt floodBy pick
 returns c =
     rw (lt-ltb _ _ (c .if1 .taken))
 
--- src/flood.rt:24:9
 read-at-requires : tie.Need-read-at-requires
 read-at-requires c κs = search needs
 
--- src/flood.rt:26:26
 enum-known-read : tie.Need-enum-known-read
 enum-known-read c = search needs
 
--- src/flood.rt:27:28
 enum-known-read-2 : tie.Need-enum-known-read-2
 enum-known-read-2 c = search needs
 
--- src/flood.rt:27:70
 sub-flooded-at : tie.Need-sub-flooded-at
 sub-flooded-at c = search needs
 
--- src/flood.rt:27:47
 flooded-at-requires : tie.Need-flooded-at-requires
 flooded-at-requires c κs = (omega (arith, c .before .before .before .before .if1 .left), subst (OpeningOk (length (c .before .before .before .before .before .before .args .s .now))) (c .before .read2 .given .1) (c .before .before .before .read-at .ensures .within))
 
--- src/flood.rt:18:1
 returns-2 : tie.Need-returns-2
 unfolding floodAt floodBy pick
 returns-2 c =
     rw (le-ltb _ _ (c .before .before .before .before .if1 .left), ← c .before .before .before .read-at .ensures .is, c .before .read .given .1)
 
--- src/flood.rt:18:1
 returns-3 : tie.Need-returns-3
 unfolding floodAt floodBy pick
 returns-3 c =

@@ -8,17 +8,14 @@ use Rattle.message.proofs.opening.is_initiator.Tie as tie
 use Rattle.message.proofs.opening.is_initiator.Reads as reads
 use Rattle.message.proofs.opening.is_initiator.Lts as lts
 
--- src/opening.rt:61:13
 returns : tie.Need-returns
 unfolding isInitiator pick
 returns c = search tests
 
--- src/opening.rt:63:9
 returns-2 : tie.Need-returns-2
 unfolding isInitiator pick
 returns-2 c = search tests
 
--- src/opening.rt:56:1
 returns-3 : tie.Need-returns-3
 unfolding isInitiator pick
 returns-3 c = search tests

@@ -12,75 +12,61 @@ use Rattle.message.proofs.opening.read_at.Lts as lts
 use Rattle.cbor.proofs.token.number_at.Reads as number-at-reads
 use Rattle.cbor.proofs.token.string_at.Reads as string-at-reads
 use Rattle.cbor.proofs.token.up_to.Reads as up-to-reads
+use Rattle.message.proofs.opening.content_of.Reads as content-of-reads
 use Rattle.message.proofs.opening.is_initiator.Reads as is-initiator-reads
 
--- src/opening.rt:27:9
 number-at-requires : tie.Need-number-at-requires
 number-at-requires c κs = search needs
 
--- src/opening.rt:28:9
 up-to-requires : tie.Need-up-to-requires
 up-to-requires c κs = search needs
 
--- src/opening.rt:29:9
 cast-if1 : tie.Need-cast-if1
 cast-if1 c = search needs
 
--- src/opening.rt:30:9
 returns : tie.Need-returns
 unfolding openingAt pick
 returns c =
     opening-is _ _ _ (rw (← c .before .before .number-at .ensures .is, ← c .before .up-to .ensures, lt-ltb _ _ (c .if1 .taken)))
 
--- src/opening.rt:32:9
 string-at-requires : tie.Need-string-at-requires
 string-at-requires c κs = search needs
 
--- src/opening.rt:33:9
 is-initiator-requires : tie.Need-is-initiator-requires
 is-initiator-requires c κs = search needs
 
--- src/opening.rt:34:9
 returns-2 : tie.Need-returns-2
 unfolding openingAt pick
 returns-2 c =
     opening-is _ _ _ (rw (← c .before .before .before .before .before .number-at .ensures .is, ← c .before .before .before .before .up-to .ensures, le-ltb _ _ (c .before .before .before .if1 .left), ← c .before .before .string-at .ensures .is, ← c .before .is-initiator .ensures, not-true (c .before .is-initiator .result) (c .if2 .taken)))
 
--- src/opening.rt:36:9
 number-at-requires-2 : tie.Need-number-at-requires-2
 number-at-requires-2 c κs = search needs
 
--- src/opening.rt:37:9
 up-to-requires-2 : tie.Need-up-to-requires-2
 up-to-requires-2 c κs = search needs
 
--- src/opening.rt:38:9
 cast-if3 : tie.Need-cast-if3
 cast-if3 c = search needs
 
--- src/opening.rt:39:9
 returns-3 : tie.Need-returns-3
 unfolding openingAt pick
 returns-3 c =
     opening-is _ _ _ (rw (← c .before .before .before .before .before .before .before .before .number-at .ensures .is, ← c .before .before .before .before .before .before .before .up-to .ensures, le-ltb _ _ (c .before .before .before .before .before .before .if1 .left), ← c .before .before .before .before .before .string-at .ensures .is, ← c .before .before .before .before .is-initiator .ensures, not-false (c .before .before .before .before .is-initiator .result) (c .before .before .before .if2 .left), ← c .before .before .number-at2 .ensures .is, ← c .before .up-to2 .ensures, lt-ltb _ _ (c .if3 .taken)))
 
--- src/opening.rt:43:14
-sub-t12 : tie.Need-sub-t12
-sub-t12 c = search needs
+content-of-requires : tie.Need-content-of-requires
+content-of-requires c κs = search needs
 
--- src/opening.rt:47:22
+cast-t12 : tie.Need-cast-t12
+cast-t12 c = search needs
+
 cast-t13 : tie.Need-cast-t13
 cast-t13 c = search needs
 
--- src/opening.rt:49:18
-cast-t14 : tie.Need-cast-t14
-cast-t14 c = search needs
-
--- src/opening.rt:24:1
 returns-4 : tie.Need-returns-4
 unfolding openingAt pick
 returns-4 c =
-    opening-is _ _ _ (rw (← c .before .before .before .before .before .before .before .before .before .number-at .ensures .is, ← c .before .before .before .before .before .before .before .before .up-to .ensures, le-ltb _ _ (c .before .before .before .before .before .before .before .if1 .left), ← c .before .before .before .before .before .before .string-at .ensures .is, ← c .before .before .before .before .before .is-initiator .ensures, not-false (c .before .before .before .before .before .is-initiator .result) (c .before .before .before .before .if2 .left), ← c .before .before .before .number-at2 .ensures .is, ← c .before .before .up-to2 .ensures, le-ltb _ _ (c .before .if3 .left)))
+    opening-is _ _ _ (rw (← c .before .before .before .before .before .before .before .before .before .number-at .ensures .is, ← c .before .before .before .before .before .before .before .before .up-to .ensures, le-ltb _ _ (c .before .before .before .before .before .before .before .if1 .left), ← c .before .before .before .before .before .before .string-at .ensures .is, ← c .before .before .before .before .before .is-initiator .ensures, not-false (c .before .before .before .before .before .is-initiator .result) (c .before .before .before .before .if2 .left), ← c .before .before .before .number-at2 .ensures .is, ← c .before .before .up-to2 .ensures, le-ltb _ _ (c .before .if3 .left), ← c .content-of .ensures))
 
 pub read-at-spec : {M : Type 1} → statement M
 read-at-spec =
@@ -97,7 +83,7 @@ read-at-spec =
     up-to-requires-2
     cast-if3
     returns-3
-    sub-t12
+    content-of-requires
+    cast-t12
     cast-t13
-    cast-t14
     returns-4)

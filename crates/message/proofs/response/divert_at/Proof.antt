@@ -15,49 +15,39 @@ use Rattle.cbor.proofs.token.token_at.Reads as token-at-reads
 use Rattle.message.proofs.response.rest_at.Reads as rest-at-reads
 use Rattle.message.proofs.sequence.read_locators.Reads as read-locators-reads
 
--- src/response.rt:56:9
 returns : tie.Need-returns
 unfolding divertAt divertOf pick
 returns c =
     rw (lt-ltb _ _ (c .if1 .taken))
 
--- src/response.rt:58:16
 sub-many : tie.Need-sub-many
 sub-many c = search needs
 
--- src/response.rt:59:9
 read-locators-requires : tie.Need-read-locators-requires
 read-locators-requires c κs = search needs
 
--- src/response.rt:61:27
 enum-known-read : tie.Need-enum-known-read
 enum-known-read c = search needs
 
--- src/response.rt:63:13
 enum-known-read-2 : tie.Need-enum-known-read-2
 enum-known-read-2 c = search needs
 
--- src/response.rt:68:21
 token-at-requires : tie.Need-token-at-requires
 token-at-requires c κs = search needs
 
--- src/response.rt:69:17
 returns-2 : tie.Need-returns-2
 unfolding divertAt divertOf pick
 returns-2 c =
     rw (le-ltb _ _ (c .before .before .before .before .before .before .if1 .left), ← c .before .before .before .before .before .read-locators .ensures .is, c .before .before .before .read2 .given .1, ne-eqb _ _ (c .before .if2 .taken), ← c .token-at .ensures .is)
 
--- src/response.rt:71:13
 rest-at-requires : tie.Need-rest-at-requires
 rest-at-requires c κs = subst (LocatorsOk (length (c .before .before .before .before .before .before .before .args .s .now)) _) (c .before .before .read2 .given .1) (c .before .before .before .before .read-locators .ensures .within) .0
 
--- src/response.rt:51:1
 returns-3 : tie.Need-returns-3
 unfolding divertAt divertOf pick
 returns-3 c =
     rw (le-ltb _ _ (c .before .before .before .before .if1 .left), ← c .before .before .before .read-locators .ensures .is, c .before .read .given .1)
 
--- src/response.rt:51:1
 returns-4 : tie.Need-returns-4
 unfolding divertAt divertOf pick
 returns-4 c =

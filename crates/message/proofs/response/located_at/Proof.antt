@@ -15,43 +15,34 @@ use Rattle.cbor.proofs.token.token_at.Reads as token-at-reads
 use Rattle.message.proofs.response.rest_at.Reads as rest-at-reads
 use Rattle.message.proofs.sequence.read_locators.Reads as read-locators-reads
 
--- src/response.rt:88:9
 read-locators-requires : tie.Need-read-locators-requires
 read-locators-requires c κs = search needs
 
--- src/response.rt:90:27
 enum-known-read : tie.Need-enum-known-read
 enum-known-read c = search needs
 
--- src/response.rt:91:29
 enum-known-read-2 : tie.Need-enum-known-read-2
 enum-known-read-2 c = search needs
 
--- src/response.rt:93:21
 token-at-requires : tie.Need-token-at-requires
 token-at-requires c κs = search needs
 
--- src/response.rt:94:17
 returns : tie.Need-returns
 unfolding locatedAt locatedOf pick
 returns c =
     rw (← c .before .before .before .before .before .read-locators .ensures .is, c .before .before .before .read2 .given .1, le-leb _ _ (c .before .if1 .taken), ← c .token-at .ensures .is)
 
--- src/response.rt:99:54
 sub-t13 : tie.Need-sub-t13
 sub-t13 c = search needs
 
--- src/response.rt:96:13
 rest-at-requires : tie.Need-rest-at-requires
 rest-at-requires c κs = subst (LocatorsOk (length (c .before .before .before .before .before .before .args .s .now)) _) (c .before .before .read2 .given .1) (c .before .before .before .before .read-locators .ensures .within) .0
 
--- src/response.rt:84:1
 returns-2 : tie.Need-returns-2
 unfolding locatedAt locatedOf pick
 returns-2 c =
     rw (← c .before .before .before .read-locators .ensures .is, c .before .read .given .1)
 
--- src/response.rt:84:1
 returns-3 : tie.Need-returns-3
 unfolding locatedAt locatedOf pick
 returns-3 c =

@@ -15,39 +15,31 @@ use Rattle.message.proofs.response.read_at.Lts as lts
 use Rattle.message.proofs.opening.read_at.Reads as read-at-reads
 use Rattle.message.proofs.response.targets_at.Reads as targets-at-reads
 
--- src/response.rt:25:9
 returns : tie.Need-returns
 unfolding responseAt responseBy pick
 returns c =
     rw (lt-ltb _ _ (c .if1 .taken))
 
--- src/response.rt:27:9
 read-at-requires : tie.Need-read-at-requires
 read-at-requires c κs = search needs
 
--- src/response.rt:29:26
 enum-known-read : tie.Need-enum-known-read
 enum-known-read c = search needs
 
--- src/response.rt:30:28
 enum-known-read-2 : tie.Need-enum-known-read-2
 enum-known-read-2 c = search needs
 
--- src/response.rt:30:70
 sub-targets-at : tie.Need-sub-targets-at
 sub-targets-at c = search needs
 
--- src/response.rt:30:47
 targets-at-requires : tie.Need-targets-at-requires
 targets-at-requires c κs = (omega (arith, c .before .before .before .before .if1 .left), subst (OpeningOk (length (c .before .before .before .before .before .before .args .s .now))) (c .before .read2 .given .1) (c .before .before .before .read-at .ensures .within))
 
--- src/response.rt:21:1
 returns-2 : tie.Need-returns-2
 unfolding responseAt responseBy pick
 returns-2 c =
     rw (le-ltb _ _ (c .before .before .before .before .if1 .left), ← c .before .before .before .read-at .ensures .is, c .before .read .given .1)
 
--- src/response.rt:21:1
 returns-3 : tie.Need-returns-3
 unfolding responseAt responseBy pick
 returns-3 c =

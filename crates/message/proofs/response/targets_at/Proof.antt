@@ -16,41 +16,32 @@ use Rattle.cbor.proofs.token.up_to.Reads as up-to-reads
 use Rattle.message.proofs.response.divert_at.Reads as divert-at-reads
 use Rattle.message.proofs.response.located_at.Reads as located-at-reads
 
--- src/response.rt:40:9
 array-at-requires : tie.Need-array-at-requires
 array-at-requires c κs = search needs
 
--- src/response.rt:41:8
 items-in-requires : tie.Need-items-in-requires
 items-in-requires c κs = search needs
 
--- src/response.rt:42:13
 number-at-requires : tie.Need-number-at-requires
 number-at-requires c κs = search needs
 
--- src/response.rt:43:12
 up-to-requires : tie.Need-up-to-requires
 up-to-requires c κs = search needs
 
--- src/response.rt:44:42
 sub-divert-at : tie.Need-sub-divert-at
 sub-divert-at c = search needs
 
--- src/response.rt:44:13
 divert-at-requires : tie.Need-divert-at-requires
 divert-at-requires c κs = search needs
 
--- src/response.rt:44:13
 returns : tie.Need-returns
 unfolding targetsAt pick
 returns c =
     rw (← c .before .before .before .before .before .before .array-at .ensures .is, ← c .before .before .before .before .before .items-in .ensures, ne-eqb _ _ (c .before .before .before .before .if1 .taken), ← c .before .before .before .number-at .ensures .is, ← c .before .before .up-to .ensures, eq-eqb _ _ (c .before .if2 .taken)) (c .divert-at .ensures)
 
--- src/response.rt:47:5
 located-at-requires : tie.Need-located-at-requires
 located-at-requires c κs = search needs
 
--- src/response.rt:36:1
 returns-2 : tie.Need-returns-2
 unfolding targetsAt pick
 returns-2 c =

@@ -19,55 +19,42 @@ Inv-loop s n from left₀ at₀ bad₀ left at bad = Located s n from left at ba
 abbrev μ-loop : tie.MeasureT-loop
 μ-loop s n from left₀ at₀ bad₀ left at bad = left
 
--- src/sequence.rt:34:5
 loop-holds : tie.Need-loop-holds Inv-loop μ-loop
 loop-holds c = record { within = c .before .pre; same = refl }
 
--- src/sequence.rt:35:13
 read-at-requires : tie.Need-read-at-requires Inv-loop μ-loop
 read-at-requires c κs = search needs
 
--- src/sequence.rt:37:30
 enum-known-read : tie.Need-enum-known-read Inv-loop μ-loop
 enum-known-read c = search needs
 
--- src/sequence.rt:39:20
 text-led-requires : tie.Need-text-led-requires Inv-loop μ-loop
 text-led-requires c κs = search needs
 
--- src/sequence.rt:40:21
 returns : tie.Need-returns Inv-loop μ-loop
 returns c = locators-are _ _ _ _ (c .before .before .before .before .before .before .before .before .before .pre) (located-stop _ _ _ (c .before .before .before .before .before .before .before .loop .left) (c .before .before .before .before .before .before .before .loop .at) (c .before .before .before .before .before .before .before .loop .bad) _ (omega arith) (c .before .text-led .ensures) (c .if1 .taken) (c .before .before .before .before .before .before .before .loop .inv))
 
--- src/sequence.rt:42:17
 returns-2 : tie.Need-returns-2 Inv-loop μ-loop
 returns-2 c = locators-are _ _ _ _ (c .before .before .before .before .before .before .before .before .before .pre) (located-bad _ _ _ (c .before .before .before .before .before .before .before .loop .left) (c .before .before .before .before .before .before .before .loop .at) (c .before .before .before .before .before .before .before .loop .bad) _ _ _ (omega arith) (c .before .text-led .ensures) (c .if1 .left) (c .before .before .before .before .before .read-at .ensures) (c .before .before .before .read .given .1) (c .before .before .before .before .before .before .before .loop .inv))
 
--- src/sequence.rt:46:17
 enum-known-read-2 : tie.Need-enum-known-read-2 Inv-loop μ-loop
 enum-known-read-2 c = search needs
 
--- src/sequence.rt:49:22
 add-at : tie.Need-add-at Inv-loop μ-loop
 add-at c = omega (arith, c .before .before .before .before .before .loop .inv .within, c .before .before .before .before .before .before .before .good, locator-within (c .before .before .before .before .before .before .before .args .s .now) _ (c .before .before .before .before .before .loop .at) _ _ (c .before .before .before .read-at .ensures) (c .before .read2 .given .1))
 
--- src/sequence.rt:50:17
 first-of-requires : tie.Need-first-of-requires Inv-loop μ-loop
 first-of-requires c κs = search needs
 
--- src/sequence.rt:51:24
 sub-left : tie.Need-sub-left Inv-loop μ-loop
 sub-left c = search needs
 
--- src/sequence.rt:34:5
 loop-less : tie.Need-loop-less Inv-loop μ-loop
 loop-less c = search needs
 
--- src/sequence.rt:34:5
 loop-again : tie.Need-loop-again Inv-loop μ-loop
 loop-again c = located-next (c .before .before .before .before .before .before .before .before .args .s .now) _ _ (c .before .before .before .before .before .before .loop .left) (c .before .before .before .before .before .before .loop .at) (c .before .before .before .before .before .before .loop .bad) _ _ _ _ _ (omega arith) (c .before .before .before .before .read-at .ensures) (c .before .before .read2 .given .1) (c .first-of .ensures) (c .before .before .before .before .before .before .loop .inv)
 
--- src/sequence.rt:27:1
 returns-3 : tie.Need-returns-3 Inv-loop μ-loop
 returns-3 c = locators-are _ _ _ _ (c .before .before .before .pre) (located-end _ _ _ (c .before .loop .left) (c .before .loop .at) (c .before .loop .bad) (omega arith) (c .before .loop .inv))
 

@@ -18,51 +18,39 @@ Inv-loop s n from first-bad first-long left₀ at₀ bad₀ long₀ left at bad 
 abbrev μ-loop : tie.MeasureT-loop
 μ-loop s n from first-bad first-long left₀ at₀ bad₀ long₀ left at bad long = left
 
--- src/sequence.rt:88:5
 loop-holds : tie.Need-loop-holds Inv-loop μ-loop
 loop-holds c = record { within = c .before .pre; same = refl }
 
--- src/sequence.rt:89:13
 read-at-requires : tie.Need-read-at-requires Inv-loop μ-loop
 read-at-requires c κs = search needs
 
--- src/sequence.rt:91:27
 enum-known-read : tie.Need-enum-known-read Inv-loop μ-loop
 enum-known-read c = search needs
 
--- src/sequence.rt:92:17
 returns : tie.Need-returns Inv-loop μ-loop
 returns c = paired-bad _ _ _ _ _ (c .before .before .before .before .before .loop .left) (c .before .before .before .before .before .loop .at) (c .before .before .before .before .before .loop .bad) (c .before .before .before .before .before .loop .long) _ _ (omega arith) (c .before .before .before .read-at .ensures) (c .before .read .given .1) (c .before .before .before .before .before .loop .inv)
 
--- src/sequence.rt:97:17
 enum-known-read-2 : tie.Need-enum-known-read-2 Inv-loop μ-loop
 enum-known-read-2 c = search needs
 
--- src/sequence.rt:101:22
 add-at : tie.Need-add-at Inv-loop μ-loop
 add-at c = omega (arith, c .before .before .before .before .before .loop .inv .within, c .before .before .before .before .before .before .before .good, pair-within (c .before .before .before .before .before .before .before .args .s .now) _ (c .before .before .before .before .before .loop .at) _ _ (c .before .before .before .read-at .ensures) (c .before .read2 .given .1))
 
--- src/sequence.rt:102:17
 first-of-requires : tie.Need-first-of-requires Inv-loop μ-loop
 first-of-requires c κs = search needs
 
--- src/sequence.rt:103:17
 first-of-requires-2 : tie.Need-first-of-requires-2 Inv-loop μ-loop
 first-of-requires-2 c κs = search needs
 
--- src/sequence.rt:104:24
 sub-left : tie.Need-sub-left Inv-loop μ-loop
 sub-left c = search needs
 
--- src/sequence.rt:88:5
 loop-less : tie.Need-loop-less Inv-loop μ-loop
 loop-less c = search needs
 
--- src/sequence.rt:88:5
 loop-again : tie.Need-loop-again Inv-loop μ-loop
 loop-again c = paired-next _ _ _ _ _ (c .before .before .before .before .before .before .before .loop .left) (c .before .before .before .before .before .before .before .loop .at) (c .before .before .before .before .before .before .before .loop .bad) (c .before .before .before .before .before .before .before .loop .long) _ _ _ _ _ _ _ _ (omega arith) (c .before .before .before .before .before .read-at .ensures) (c .before .before .before .read2 .given .1) (c .before .first-of .ensures) (c .first-of2 .ensures) (c .before .before .before .before .before .before .before .loop .inv)
 
--- src/sequence.rt:74:1
 returns-2 : tie.Need-returns-2 Inv-loop μ-loop
 returns-2 c = paired-end _ _ _ _ _ (c .before .loop .left) (c .before .loop .at) (c .before .loop .bad) (c .before .loop .long) (omega arith) (c .before .loop .inv)
 

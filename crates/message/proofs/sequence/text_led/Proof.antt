@@ -11,25 +11,20 @@ use Rattle.message.proofs.sequence.text_led.Lts as lts
 use Rattle.cbor.proofs.token.items_in.Reads as items-in-reads
 use Rattle.cbor.proofs.token.token_at.Reads as token-at-reads
 
--- src/sequence.rt:65:9
 token-at-requires : tie.Need-token-at-requires
 token-at-requires c κs = search needs
 
--- src/sequence.rt:66:8
 items-in-requires : tie.Need-items-in-requires
 items-in-requires c κs = search needs
 
--- src/sequence.rt:67:9
 returns : tie.Need-returns
 unfolding textLed pick
 returns c =
     rw (← c .before .before .token-at .ensures .is, ← c .before .items-in .ensures, eq-eqb _ _ (c .if1 .taken))
 
--- src/sequence.rt:69:9
 token-at-requires-2 : tie.Need-token-at-requires-2
 token-at-requires-2 c κs = search needs
 
--- src/sequence.rt:62:1
 returns-2 : tie.Need-returns-2
 unfolding textLed pick
 returns-2 c =

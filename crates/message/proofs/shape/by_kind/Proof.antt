@@ -17,81 +17,65 @@ use Rattle.message.proofs.shape.invalid_at.Reads as invalid-at-reads
 use Rattle.message.proofs.shape.noop_at.Reads as noop-at-reads
 use Rattle.message.proofs.shape.wait_at.Reads as wait-at-reads
 
--- src/shape.rt:33:9
 noop-at-requires : tie.Need-noop-at-requires
 noop-at-requires c κs = search needs
 
--- src/shape.rt:33:9
 returns : tie.Need-returns
 unfolding byKind pick
 returns c =
     rw (eq-eqb _ _ (c .before .if1 .taken), ← c .noop-at .ensures)
 
--- src/shape.rt:36:9
 discovery-at-requires : tie.Need-discovery-at-requires
 discovery-at-requires c κs = search needs
 
--- src/shape.rt:36:9
 returns-2 : tie.Need-returns-2
 unfolding byKind pick
 returns-2 c =
     rw (ne-eqb _ _ (c .before .before .if1 .left), eq-eqb _ _ (c .before .if2 .taken), ← c .discovery-at .ensures)
 
--- src/shape.rt:39:9
 read-at-requires : tie.Need-read-at-requires
 read-at-requires c κs = search needs
 
--- src/shape.rt:39:9
 returns-3 : tie.Need-returns-3
 unfolding byKind pick
 returns-3 c =
     rw (ne-eqb _ _ (c .before .before .before .if1 .left), ne-eqb _ _ (c .before .before .if2 .left), eq-eqb _ _ (c .before .if3 .taken), ← c .read-at .ensures)
 
--- src/shape.rt:42:9
 end-at-requires : tie.Need-end-at-requires
 end-at-requires c κs = search needs
 
--- src/shape.rt:42:9
 returns-4 : tie.Need-returns-4
 unfolding byKind pick
 returns-4 c =
     rw (ne-eqb _ _ (c .before .before .before .before .if1 .left), ne-eqb _ _ (c .before .before .before .if2 .left), ne-eqb _ _ (c .before .before .if3 .left), eq-eqb _ _ (c .before .if4 .taken), ← c .end-at .ensures)
 
--- src/shape.rt:45:9
 wait-at-requires : tie.Need-wait-at-requires
 wait-at-requires c κs = search needs
 
--- src/shape.rt:45:9
 returns-5 : tie.Need-returns-5
 unfolding byKind pick
 returns-5 c =
     rw (ne-eqb _ _ (c .before .before .before .before .before .if1 .left), ne-eqb _ _ (c .before .before .before .before .if2 .left), ne-eqb _ _ (c .before .before .before .if3 .left), ne-eqb _ _ (c .before .before .if4 .left), eq-eqb _ _ (c .before .if5 .taken), ← c .wait-at .ensures)
 
--- src/shape.rt:48:9
 read-at-requires-2 : tie.Need-read-at-requires-2
 read-at-requires-2 c κs = search needs
 
--- src/shape.rt:48:9
 returns-6 : tie.Need-returns-6
 unfolding byKind pick
 returns-6 c =
     rw (ne-eqb _ _ (c .before .before .before .before .before .before .if1 .left), ne-eqb _ _ (c .before .before .before .before .before .if2 .left), ne-eqb _ _ (c .before .before .before .before .if3 .left), ne-eqb _ _ (c .before .before .before .if4 .left), ne-eqb _ _ (c .before .before .if5 .left), eq-eqb _ _ (c .before .if6 .taken), ← c .read-at2 .ensures)
 
--- src/shape.rt:51:9
 invalid-at-requires : tie.Need-invalid-at-requires
 invalid-at-requires c κs = search needs
 
--- src/shape.rt:51:9
 returns-7 : tie.Need-returns-7
 unfolding byKind pick
 returns-7 c =
     rw (ne-eqb _ _ (c .before .before .before .before .before .before .before .if1 .left), ne-eqb _ _ (c .before .before .before .before .before .before .if2 .left), ne-eqb _ _ (c .before .before .before .before .before .if3 .left), ne-eqb _ _ (c .before .before .before .before .if4 .left), ne-eqb _ _ (c .before .before .before .if5 .left), ne-eqb _ _ (c .before .before .if6 .left), eq-eqb _ _ (c .before .if7 .taken), ← c .invalid-at .ensures)
 
--- src/shape.rt:53:5
 exchange-at-requires : tie.Need-exchange-at-requires
 exchange-at-requires c κs = search needs
 
--- src/shape.rt:29:1
 returns-8 : tie.Need-returns-8
 unfolding byKind pick
 returns-8 c =

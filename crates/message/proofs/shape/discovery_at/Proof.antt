@@ -13,88 +13,72 @@ use Rattle.message.proofs.shape.discovery_at.Lts as lts
 use Rattle.cbor.proofs.token.number_at.Reads as number-at-reads
 use Rattle.cbor.proofs.token.string_at.Reads as string-at-reads
 use Rattle.cbor.proofs.token.up_to.Reads as up-to-reads
+use Rattle.message.proofs.opening.content_of.Reads as content-of-reads
 use Rattle.message.proofs.opening.is_initiator.Reads as is-initiator-reads
 use Rattle.options.proofs.objective.copied.Reads as copied-reads
 use Rattle.options.proofs.objective.read_at.Reads as read-at-reads
 
--- src/shape.rt:82:9
 returns : tie.Need-returns
 unfolding discoveryAt discovered pick
 returns c =
     rw (ne-eqb _ _ (c .if1 .taken))
 
--- src/shape.rt:84:9
 number-at-requires : tie.Need-number-at-requires
 number-at-requires c κs = search needs
 
--- src/shape.rt:85:9
 up-to-requires : tie.Need-up-to-requires
 up-to-requires c κs = search needs
 
--- src/shape.rt:86:9
 cast-if2 : tie.Need-cast-if2
 cast-if2 c = search needs
 
--- src/shape.rt:87:9
 returns-2 : tie.Need-returns-2
 unfolding discoveryAt discovered pick
 returns-2 c =
     rw (eq-eqb _ _ (c .before .before .before .if1 .left), ← c .before .before .number-at .ensures .is, ← c .before .up-to .ensures, lt-ltb _ _ (c .if2 .taken))
 
--- src/shape.rt:89:9
 string-at-requires : tie.Need-string-at-requires
 string-at-requires c κs = search needs
 
--- src/shape.rt:90:9
 is-initiator-requires : tie.Need-is-initiator-requires
 is-initiator-requires c κs = search needs
 
--- src/shape.rt:91:9
 returns-3 : tie.Need-returns-3
 unfolding discoveryAt discovered pick
 returns-3 c =
     rw (eq-eqb _ _ (c .before .before .before .before .before .before .if1 .left), ← c .before .before .before .before .before .number-at .ensures .is, ← c .before .before .before .before .up-to .ensures, le-ltb _ _ (c .before .before .before .if2 .left), ← c .before .before .string-at .ensures .is, ← c .before .is-initiator .ensures, not-true (c .before .is-initiator .result) (c .if3 .taken))
 
--- src/shape.rt:95:14
-sub-t17 : tie.Need-sub-t17
-sub-t17 c = search needs
+content-of-requires : tie.Need-content-of-requires
+content-of-requires c κs = search needs
 
--- src/shape.rt:97:9
 read-at-requires : tie.Need-read-at-requires
 read-at-requires c κs = search needs
 
--- src/shape.rt:99:28
 enum-known-read : tie.Need-enum-known-read
 enum-known-read c = search needs
 
--- src/shape.rt:100:13
 returns-4 : tie.Need-returns-4
 unfolding discoveryAt discovered pick
 returns-4 c =
-    rw (eq-eqb _ _ (c .before .before .before .before .before .before .before .before .before .before .before .if1 .left), ← c .before .before .before .before .before .before .before .before .before .before .number-at .ensures .is, ← c .before .before .before .before .before .before .before .before .before .up-to .ensures, le-ltb _ _ (c .before .before .before .before .before .before .before .before .if2 .left), ← c .before .before .before .before .before .before .before .string-at .ensures .is, ← c .before .before .before .before .before .before .is-initiator .ensures, not-false (c .before .before .before .before .before .before .is-initiator .result) (c .before .before .before .before .before .if3 .left), ← c .before .before .before .read-at .ensures, c .before .read .given .1)
+    rw (eq-eqb _ _ (c .before .before .before .before .before .before .before .before .before .before .before .if1 .left), ← c .before .before .before .before .before .before .before .before .before .before .number-at .ensures .is, ← c .before .before .before .before .before .before .before .before .before .up-to .ensures, le-ltb _ _ (c .before .before .before .before .before .before .before .before .if2 .left), ← c .before .before .before .before .before .before .before .string-at .ensures .is, ← c .before .before .before .before .before .before .is-initiator .ensures, not-false (c .before .before .before .before .before .before .is-initiator .result) (c .before .before .before .before .before .if3 .left), ← c .before .before .before .before .content-of .ensures, ← c .before .before .before .read-at .ensures, c .before .read .given .1)
 
--- src/shape.rt:103:13
 enum-known-read-2 : tie.Need-enum-known-read-2
 enum-known-read-2 c = search needs
 
--- src/shape.rt:110:30
-cast-t18 : tie.Need-cast-t18
-cast-t18 c = search needs
+cast-t17 : tie.Need-cast-t17
+cast-t17 c = search needs
 
--- src/shape.rt:112:32
 copied-requires : tie.Need-copied-requires
 copied-requires c κs = search needs
 
--- src/shape.rt:114:22
-add-t21 : tie.Need-add-t21
-add-t21 c =
+add-t20 : tie.Need-add-t20
+add-t20 c =
     omega (arith, c .before .before .before .before .before .before .before .before .before .string-at .ensures, c .before .before .before .before .before .before .before .before .before .before .before .before .before .before .before .good, objective-within 2 (c .before .before .before .before .before .before .before .before .before .before .before .before .before .before .before .args .s .now) _ (c .before .before .before .before .before .before .before .before .before .string-at .result .next) _ _ (c .before .before .before .before .before .read-at .ensures) (c .before .before .before .read2 .given .1))
 
--- src/shape.rt:108:13
 returns-5 : tie.Need-returns-5
 unfolding discoveryAt discovered pick
 returns-5 c =
-    rw (eq-eqb _ _ (c .before .before .before .before .before .before .before .before .before .before .before .before .before .if1 .left), ← c .before .before .before .before .before .before .before .before .before .before .before .before .number-at .ensures .is, ← c .before .before .before .before .before .before .before .before .before .before .before .up-to .ensures, le-ltb _ _ (c .before .before .before .before .before .before .before .before .before .before .if2 .left), ← c .before .before .before .before .before .before .before .before .before .string-at .ensures .is, ← c .before .before .before .before .before .before .before .before .is-initiator .ensures, not-false (c .before .before .before .before .before .before .before .before .is-initiator .result) (c .before .before .before .before .before .before .before .if3 .left), ← c .before .before .before .before .before .read-at .ensures, c .before .before .before .read2 .given .1, c .before .copied .ensures)
+    rw (eq-eqb _ _ (c .before .before .before .before .before .before .before .before .before .before .before .before .before .if1 .left), ← c .before .before .before .before .before .before .before .before .before .before .before .before .number-at .ensures .is, ← c .before .before .before .before .before .before .before .before .before .before .before .up-to .ensures, le-ltb _ _ (c .before .before .before .before .before .before .before .before .before .before .if2 .left), ← c .before .before .before .before .before .before .before .before .before .string-at .ensures .is, ← c .before .before .before .before .before .before .before .before .is-initiator .ensures, not-false (c .before .before .before .before .before .before .before .before .is-initiator .result) (c .before .before .before .before .before .before .before .if3 .left), ← c .before .before .before .before .before .before .content-of .ensures, ← c .before .before .before .before .before .read-at .ensures, c .before .before .before .read2 .given .1, ← c .before .copied .ensures)
 
 pub discovery-at-spec : {M : Type 1} → statement M
 discovery-at-spec =
@@ -108,12 +92,12 @@ discovery-at-spec =
     string-at-requires
     is-initiator-requires
     returns-3
-    sub-t17
+    content-of-requires
     read-at-requires
     enum-known-read
     returns-4
     enum-known-read-2
-    cast-t18
+    cast-t17
     copied-requires
-    add-t21
+    add-t20
     returns-5)

@@ -12,39 +12,31 @@ use Rattle.cbor.proofs.token.number_at.Reads as number-at-reads
 use Rattle.cbor.proofs.token.up_to.Reads as up-to-reads
 use Rattle.message.proofs.shape.option_at.Reads as option-at-reads
 
--- src/shape.rt:224:9
 returns : tie.Need-returns
 unfolding endAt pick
 returns c =
     rw (ne-eqb _ _ (c .if1 .taken))
 
--- src/shape.rt:226:9
 number-at-requires : tie.Need-number-at-requires
 number-at-requires c κs = search needs
 
--- src/shape.rt:227:9
 up-to-requires : tie.Need-up-to-requires
 up-to-requires c κs = search needs
 
--- src/shape.rt:228:9
 cast-if2 : tie.Need-cast-if2
 cast-if2 c = search needs
 
--- src/shape.rt:229:9
 returns-2 : tie.Need-returns-2
 unfolding endAt pick
 returns-2 c =
     rw (eq-eqb _ _ (c .before .before .before .if1 .left), ← c .before .before .number-at .ensures .is, ← c .before .up-to .ensures, lt-ltb _ _ (c .if2 .taken))
 
--- src/shape.rt:231:18
 cast-option-at : tie.Need-cast-option-at
 cast-option-at c = search needs
 
--- src/shape.rt:231:5
 option-at-requires : tie.Need-option-at-requires
 option-at-requires c κs = search needs
 
--- src/shape.rt:220:1
 returns-3 : tie.Need-returns-3
 unfolding endAt pick
 returns-3 c =

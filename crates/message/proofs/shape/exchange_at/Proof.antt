@@ -16,66 +16,52 @@ use Rattle.message.proofs.shape.exchange_of.Reads as exchange-of-reads
 use Rattle.options.proofs.objective.copied.Reads as copied-reads
 use Rattle.options.proofs.objective.read_at.Reads as read-at-reads
 
--- src/shape.rt:127:9
 returns : tie.Need-returns
 unfolding exchangeAt exchanged pick
 returns c =
     rw (ne-eqb _ _ (c .if1 .taken))
 
--- src/shape.rt:129:9
 number-at-requires : tie.Need-number-at-requires
 number-at-requires c κs = search needs
 
--- src/shape.rt:130:9
 up-to-requires : tie.Need-up-to-requires
 up-to-requires c κs = search needs
 
--- src/shape.rt:131:9
 cast-if2 : tie.Need-cast-if2
 cast-if2 c = search needs
 
--- src/shape.rt:132:9
 returns-2 : tie.Need-returns-2
 unfolding exchangeAt exchanged pick
 returns-2 c =
     rw (eq-eqb _ _ (c .before .before .before .if1 .left), ← c .before .before .number-at .ensures .is, ← c .before .up-to .ensures, lt-ltb _ _ (c .if2 .taken))
 
--- src/shape.rt:134:9
 read-at-requires : tie.Need-read-at-requires
 read-at-requires c κs = search needs
 
--- src/shape.rt:136:28
 enum-known-read : tie.Need-enum-known-read
 enum-known-read c = search needs
 
--- src/shape.rt:137:13
 returns-3 : tie.Need-returns-3
 unfolding exchangeAt exchanged pick
 returns-3 c =
     rw (eq-eqb _ _ (c .before .before .before .before .before .before .before .if1 .left), ← c .before .before .before .before .before .before .number-at .ensures .is, ← c .before .before .before .before .before .up-to .ensures, le-ltb _ _ (c .before .before .before .before .if2 .left), ← c .before .before .before .read-at .ensures, c .before .read .given .1)
 
--- src/shape.rt:140:13
 enum-known-read-2 : tie.Need-enum-known-read-2
 enum-known-read-2 c = search needs
 
--- src/shape.rt:146:44
 cast-exchange-of : tie.Need-cast-exchange-of
 cast-exchange-of c = search needs
 
--- src/shape.rt:146:60
 copied-requires : tie.Need-copied-requires
 copied-requires c κs = search needs
 
--- src/shape.rt:146:26
 exchange-of-requires : tie.Need-exchange-of-requires
 exchange-of-requires c κs = search needs
 
--- src/shape.rt:147:22
 add-t18 : tie.Need-add-t18
 add-t18 c =
     omega (arith, c .before .before .before .before .before .before .before .before .before .number-at .ensures, c .before .before .before .before .before .before .before .before .before .before .before .before .good, objective-within 2 (c .before .before .before .before .before .before .before .before .before .before .before .before .args .s .now) _ (c .before .before .before .before .before .before .before .before .before .number-at .result .next) _ _ (c .before .before .before .before .before .before .read-at .ensures) (c .before .before .before .before .read2 .given .1))
 
--- src/shape.rt:145:13
 returns-4 : tie.Need-returns-4
 unfolding exchangeAt exchanged pick
 returns-4 c =

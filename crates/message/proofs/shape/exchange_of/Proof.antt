@@ -8,22 +8,18 @@ use Rattle.message.proofs.shape.exchange_of.Tie as tie
 use Rattle.message.proofs.shape.exchange_of.Reads as reads
 use Rattle.message.proofs.shape.exchange_of.Lts as lts
 
--- src/shape.rt:141:9
 returns : tie.Need-returns
 unfolding exchangeOf pick
 returns c = search tests
 
--- src/shape.rt:144:9
 returns-2 : tie.Need-returns-2
 unfolding exchangeOf pick
 returns-2 c = search tests
 
--- src/shape.rt:147:9
 returns-3 : tie.Need-returns-3
 unfolding exchangeOf pick
 returns-3 c = search tests
 
--- src/shape.rt:137:1
 returns-4 : tie.Need-returns-4
 unfolding exchangeOf pick
 returns-4 c = search tests

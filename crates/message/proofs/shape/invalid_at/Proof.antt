@@ -12,65 +12,52 @@ use Rattle.cbor.proofs.token.number_at.Reads as number-at-reads
 use Rattle.cbor.proofs.token.size_at.Reads as size-at-reads
 use Rattle.cbor.proofs.token.up_to.Reads as up-to-reads
 
--- src/shape.rt:203:9
 returns : tie.Need-returns
 unfolding invalidAt pick
 returns c =
     rw (lt-ltb _ _ (c .if1 .taken))
 
--- src/shape.rt:206:9
 returns-2 : tie.Need-returns-2
 unfolding invalidAt pick
 returns-2 c =
     rw (le-ltb _ _ (c .before .if1 .left), lt-ltb _ _ (c .if2 .taken))
 
--- src/shape.rt:208:9
 number-at-requires : tie.Need-number-at-requires
 number-at-requires c κs = search needs
 
--- src/shape.rt:209:9
 up-to-requires : tie.Need-up-to-requires
 up-to-requires c κs = search needs
 
--- src/shape.rt:210:9
 cast-if3 : tie.Need-cast-if3
 cast-if3 c = search needs
 
--- src/shape.rt:211:9
 returns-3 : tie.Need-returns-3
 unfolding invalidAt pick
 returns-3 c =
     rw (le-ltb _ _ (c .before .before .before .before .if1 .left), le-ltb _ _ (c .before .before .before .if2 .left), ← c .before .before .number-at .ensures .is, ← c .before .up-to .ensures, lt-ltb _ _ (c .if3 .taken))
 
--- src/shape.rt:217:26
 cast-t10 : tie.Need-cast-t10
 cast-t10 c = search needs
 
--- src/shape.rt:215:9
 returns-4 : tie.Need-returns-4
 unfolding invalidAt pick
 returns-4 c =
     rw (le-ltb _ _ (c .before .before .before .before .before .if1 .left), le-ltb _ _ (c .before .before .before .before .if2 .left), ← c .before .before .before .number-at .ensures .is, ← c .before .before .up-to .ensures, le-ltb _ _ (c .before .if3 .left), eq-eqb _ _ (c .if4 .taken))
 
--- src/shape.rt:225:9
 size-at-requires : tie.Need-size-at-requires
 size-at-requires c κs = search needs
 
--- src/shape.rt:227:9
 returns-5 : tie.Need-returns-5
 unfolding invalidAt pick
 returns-5 c =
     rw (le-ltb _ _ (c .before .before .before .before .before .before .before .if1 .left), le-ltb _ _ (c .before .before .before .before .before .before .if2 .left), ← c .before .before .before .before .before .number-at .ensures .is, ← c .before .before .before .before .up-to .ensures, le-ltb _ _ (c .before .before .before .if3 .left), ne-eqb _ _ (c .before .before .if4 .left), ← c .before .size-at .ensures .is, eq-eqb _ _ (c .if5 .taken))
 
--- src/shape.rt:231:22
 cast-t13 : tie.Need-cast-t13
 cast-t13 c = search needs
 
--- src/shape.rt:234:14
 add-t16 : tie.Need-add-t16
 add-t16 c = search needs
 
--- src/shape.rt:199:1
 returns-6 : tie.Need-returns-6
 unfolding invalidAt pick
 returns-6 c =

@@ -8,12 +8,10 @@ use Rattle.message.proofs.shape.noop_at.Tie as tie
 use Rattle.message.proofs.shape.noop_at.Reads as reads
 use Rattle.message.proofs.shape.noop_at.Lts as lts
 
--- src/shape.rt:60:9
 returns : tie.Need-returns
 unfolding noopAt pick
 returns c = search tests
 
--- src/shape.rt:56:1
 returns-2 : tie.Need-returns-2
 unfolding noopAt pick
 returns-2 c = search tests

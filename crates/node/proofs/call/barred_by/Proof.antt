@@ -14,53 +14,42 @@ use Rattle.node_state.proofs.Record.is_bad.Reads as Record-is-bad-reads
 use Rattle.node.proofs.call.is_bad_arrival.Reads as is-bad-arrival-reads
 use Rattle.node_state.proofs.table.is_bad.Reads as table-is-bad-reads
 
--- src/call.rt:74:8
 is-bad-requires : tie.Need-is-bad-requires
 is-bad-requires c κs = search needs
 
--- src/call.rt:75:9
 returns : tie.Need-returns
 unfolding barred pick
 returns c = rw (sym (c .before .is-bad .ensures) ∙ c .if1 .taken) refl
 
--- src/call.rt:77:8
 is-bad-arrival-requires : tie.Need-is-bad-arrival-requires
 is-bad-arrival-requires c κs = sym (c .before .is-bad .ensures) ∙ c .if1 .left
 
--- src/call.rt:78:9
 returns-2 : tie.Need-returns-2
 unfolding barred pick
 returns-2 c = rw (sym (c .before .before .before .is-bad .ensures) ∙ c .before .before .if1 .left, sym (c .before .is-bad-arrival .ensures) ∙ c .if2 .taken) refl
 
--- src/call.rt:81:9
 returns-3 : tie.Need-returns-3
 unfolding barred pick
 returns-3 c = rw (sym (c .before .before .before .before .before .is-bad .ensures) ∙ c .before .before .before .before .if1 .left, sym (c .before .before .before .is-bad-arrival .ensures) ∙ c .before .before .if2 .left, lt-ltb _ _ (c .if3 .taken)) refl
 
--- src/call.rt:83:8
 is-bad-requires-2 : tie.Need-is-bad-requires-2
 is-bad-requires-2 c κs = search needs
 
--- src/call.rt:84:9
 returns-4 : tie.Need-returns-4
 unfolding barred pick
 returns-4 c = rw (sym (c .before .before .before .before .before .before .before .is-bad .ensures) ∙ c .before .before .before .before .before .before .if1 .left, sym (c .before .before .before .before .before .is-bad-arrival .ensures) ∙ c .before .before .before .before .if2 .left, le-ltb _ _ (c .before .before .if3 .left), sym (c .before .is-bad2 .ensures) ∙ c .if4 .taken) refl
 
--- src/call.rt:86:8
 are-bad-requires : tie.Need-are-bad-requires
 are-bad-requires c κs = search needs
 
--- src/call.rt:87:9
 returns-5 : tie.Need-returns-5
 unfolding barred pick
 returns-5 c = rw (sym (c .before .before .before .before .before .before .before .before .before .is-bad .ensures) ∙ c .before .before .before .before .before .before .before .before .if1 .left, sym (c .before .before .before .before .before .before .before .is-bad-arrival .ensures) ∙ c .before .before .before .before .before .before .if2 .left, le-ltb _ _ (c .before .before .before .before .if3 .left), sym (c .before .before .before .is-bad2 .ensures) ∙ c .before .before .if4 .left, sym (c .before .are-bad .ensures) ∙ c .if5 .taken) refl
 
--- src/call.rt:90:9
 returns-6 : tie.Need-returns-6
 unfolding barred pick
 returns-6 c = rw (sym (c .before .before .before .before .before .before .before .before .before .before .is-bad .ensures) ∙ c .before .before .before .before .before .before .before .before .before .if1 .left, sym (c .before .before .before .before .before .before .before .before .is-bad-arrival .ensures) ∙ c .before .before .before .before .before .before .before .if2 .left, le-ltb _ _ (c .before .before .before .before .before .if3 .left), sym (c .before .before .before .before .is-bad2 .ensures) ∙ c .before .before .before .if4 .left, sym (c .before .before .are-bad .ensures) ∙ c .before .if5 .left, lt-ltb _ _ (c .if6 .taken)) refl
 
--- src/call.rt:64:1
 returns-7 : tie.Need-returns-7
 unfolding barred pick
 returns-7 c = rw (sym (c .before .before .before .before .before .before .before .before .before .before .is-bad .ensures) ∙ c .before .before .before .before .before .before .before .before .before .if1 .left, sym (c .before .before .before .before .before .before .before .before .is-bad-arrival .ensures) ∙ c .before .before .before .before .before .before .before .if2 .left, le-ltb _ _ (c .before .before .before .before .before .if3 .left), sym (c .before .before .before .before .is-bad2 .ensures) ∙ c .before .before .before .if4 .left, sym (c .before .before .are-bad .ensures) ∙ c .before .if5 .left, le-ltb _ _ (c .if6 .left)) refl

@@ -12,24 +12,19 @@ use Rattle.node.proofs.call.is_bad_arrival.Reads as reads
 use Rattle.node.proofs.call.is_bad_arrival.Lts as lts
 use Rattle.node.proofs.links.is_up.Reads as is-up-reads
 
--- src/call.rt:100:8
 cast-if1 : tie.Need-cast-if1
 cast-if1 c = search needs
 
--- src/call.rt:101:9
 returns : tie.Need-returns
 unfolding arrivalBad
 returns c = rw (le-leb _ _ (c .if1 .taken)) refl
 
--- src/call.rt:103:31
 cast-is-up : tie.Need-cast-is-up
 cast-is-up c = search needs
 
--- src/call.rt:103:6
 is-up-requires : tie.Need-is-up-requires
 is-up-requires c κs = omega (arith, record-links (c .before .before .args .node) (c .before .before .pre) .most, c .if1 .left)
 
--- src/call.rt:96:1
 returns-2 : tie.Need-returns-2
 unfolding arrivalBad
 returns-2 c = rw (lt-leb _ _ (c .before .if1 .left), sym (c .is-up .ensures)) refl

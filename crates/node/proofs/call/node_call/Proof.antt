@@ -15,62 +15,48 @@ use Rattle.node.proofs.call.barred_by.Reads as barred-by-reads
 use Rattle.node.proofs.call.take.Reads as take-reads
 use Rattle.node.proofs.role.role_of.Reads as role-of-reads
 
--- src/call.rt:37:9
 barred-by-requires : tie.Need-barred-by-requires
 barred-by-requires c κs = search needs
 
--- src/call.rt:39:9
 same-length : tie.Need-same-length
 same-length c = search needs
 
--- src/call.rt:39:9
 returns : tie.Need-returns
 returns c = barred-outcome (c .before .before .before .before .before .before .before .args .node) (c .before .before .before .before .before .before .before .args .table .now) (callOf (c .before .before .before .before .before .before .before .args .clock) (c .before .before .before .before .before .before .before .args .interface) (c .before .before .before .before .before .before .before .args .names .now) (c .before .before .before .before .before .before .before .args .message .now) (c .before .before .before .before .before .before .before .args .out .now)) _ _ (c .before .barred-by .ensures) (c .if1 .taken) refl
 
--- src/call.rt:44:9
 read-requires : tie.Need-read-requires
 read-requires c κs = search needs
 
--- src/call.rt:46:26
 enum-known-read : tie.Need-enum-known-read
 enum-known-read c = search needs
 
--- src/call.rt:50:23
 enum-known-read-2 : tie.Need-enum-known-read-2
 enum-known-read-2 c = search needs
 
--- src/call.rt:54:13
 cast-take : tie.Need-cast-take
 cast-take c = let p = passed (c .before .before .before .before .before .before .before .before .before .before .before .before .args .node) (c .before .before .before .before .before .before .before .before .before .before .before .before .args .table .now) (c .before .before .before .before .before .before .before .before .before .before .before .before .args .clock) (c .before .before .before .before .before .before .before .before .before .before .before .before .args .interface) (c .before .before .before .before .before .before .before .before .before .before .before .before .args .names .now) (length (c .before .before .before .before .before .before .before .before .before .before .before .before .args .out .now)) (sym (c .before .before .before .before .before .before .barred-by .ensures) ∙ c .before .before .before .before .before .if1 .left) in omega (arith, arrives (c .before .before .before .before .before .before .before .before .before .before .before .before .args .node) (c .before .before .before .before .before .before .before .before .before .before .before .before .args .interface) (p .good) (p .arrives) .small)
 
--- src/call.rt:57:13
 role-of-requires : tie.Need-role-of-requires
 role-of-requires c κs = search needs
 
--- src/call.rt:50:29
 take-requires : tie.Need-take-requires
 take-requires c κs = (
   passed (c .before .before .before .before .before .before .before .before .before .before .before .before .before .before .args .node) (c .before .before .before .before .before .before .before .before .before .before .before .before .before .before .args .table .now) (c .before .before .before .before .before .before .before .before .before .before .before .before .before .before .args .clock) (c .before .before .before .before .before .before .before .before .before .before .before .before .before .before .args .interface) (c .before .before .before .before .before .before .before .before .before .before .before .before .before .before .args .names .now) (length (c .before .before .before .before .before .before .before .before .before .before .before .before .before .before .args .out .now)) (sym (c .before .before .before .before .before .before .before .before .barred-by .ensures) ∙ c .before .before .before .before .before .before .before .if1 .left),
   record { is = _; read = sym (c .before .before .before .before .before .before .read .ensures) ∙ c .before .before .before .before .read3 .given .1; plays = sym (c .before .role-of .ensures) },
 )
 
--- src/call.rt:26:1
 same-length-2 : tie.Need-same-length-2
 same-length-2 c = search needs
 
--- src/call.rt:26:1
 returns-2 : tie.Need-returns-2
 returns-2 c = refused-outcome (c .before .before .before .before .before .before .before .before .before .before .before .args .node) (c .before .before .before .before .before .before .before .before .before .before .before .args .table .now) (callOf (c .before .before .before .before .before .before .before .before .before .before .before .args .clock) (c .before .before .before .before .before .before .before .before .before .before .before .args .interface) (c .before .before .before .before .before .before .before .before .before .before .before .args .names .now) (c .before .before .before .before .before .before .before .before .before .before .before .args .message .now) (c .before .before .before .before .before .before .before .before .before .before .before .args .out .now)) _ (c .before .before .before .before .before .barred-by .ensures) (c .before .before .before .before .if1 .left) _ _ refl (sym (c .before .before .before .read .ensures) ∙ c .before .read2 .given .1)
 
--- src/call.rt:26:1
 same-length-3 : tie.Need-same-length-3
 same-length-3 c = search needs
 
--- src/call.rt:26:1
 same-length-4 : tie.Need-same-length-4
 same-length-4 c = search needs
 
--- src/call.rt:26:1
 returns-3 : tie.Need-returns-3
 returns-3 c =
     taken-outcome (c .before .before .before .before .before .before .before .before .before .before .before .before .before .before .before .before .before .before .before .args .node) (c .before .before .before .before .before .before .before .before .before .before .before .before .before .before .before .before .before .before .before .args .table .now) (callOf (c .before .before .before .before .before .before .before .before .before .before .before .before .before .before .before .before .before .before .before .args .clock) (c .before .before .before .before .before .before .before .before .before .before .before .before .before .before .before .before .before .before .before .args .interface) (c .before .before .before .before .before .before .before .before .before .before .before .before .before .before .before .before .before .before .before .args .names .now) (c .before .before .before .before .before .before .before .before .before .before .before .before .before .before .before .before .before .before .before .args .message .now) (c .before .before .before .before .before .before .before .before .before .before .before .before .before .before .before .before .before .before .before .args .out .now)) _ (c .before .before .before .before .before .before .before .before .before .before .before .before .before .barred-by .ensures) (c .before .before .before .before .before .before .before .before .before .before .before .before .if1 .left) _ _ (sym (c .before .before .before .before .before .before .before .before .before .before .before .read .ensures) ∙ c .before .before .before .before .before .before .before .before .before .read3 .given .1)

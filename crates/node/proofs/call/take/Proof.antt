@@ -18,31 +18,24 @@ use Rattle.node.proofs.call.quiet.Reads as quiet-reads
 use Rattle.node.proofs.spread.judge.Reads as judge-reads
 use Rattle.node_state.proofs.table.free_dead.Reads as free-dead-reads
 
--- src/call.rt:121:5
 free-dead-requires : tie.Need-free-dead-requires
 free-dead-requires c κs = search needs
 
--- src/call.rt:125:35
 enum-told : tie.Need-enum-told
 enum-told c = search needs
 
--- src/call.rt:125:23
 quiet-requires : tie.Need-quiet-requires
 quiet-requires c κs = search needs
 
--- src/call.rt:126:37
 enum-told-2 : tie.Need-enum-told-2
 enum-told-2 c = search needs
 
--- src/call.rt:126:25
 quiet-requires-2 : tie.Need-quiet-requires-2
 quiet-requires-2 c κs = search needs
 
--- src/call.rt:127:23
 enum-known-role : tie.Need-enum-known-role
 enum-known-role c = search needs
 
--- src/call.rt:127:29
 judge-requires : tie.Need-judge-requires
 unfolding clocked
 judge-requires c κs = (
@@ -51,33 +44,26 @@ judge-requires c κs = (
   subst (RoleIn (c .before .before .before .before .before .before .before .before .before .before .before .before .before .args .message .now)) (c .before .before .before .role .given .1) (c .before .before .before .before .before .before .before .before .before .before .before .before .before .pre .1),
 )
 
--- src/call.rt:107:1
 same-length : tie.Need-same-length
 same-length c = search needs
 
--- src/call.rt:107:1
 returns : tie.Need-returns
 unfolding taken quiet clocked
 returns c = rw (c .before .enum-told .given .1, c .quiet .ensures, passed-freed (c .before .before .before .before .before .before .before .before .before .before .before .pre .0) (c .before .before .before .before .before .free-dead .ensures)) refl
 
--- src/call.rt:107:1
 same-length-2 : tie.Need-same-length-2
 same-length-2 c = search needs
 
--- src/call.rt:107:1
 returns-2 : tie.Need-returns-2
 unfolding taken quiet clocked
 returns-2 c = rw (c .before .enum-told2 .given .1, c .quiet2 .ensures, passed-freed (c .before .before .before .before .before .before .before .before .before .before .before .pre .0) (c .before .before .before .before .before .free-dead .ensures)) refl
 
--- src/call.rt:107:1
 same-length-3 : tie.Need-same-length-3
 same-length-3 c = search needs
 
--- src/call.rt:107:1
 same-length-4 : tie.Need-same-length-4
 same-length-4 c = search needs
 
--- src/call.rt:107:1
 returns-3 : tie.Need-returns-3
 unfolding taken quiet clocked
 returns-3 c = rw (c .before .before .before .before .before .before .before .before .role .given .1, ← (passed-freed (c .before .before .before .before .before .before .before .before .before .before .before .before .before .before .before .before .before .before .pre .0) (c .before .before .before .before .before .before .before .before .before .before .before .before .free-dead .ensures))) (c .before .before .before .before .judge .ensures)

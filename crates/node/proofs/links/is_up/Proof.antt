@@ -8,11 +8,9 @@ use Rattle.node.proofs.links.is_up.Tie as tie
 use Rattle.node.proofs.links.is_up.Reads as reads
 use Rattle.node.proofs.links.is_up.Lts as lts
 
--- src/links.rt:25:6
 shr-result : tie.Need-shr-result
 shr-result c = search needs
 
--- src/links.rt:21:1
 returns : tie.Need-returns
 unfolding isUp
 returns c = refl

@@ -8,15 +8,12 @@ use Rattle.node.proofs.links.others.Tie as tie
 use Rattle.node.proofs.links.others.Reads as reads
 use Rattle.node.proofs.links.others.Lts as lts
 
--- src/links.rt:34:13
 shl-result : tie.Need-shl-result
 shl-result c = search needs
 
--- src/links.rt:34:5
 sub-result : tie.Need-sub-result
 sub-result c = rw (one-bit 8 (c .args .i) (c .pre .0)) (up-le (c .args .mask) (c .args .i) (c .pre .1))
 
--- src/links.rt:29:1
 returns : tie.Need-returns
 returns c = rw (one-bit 8 (c .args .i) (c .pre .0)) refl
 

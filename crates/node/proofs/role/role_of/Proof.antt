@@ -8,101 +8,79 @@ use Rattle.node.proofs.role.role_of.Tie as tie
 use Rattle.node.proofs.role.role_of.Reads as reads
 use Rattle.node.proofs.role.role_of.Lts as lts
 
--- src/role.rt:26:26
 enum-told : tie.Need-enum-told
 enum-told c = search needs
 
--- src/role.rt:28:13
 enum-known-m : tie.Need-enum-known-m
 enum-known-m c = search needs
 
--- src/role.rt:43:14
 enum-told-2 : tie.Need-enum-told-2
 enum-told-2 c = search needs
 
--- src/role.rt:47:14
 enum-told-3 : tie.Need-enum-told-3
 enum-told-3 c = search needs
 
--- src/role.rt:51:14
 enum-told-4 : tie.Need-enum-told-4
 enum-told-4 c = search needs
 
--- src/role.rt:55:14
 enum-told-5 : tie.Need-enum-told-5
 enum-told-5 c = search needs
 
--- src/role.rt:59:14
 enum-told-6 : tie.Need-enum-told-6
 enum-told-6 c = search needs
 
--- src/role.rt:63:14
 enum-told-7 : tie.Need-enum-told-7
 enum-told-7 c = search needs
 
--- src/role.rt:67:14
 enum-told-8 : tie.Need-enum-told-8
 enum-told-8 c = search needs
 
--- src/role.rt:69:13
 enum-known-m-2 : tie.Need-enum-known-m-2
 enum-known-m-2 c = search needs
 
--- src/role.rt:83:14
 enum-told-9 : tie.Need-enum-told-9
 enum-told-9 c = search needs
 
--- src/role.rt:22:1
 returns : tie.Need-returns
 unfolding roleOf
 returns c = rw (c .enum-told .given .1) refl
 
--- src/role.rt:22:1
 returns-2 : tie.Need-returns-2
 unfolding roleOf
 returns-2 c = rw (c .before .m .given .1) refl
 
--- src/role.rt:22:1
 returns-3 : tie.Need-returns-3
 unfolding roleOf
 returns-3 c = rw (c .enum-told2 .given .1) refl
 
--- src/role.rt:22:1
 returns-4 : tie.Need-returns-4
 unfolding roleOf
 returns-4 c = rw (c .enum-told3 .given .1) refl
 
--- src/role.rt:22:1
 returns-5 : tie.Need-returns-5
 unfolding roleOf
 returns-5 c = rw (c .enum-told4 .given .1) refl
 
--- src/role.rt:22:1
 returns-6 : tie.Need-returns-6
 unfolding roleOf
 returns-6 c = rw (c .enum-told5 .given .1) refl
 
--- src/role.rt:22:1
 returns-7 : tie.Need-returns-7
 unfolding roleOf
 returns-7 c = rw (c .enum-told6 .given .1) refl
 
--- src/role.rt:22:1
 returns-8 : tie.Need-returns-8
 unfolding roleOf
 returns-8 c = rw (c .enum-told7 .given .1) refl
 
--- src/role.rt:22:1
 returns-9 : tie.Need-returns-9
 unfolding roleOf
 returns-9 c = rw (c .enum-told8 .given .1) refl
 
--- src/role.rt:22:1
 returns-10 : tie.Need-returns-10
 unfolding roleOf
 returns-10 c = rw (c .before .m2 .given .1) refl
 
--- src/role.rt:22:1
 returns-11 : tie.Need-returns-11
 unfolding roleOf
 returns-11 c = rw (c .enum-told9 .given .1) refl

@@ -9,19 +9,15 @@ use Rattle.node.proofs.spread.answer.Reads as reads
 use Rattle.node.proofs.spread.answer.Lts as lts
 use Rattle.node.proofs.spread.put_response.Reads as put-response-reads
 
--- src/spread.rt:89:9
 put-response-requires : tie.Need-put-response-requires
 put-response-requires c κs = search needs
 
--- src/spread.rt:94:19
 shl-t10 : tie.Need-shl-t10
 shl-t10 c = search needs
 
--- src/spread.rt:82:1
 same-length : tie.Need-same-length
 same-length c = search needs
 
--- src/spread.rt:82:1
 returns : tie.Need-returns
 returns c = (rw (one-bit 8 (c .before .before .before .before .before .before .args .interface) (c .before .before .before .before .before .before .pre .0), c .before .before .put-response .ensures .0) refl, c .before .before .put-response .ensures .1)
 

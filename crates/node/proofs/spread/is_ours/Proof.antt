@@ -10,31 +10,24 @@ use Rattle.node.proofs.spread.is_ours.Reads as reads
 use Rattle.node.proofs.spread.is_ours.Lts as lts
 use Rattle.names.proofs.are_with.Reads as are-with-reads
 
--- src/spread.rt:74:9
 returns : tie.Need-returns
 returns c = search needs
 
--- src/spread.rt:77:14
 add-to : tie.Need-add-to
 add-to c = search needs
 
--- src/spread.rt:78:28
 sub-are-with : tie.Need-sub-are-with
 sub-are-with c = search needs
 
--- src/spread.rt:78:28
 part-are-with-start : tie.Need-part-are-with-start
 part-are-with-start c = search needs
 
--- src/spread.rt:78:28
 part-are-with-end : tie.Need-part-are-with-end
 part-are-with-end c = search needs
 
--- src/spread.rt:78:5
 are-with-requires : tie.Need-are-with-requires
 are-with-requires c κs = search needs
 
--- src/spread.rt:69:1
 returns-2 : tie.Need-returns-2
 returns-2 c = rw (c .before .before .before .if1 .left) (c .are-with .ensures ∙ ap (isOwn (c .before .before .before .before .before .before .args .names .now)) (part-held (c .before .before .before .before .before .before .args .message .now) (c .before .before .before .before .before .before .args .s .objective .name)))
 

@@ -12,31 +12,24 @@ use Rattle.node.proofs.spread.is_own.Reads as reads
 use Rattle.node.proofs.spread.is_own.Lts as lts
 use Rattle.names.proofs.are_same.Reads as are-same-reads
 
--- src/spread.rt:63:14
 add-to : tie.Need-add-to
 add-to c = search needs
 
--- src/spread.rt:65:21
 sub-are-same : tie.Need-sub-are-same
 sub-are-same c = search needs
 
--- src/spread.rt:65:21
 part-are-same-start : tie.Need-part-are-same-start
 part-are-same-start c = search needs
 
--- src/spread.rt:65:21
 part-are-same-end : tie.Need-part-are-same-end
 part-are-same-end c = search needs
 
--- src/spread.rt:65:39
 slice-aggregate-are-same : tie.Need-slice-aggregate-are-same
 slice-aggregate-are-same c = search needs
 
--- src/spread.rt:65:5
 are-same-requires : tie.Need-are-same-requires
 are-same-requires c κs = search needs
 
--- src/spread.rt:58:1
 returns : tie.Need-returns
 returns c = c .are-same .ensures ∙ ap (λ (z : List ℕ). sameBytes z (c .before .before .before .before .before .before .args .node .address)) (part-held (c .before .before .before .before .before .before .args .message .now) (c .before .before .before .before .before .before .args .s .initiator))
 

@@ -8,27 +8,21 @@ use Rattle.node.proofs.spread.key_in.Reads as reads
 use Rattle.node.proofs.spread.key_in.Lts as lts
 use Rattle.node_state.proofs.key.key_of.Reads as key-of-reads
 
--- src/spread.rt:131:14
 add-to : tie.Need-add-to
 add-to c = search needs
 
--- src/spread.rt:132:37
 sub-key-of : tie.Need-sub-key-of
 sub-key-of c = search needs
 
--- src/spread.rt:132:37
 part-key-of-start : tie.Need-part-key-of-start
 part-key-of-start c = search needs
 
--- src/spread.rt:132:37
 part-key-of-end : tie.Need-part-key-of-end
 part-key-of-end c = search needs
 
--- src/spread.rt:132:5
 key-of-requires : tie.Need-key-of-requires
 key-of-requires c κs = search needs
 
--- src/spread.rt:126:1
 returns : tie.Need-returns
 returns c = key-held _ (c .before .before .before .before .pre) (c .key-of .ensures)
 

@@ -10,31 +10,24 @@ use Rattle.node.proofs.spread.put_onward.Reads as reads
 use Rattle.node.proofs.spread.put_onward.Lts as lts
 use Rattle.writer.proofs.lower.Reads as lower-reads
 
--- src/spread.rt:165:9
 lower-requires : tie.Need-lower-requires
 lower-requires c κs = search needs
 
--- src/spread.rt:167:25
 enum-known-sent : tie.Need-enum-known-sent
 enum-known-sent c = search needs
 
--- src/spread.rt:168:32
 enum-told : tie.Need-enum-told
 enum-told c = search needs
 
--- src/spread.rt:157:1
 same-length : tie.Need-same-length
 same-length c = search needs
 
--- src/spread.rt:157:1
 returns : tie.Need-returns
 returns c = sent-length _ _ (onward (c .before .before .before .before .before .before .before .before .before .before .args .message .now) (c .before .before .before .before .before .before .before .before .before .before .args .s .objective)) (c .before .before .before .before .before .before .before .before .before .before .args .out .now) (c .before .before .before .before .before .lower .ensures .0) (c .before .before .before .before .before .lower .ensures .1) (onward-given (c .before .before .before .before .before .before .before .before .before .before .args .message .now) (c .before .before .before .before .before .before .before .before .before .before .args .out .now) (c .before .before .before .before .before .before .before .before .before .before .args .s) (λ i. c .before .before .before .before .before .before .before .before .before .shared-slice-known .given i .fits) (c .before .before .before .before .before .before .before .before .before .before .pre .1 .1) (c .before .before .before .before .before .before .before .before .before .before .pre .0) (c .before .before .before .before .before .before .before .before .before .before .pre .1 .0)) _ (c .before .sent .given .1)
 
--- src/spread.rt:157:1
 same-length-2 : tie.Need-same-length-2
 same-length-2 c = search needs
 
--- src/spread.rt:157:1
 returns-2 : tie.Need-returns-2
 returns-2 c = sent-never _ _ (onward (c .before .before .before .before .before .before .before .before .before .args .message .now) (c .before .before .before .before .before .before .before .before .before .args .s .objective)) (c .before .before .before .before .before .before .before .before .before .args .out .now) (c .before .before .before .before .lower .ensures .0) (c .before .before .before .before .lower .ensures .1) (onward-given (c .before .before .before .before .before .before .before .before .before .args .message .now) (c .before .before .before .before .before .before .before .before .before .args .out .now) (c .before .before .before .before .before .before .before .before .before .args .s) (λ i. c .before .before .before .before .before .before .before .before .shared-slice-known .given i .fits) (c .before .before .before .before .before .before .before .before .before .pre .1 .1) (c .before .before .before .before .before .before .before .before .before .pre .0) (c .before .before .before .before .before .before .before .before .before .pre .1 .0)) _ (c .enum-told .given .1)
 

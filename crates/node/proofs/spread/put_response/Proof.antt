@@ -15,48 +15,37 @@ use Rattle.node.proofs.spread.put_response.Reads as reads
 use Rattle.node.proofs.spread.put_response.Lts as lts
 use Rattle.writer.proofs.answer.Reads as answer-reads
 
--- src/spread.rt:109:14
 add-to : tie.Need-add-to
 add-to c = search needs
 
--- src/spread.rt:113:9
 sub-answer : tie.Need-sub-answer
 sub-answer c = search needs
 
--- src/spread.rt:113:9
 part-answer-start : tie.Need-part-answer-start
 part-answer-start c = search needs
 
--- src/spread.rt:113:9
 part-answer-end : tie.Need-part-answer-end
 part-answer-end c = search needs
 
--- src/spread.rt:111:9
 answer-requires : tie.Need-answer-requires
 answer-requires c κs = search needs
 
--- src/spread.rt:120:25
 enum-known-sent : tie.Need-enum-known-sent
 enum-known-sent c = search needs
 
--- src/spread.rt:121:32
 enum-told : tie.Need-enum-told
 enum-told c = search needs
 
--- src/spread.rt:102:1
 same-length : tie.Need-same-length
 same-length c = search needs
 
--- src/spread.rt:102:1
 returns : tie.Need-returns
 unfolding response
 returns c = sent-length _ _ (response (c .before .before .before .before .before .before .before .before .before .before .before .before .before .args .node) (c .before .before .before .before .before .before .before .before .before .before .before .before .before .args .message .now) (c .before .before .before .before .before .before .before .before .before .before .before .before .before .args .s)) (c .before .before .before .before .before .before .before .before .before .before .before .before .before .args .out .now) (c .before .before .before .before .before .answer .ensures .0 ∙ ap (λ (z : List ℕ). passAnswer true (answerOf (c .before .before .before .before .before .before .before .before .before .before .before .before .before .args .s .session) z (c .before .before .before .before .before .before .before .before .before .before .before .before .before .args .node .ttl) (c .before .before .before .before .before .before .before .before .before .before .before .before .before .args .node .address) (c .before .before .before .before .before .before .before .before .before .before .before .before .before .args .node .port)) (c .before .before .before .before .before .before .before .before .before .before .before .before .before .args .out .now)) (part-held (c .before .before .before .before .before .before .before .before .before .before .before .before .before .args .message .now) (c .before .before .before .before .before .before .before .before .before .before .before .before .before .args .s .initiator))) (c .before .before .before .before .before .answer .ensures .1 ∙ ap (λ (z : List ℕ). passOut true (answerOf (c .before .before .before .before .before .before .before .before .before .before .before .before .before .args .s .session) z (c .before .before .before .before .before .before .before .before .before .before .before .before .before .args .node .ttl) (c .before .before .before .before .before .before .before .before .before .before .before .before .before .args .node .address) (c .before .before .before .before .before .before .before .before .before .before .before .before .before .args .node .port)) (c .before .before .before .before .before .before .before .before .before .before .before .before .before .args .out .now)) (part-held (c .before .before .before .before .before .before .before .before .before .before .before .before .before .args .message .now) (c .before .before .before .before .before .before .before .before .before .before .before .before .before .args .s .initiator))) (response-given (c .before .before .before .before .before .before .before .before .before .before .before .before .before .args .node) (c .before .before .before .before .before .before .before .before .before .before .before .before .before .args .message .now) (c .before .before .before .before .before .before .before .before .before .before .before .before .before .args .out .now) (c .before .before .before .before .before .before .before .before .before .before .before .before .before .args .s) (search needs) (c .before .before .before .before .before .before .before .before .before .before .before .before .before .pre .1) (c .before .before .before .before .before .before .before .before .before .before .before .before .before .pre .0)) _ (c .before .sent .given .1)
 
--- src/spread.rt:102:1
 same-length-2 : tie.Need-same-length-2
 same-length-2 c = search needs
 
--- src/spread.rt:102:1
 returns-2 : tie.Need-returns-2
 unfolding response
 returns-2 c = sent-never _ _ (response (c .before .before .before .before .before .before .before .before .before .before .before .before .args .node) (c .before .before .before .before .before .before .before .before .before .before .before .before .args .message .now) (c .before .before .before .before .before .before .before .before .before .before .before .before .args .s)) (c .before .before .before .before .before .before .before .before .before .before .before .before .args .out .now) (c .before .before .before .before .answer .ensures .0 ∙ ap (λ (z : List ℕ). passAnswer true (answerOf (c .before .before .before .before .before .before .before .before .before .before .before .before .args .s .session) z (c .before .before .before .before .before .before .before .before .before .before .before .before .args .node .ttl) (c .before .before .before .before .before .before .before .before .before .before .before .before .args .node .address) (c .before .before .before .before .before .before .before .before .before .before .before .before .args .node .port)) (c .before .before .before .before .before .before .before .before .before .before .before .before .args .out .now)) (part-held (c .before .before .before .before .before .before .before .before .before .before .before .before .args .message .now) (c .before .before .before .before .before .before .before .before .before .before .before .before .args .s .initiator))) (c .before .before .before .before .answer .ensures .1 ∙ ap (λ (z : List ℕ). passOut true (answerOf (c .before .before .before .before .before .before .before .before .before .before .before .before .args .s .session) z (c .before .before .before .before .before .before .before .before .before .before .before .before .args .node .ttl) (c .before .before .before .before .before .before .before .before .before .before .before .before .args .node .address) (c .before .before .before .before .before .before .before .before .before .before .before .before .args .node .port)) (c .before .before .before .before .before .before .before .before .before .before .before .before .args .out .now)) (part-held (c .before .before .before .before .before .before .before .before .before .before .before .before .args .message .now) (c .before .before .before .before .before .before .before .before .before .before .before .before .args .s .initiator))) (response-given (c .before .before .before .before .before .before .before .before .before .before .before .before .args .node) (c .before .before .before .before .before .before .before .before .before .before .before .before .args .message .now) (c .before .before .before .before .before .before .before .before .before .before .before .before .args .out .now) (c .before .before .before .before .before .before .before .before .before .before .before .before .args .s) (search needs) (c .before .before .before .before .before .before .before .before .before .before .before .before .pre .1) (c .before .before .before .before .before .before .before .before .before .before .before .before .pre .0)) _ (c .enum-told .given .1)

@@ -17,61 +17,47 @@ use Rattle.node.proofs.spread.put_onward.Reads as put-onward-reads
 use Rattle.node.proofs.spread.relayed.Reads as relayed-reads
 use Rattle.node_state.proofs.table.fill_lowest.Reads as fill-lowest-reads
 
--- src/spread.rt:151:9
 quiet-requires : tie.Need-quiet-requires
 quiet-requires c κs = search needs
 
--- src/spread.rt:151:9
 returns : tie.Need-returns
 returns c = last-outcome (c .before .before .before .before .before .before .args .node) (c .before .before .before .before .before .before .args .table .now) (callOf (c .before .before .before .before .before .before .args .node .clock) (c .before .before .before .before .before .before .args .interface) [] (c .before .before .before .before .before .before .args .message .now) (c .before .before .before .before .before .before .args .out .now)) (c .before .before .before .before .before .before .args .s) _ (c .quiet .ensures) (omega (arith, c .before .if1 .taken))
 
--- src/spread.rt:153:9
 others-requires : tie.Need-others-requires
 others-requires c κs = search needs
 
--- src/spread.rt:155:9
 quiet-requires-2 : tie.Need-quiet-requires-2
 quiet-requires-2 c κs = search needs
 
--- src/spread.rt:155:9
 returns-2 : tie.Need-returns-2
 unfolding others
 returns-2 c = nowhere-outcome (c .before .before .before .before .before .before .before .before .args .node) (c .before .before .before .before .before .before .before .before .args .table .now) (callOf (c .before .before .before .before .before .before .before .before .args .node .clock) (c .before .before .before .before .before .before .before .before .args .interface) [] (c .before .before .before .before .before .before .before .before .args .message .now) (c .before .before .before .before .before .before .before .before .args .out .now)) (c .before .before .before .before .before .before .before .before .args .s) (c .before .before .before .if1 .left) _ (c .quiet2 .ensures) (sym (c .before .before .others .ensures) ∙ c .before .if2 .taken)
 
--- src/spread.rt:157:9
 fill-lowest-requires : tie.Need-fill-lowest-requires
 fill-lowest-requires c κs = search needs
 
--- src/spread.rt:159:9
 quiet-requires-3 : tie.Need-quiet-requires-3
 quiet-requires-3 c κs = search needs
 
--- src/spread.rt:159:9
 same-length : tie.Need-same-length
 same-length c = search needs
 
--- src/spread.rt:159:9
 returns-3 : tie.Need-returns-3
 unfolding others
 returns-3 c = norow-outcome (c .before .before .before .before .before .before .before .before .before .before .before .before .before .args .node) (c .before .before .before .before .before .before .before .before .before .before .before .before .before .args .table .now) (callOf (c .before .before .before .before .before .before .before .before .before .before .before .before .before .args .node .clock) (c .before .before .before .before .before .before .before .before .before .before .before .before .before .args .interface) [] (c .before .before .before .before .before .before .before .before .before .before .before .before .before .args .message .now) (c .before .before .before .before .before .before .before .before .before .before .before .before .before .args .out .now)) (c .before .before .before .before .before .before .before .before .before .before .before .before .before .args .s) (c .before .before .before .before .before .before .before .before .if1 .left) (λ e. c .before .before .before .before .before .before .if2 .left (c .before .before .before .before .before .before .before .others .ensures ∙ e)) (c .before .before .before .before .before .before .before .before .before .before .before .before .before .pre .0 .sized) _ (c .before .before .before .before .before .before .before .before .before .before .before .before .before .pre .1 .1) _ _ (c .before .before .before .before .fill-lowest .ensures) _ (c .quiet3 .ensures) (c .before .if3 .taken)
 
--- src/spread.rt:161:9
 put-onward-requires : tie.Need-put-onward-requires
 put-onward-requires c κs = search needs
 
--- src/spread.rt:162:5
 relayed-requires : tie.Need-relayed-requires
 relayed-requires c κs = search needs
 
--- src/spread.rt:136:1
 same-length-2 : tie.Need-same-length-2
 same-length-2 c = search needs
 
--- src/spread.rt:136:1
 same-length-3 : tie.Need-same-length-3
 same-length-3 c = search needs
 
--- src/spread.rt:136:1
 returns-4 : tie.Need-returns-4
 unfolding others
 returns-4 c = relay-outcome (c .before .before .before .before .before .before .before .before .before .before .before .before .before .before .before .before .before .args .node) (c .before .before .before .before .before .before .before .before .before .before .before .before .before .before .before .before .before .args .table .now) (callOf (c .before .before .before .before .before .before .before .before .before .before .before .before .before .before .before .before .before .args .node .clock) (c .before .before .before .before .before .before .before .before .before .before .before .before .before .before .before .before .before .args .interface) [] (c .before .before .before .before .before .before .before .before .before .before .before .before .before .before .before .before .before .args .message .now) (c .before .before .before .before .before .before .before .before .before .before .before .before .before .before .before .before .before .args .out .now)) (c .before .before .before .before .before .before .before .before .before .before .before .before .before .before .before .before .before .args .s) (c .before .before .before .before .before .before .before .before .before .before .before .before .if1 .left) (λ e. c .before .before .before .before .before .before .before .before .before .before .if2 .left (c .before .before .before .before .before .before .before .before .before .before .before .others .ensures ∙ e)) (c .before .before .before .before .before .before .before .before .before .before .before .before .before .before .before .before .before .pre .0 .sized) _ (c .before .before .before .before .before .before .before .before .before .before .before .before .before .before .before .before .before .pre .1 .1) _ _ (c .before .before .before .before .before .before .before .before .fill-lowest .ensures) _ _ (rw (← (c .before .before .before .before .before .before .before .before .before .before .before .others .ensures), ← (c .before .before .before .put-onward .ensures .0)) (c .relayed .ensures)) (c .before .before .before .put-onward .ensures .1) (c .before .before .before .before .before .if3 .left)

@@ -9,15 +9,12 @@ use Rattle.node.proofs.spread.relayed.Tie as tie
 use Rattle.node.proofs.spread.relayed.Reads as reads
 use Rattle.node.proofs.spread.relayed.Lts as lts
 
--- src/spread.rt:178:31
 cast-next : tie.Need-cast-next
 cast-next c = omega (arith, ones-le 8 (c .args .mask) (c .fits .mask .fits))
 
--- src/spread.rt:178:18
 add-next : tie.Need-add-next
 add-next c = omega (arith, ones-le 8 (c .before .args .mask) (c .before .fits .mask .fits), c .before .pre)
 
--- src/spread.rt:173:1
 returns : tie.Need-returns
 unfolding tallied
 returns c = refl

@@ -12,24 +12,19 @@ use Rattle.node_state.proofs.Record.fresh.Reads as reads
 use Rattle.node_state.proofs.Record.fresh.Lts as lts
 use Rattle.node_state.proofs.links.are_bad.Reads as are-bad-reads
 
--- src/lib.rt:46:12
 are-bad-requires : tie.Need-are-bad-requires
 are-bad-requires c κs = search needs
 
--- src/lib.rt:47:13
 returns : tie.Need-returns
 unfolding fresh pick
 returns c = rw (sym (c .before .are-bad .ensures) ∙ c .if1 .taken) refl
 
--- src/lib.rt:66:29
 cast-t9 : tie.Need-cast-t9
 cast-t9 c = omega (arith, links-fit (c .before .before .args .interfaces) (c .before .before .args .mask) (sym (c .before .are-bad .ensures) ∙ c .if1 .left) .most)
 
--- src/lib.rt:67:24
 cast-t10 : tie.Need-cast-t10
 cast-t10 c = omega (arith, fit-small (c .before .before .args .interfaces) (c .before .before .args .mask) (links-fit (c .before .before .args .interfaces) (c .before .before .args .mask) (sym (c .before .are-bad .ensures) ∙ c .if1 .left)))
 
--- src/lib.rt:37:5
 returns-2 : tie.Need-returns-2
 unfolding fresh pick
 returns-2 c = rw (sym (c .before .are-bad .ensures) ∙ c .if1 .left) refl

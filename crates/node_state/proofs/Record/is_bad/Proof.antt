@@ -9,24 +9,19 @@ use Rattle.node_state.proofs.Record.is_bad.Reads as reads
 use Rattle.node_state.proofs.Record.is_bad.Lts as lts
 use Rattle.node_state.proofs.links.are_bad.Reads as are-bad-reads
 
--- src/lib.rt:99:27
 cast-are-bad : tie.Need-cast-are-bad
 cast-are-bad c = search needs
 
--- src/lib.rt:99:51
 cast-are-bad-2 : tie.Need-cast-are-bad-2
 cast-are-bad-2 c = search needs
 
--- src/lib.rt:99:12
 are-bad-requires : tie.Need-are-bad-requires
 are-bad-requires c κs = search needs
 
--- src/lib.rt:100:13
 returns : tie.Need-returns
 unfolding recordBad
 returns c = rw (sym (c .before .are-bad .ensures) ∙ c .if1 .taken) refl
 
--- src/lib.rt:96:5
 returns-2 : tie.Need-returns-2
 unfolding recordBad
 returns-2 c = rw (sym (c .before .before .are-bad .ensures) ∙ c .before .if1 .left) refl

@@ -13,33 +13,26 @@ use Rattle.node_state.proofs.Record.set_links.Lts as lts
 use Rattle.node_state.proofs.Record.is_bad.Reads as is-bad-reads
 use Rattle.node_state.proofs.links.are_bad.Reads as are-bad-reads
 
--- src/lib.rt:78:12
 is-bad-requires : tie.Need-is-bad-requires
 is-bad-requires c κs = search needs
 
--- src/lib.rt:79:13
 returns : tie.Need-returns
 unfolding setLinks linked pick
 returns c = rw (sym (c .before .is-bad .ensures) ∙ c .if1 .taken) refl
 
--- src/lib.rt:84:27
 cast-are-bad : tie.Need-cast-are-bad
 cast-are-bad c = search needs
 
--- src/lib.rt:84:12
 are-bad-requires : tie.Need-are-bad-requires
 are-bad-requires c κs = search needs
 
--- src/lib.rt:85:13
 returns-2 : tie.Need-returns-2
 unfolding setLinks linked pick
 returns-2 c = rw (sym (c .before .before .before .before .is-bad .ensures) ∙ c .before .before .before .if1 .left, sym (links-wide _ _ _ (record-links _ (sym (c .before .before .before .before .is-bad .ensures) ∙ c .before .before .before .if1 .left))) ∙ sym (c .before .are-bad .ensures) ∙ c .if2 .taken) refl
 
--- src/lib.rt:91:22
 cast-node : tie.Need-cast-node
 cast-node c = omega (arith, fit-small (c .before .before .before .before .before .args .self .interfaces) (c .before .before .before .before .before .args .mask) (links-fit (c .before .before .before .before .before .args .self .interfaces) (c .before .before .before .before .before .args .mask) (sym (c .before .are-bad .ensures) ∙ c .if2 .left)))
 
--- src/lib.rt:75:5
 returns-3 : tie.Need-returns-3
 unfolding setLinks linked pick
 returns-3 c = rw (sym (c .before .before .before .before .is-bad .ensures) ∙ c .before .before .before .if1 .left, sym (links-wide _ _ _ (record-links _ (sym (c .before .before .before .before .is-bad .ensures) ∙ c .before .before .before .if1 .left))) ∙ sym (c .before .are-bad .ensures) ∙ c .if2 .left) refl

@@ -11,39 +11,30 @@ use Rattle.node_state.proofs.key.key_of.Lts as lts
 use Rattle.node_state.proofs.key.number_at.Reads as number-at-reads
 use Rattle.node_state.proofs.key.tag_of.Reads as tag-of-reads
 
--- src/key.rt:14:50
 tag-of-requires : tie.Need-tag-of-requires
 tag-of-requires c κs = search needs
 
--- src/key.rt:14:34
 mul-first : tie.Need-mul-first
 mul-first c = let t = tag-range (c .before .before .args .flood) (length (c .before .before .args .initiator .now)) in let e = c .tag-of .ensures in omega (arith, t .1)
 
--- src/key.rt:14:17
 add-first : tie.Need-add-first
 add-first c = let t = tag-range (c .before .before .args .flood) (length (c .before .before .args .initiator .now)) in let e = c .tag-of .ensures in omega (arith, t .1, c .before .before .fits .session)
 
--- src/key.rt:18:21
 number-at-requires : tie.Need-number-at-requires
 number-at-requires c κs = search needs
 
--- src/key.rt:16:9
 returns : tie.Need-returns
 returns c = key-short (c .before .before .before .before .args .flood) (c .before .before .before .before .args .session) (c .before .before .before .before .args .initiator .now) _ _ (c .before .before .tag-of .ensures) (c .before .if1 .taken) (c .number-at .ensures)
 
--- src/key.rt:25:21
 number-at-requires-2 : tie.Need-number-at-requires-2
 number-at-requires-2 c κs = search needs
 
--- src/key.rt:26:20
 number-at-requires-3 : tie.Need-number-at-requires-3
 number-at-requires-3 c κs = search needs
 
--- src/key.rt:23:9
 returns-2 : tie.Need-returns-2
 returns-2 c = key-long (c .before .before .before .before .before .before .args .flood) (c .before .before .before .before .before .before .args .session) (c .before .before .before .before .before .before .args .initiator .now) _ _ (c .before .before .before .before .tag-of .ensures) _ (c .before .before .if2 .taken) (c .before .number-at2 .ensures) (c .number-at3 .ensures)
 
--- src/key.rt:10:1
 returns-3 : tie.Need-returns-3
 returns-3 c = key-none (c .before .before .before .before .args .flood) (c .before .before .before .before .args .session) (c .before .before .before .before .args .initiator .now) (c .before .if1 .left) (c .if2 .left)
 

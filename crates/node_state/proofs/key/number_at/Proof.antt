@@ -20,7 +20,6 @@ Inv-loop s at n value₀ i₀ value i = (i ≤ n) × (value ≡ bigEndian (drop 
 abbrev μ-loop : tie.MeasureT-loop
 μ-loop s at n value₀ i₀ value i = n - i
 
--- src/key.rt:54:5
 loop-holds : tie.Need-loop-holds Inv-loop μ-loop
 unfolding bigEndian
 loop-holds c = (omega arith, refl, omega arith)
@@ -29,15 +28,12 @@ loop-holds c = (omega arith, refl, omega arith)
 room : (c : tie.In-loop Inv-loop μ-loop) → c .before .loop .i + 1 ≤ 8
 room c = omega (arith, c .before .before .pre .0)
 
--- src/key.rt:55:17
 mul-value : tie.Need-mul-value Inv-loop μ-loop
 mul-value c = omega (arith, below-word _ _ (room c) (below-more (c .before .loop .i) (c .before .loop .value) 0 (c .before .loop .inv .2) (lit< tt)))
 
--- src/key.rt:55:33
 add-value : tie.Need-add-value Inv-loop μ-loop
 add-value c = omega (arith, c .before .before .pre .1, c .before .before .good)
 
--- src/key.rt:55:31
 shared-slice-read-value : tie.Need-shared-slice-read-value Inv-loop μ-loop
 shared-slice-read-value c = omega (arith, c .before .before .before .pre .1)
 
@@ -48,30 +44,24 @@ grown c =
     let at-loop = c .before .before .loop in
     below-more (at-loop .i) (at-loop .value) _ (at-loop .inv .2) (c .shared-slice-known .given (c .before .before .before .args .at + at-loop .i) .fits)
 
--- src/key.rt:55:31
 cast-value : tie.Need-cast-value Inv-loop μ-loop
 cast-value c = omega (arith, c .shared-slice-known .given (c .before .before .before .args .at + c .before .before .loop .i))
 
--- src/key.rt:55:17
 add-value-2 : tie.Need-add-value-2 Inv-loop μ-loop
 add-value-2 c = record { fits = below-word _ _ (room (c .before)) (grown c) }
 
--- src/key.rt:54:9
 add-i : tie.Need-add-i Inv-loop μ-loop
 add-i c = omega arith
 
--- src/key.rt:54:5
 loop-less : tie.Need-loop-less Inv-loop μ-loop
 loop-less c = omega arith
 
--- src/key.rt:54:5
 loop-again : tie.Need-loop-again Inv-loop μ-loop
 unfolding bigEndian
 loop-again c =
     let e = c .before .before .loop .inv .1 in
     (omega arith, rw (add-one, getD-drop (c .before .before .before .args .at) (c .before .before .before .args .s .now) (c .before .before .loop .i) 0) (cc), grown c)
 
--- src/key.rt:49:1
 returns : tie.Need-returns Inv-loop μ-loop
 returns c = let e : c .before .loop .i ≡ c .before .before .args .n = omega arith in rw e at (c .before .loop .inv .1)
 

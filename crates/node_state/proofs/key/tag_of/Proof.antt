@@ -9,22 +9,18 @@ use Rattle.node_state.proofs.key.tag_of.Tie as tie
 use Rattle.node_state.proofs.key.tag_of.Reads as reads
 use Rattle.node_state.proofs.key.tag_of.Lts as lts
 
--- src/key.rt:38:13
 returns : tie.Need-returns
 unfolding tagOf pick
 returns c = rw (c .before .if1 .taken, eq-eqb _ 4 (c .if2 .taken)) refl
 
--- src/key.rt:40:9
 returns-2 : tie.Need-returns-2
 unfolding tagOf pick
 returns-2 c = rw (c .before .if1 .taken, ne-eqb _ 4 (c .if2 .left)) refl
 
--- src/key.rt:43:9
 returns-3 : tie.Need-returns-3
 unfolding tagOf pick
 returns-3 c = rw (c .before .if1 .left, eq-eqb _ 4 (c .if3 .taken)) refl
 
--- src/key.rt:33:1
 returns-4 : tie.Need-returns-4
 unfolding tagOf pick
 returns-4 c = rw (c .before .if1 .left, ne-eqb _ 4 (c .if3 .left)) refl

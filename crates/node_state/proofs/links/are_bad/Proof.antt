@@ -11,21 +11,17 @@ use Rattle.node_state.proofs.links.are_bad.Tie as tie
 use Rattle.node_state.proofs.links.are_bad.Reads as reads
 use Rattle.node_state.proofs.links.are_bad.Lts as lts
 
--- src/links.rt:12:9
 returns : tie.Need-returns
 unfolding linksBad
 returns c = rw (eq-eqb _ 0 (c .if1 .taken)) refl
 
--- src/links.rt:15:9
 returns-2 : tie.Need-returns-2
 unfolding linksBad
 returns-2 c = rw (ne-eqb _ 0 (c .before .if1 .left), lt-ltb 8 _ (c .if2 .taken)) refl
 
--- src/links.rt:17:6
 shl-result : tie.Need-shl-result
 shl-result c = search needs
 
--- src/links.rt:8:1
 returns-3 : tie.Need-returns-3
 unfolding linksBad
 returns-3 c = rw (ne-eqb _ 0 (c .before .if1 .left), le-ltb 8 _ (c .if2 .left), one-bit 64 (c .before .before .args .interfaces) (omega (arith, c .if2 .left))) refl

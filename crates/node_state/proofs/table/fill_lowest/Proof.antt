@@ -10,35 +10,27 @@ use Rattle.node_state.proofs.table.fill_lowest.Lts as lts
 use Rattle.node_state.proofs.table.lowest_free.Reads as lowest-free-reads
 use Rattle.node_state.proofs.table.put_row.Reads as put-row-reads
 
--- src/table.rt:164:23
 mul-if1 : tie.Need-mul-if1
 mul-if1 c = search needs
 
--- src/table.rt:165:9
 returns : tie.Need-returns
 returns c = (sym (of-other _ _ _ (c .if1 .taken)), sym (of-other _ _ _ (c .if1 .taken)))
 
--- src/table.rt:167:9
 lowest-free-requires : tie.Need-lowest-free-requires
 lowest-free-requires c κs = search needs
 
--- src/table.rt:169:9
 put-row-requires : tie.Need-put-row-requires
 put-row-requires c κs = search needs
 
--- src/table.rt:160:1
 same-length : tie.Need-same-length
 same-length c = search needs
 
--- src/table.rt:160:1
 returns-2 : tie.Need-returns-2
 returns-2 c = fills-row _ _ _ _ (c .before .before .before .before .before .before .before .if1 .left) (c .before .before .before .before .before .lowest-free .ensures) _ (c .before .before .before .before .if2 .taken) (c .before .before .put-row .ensures)
 
--- src/table.rt:160:1
 same-length-2 : tie.Need-same-length-2
 same-length-2 c = search needs
 
--- src/table.rt:160:1
 returns-3 : tie.Need-returns-3
 returns-3 c = fills-none _ _ (c .before .before .before .before .before .args .key) (c .before .before .before .before .before .args .clock) (c .before .before .before .if1 .left) (c .before .lowest-free .ensures) (c .if2 .left)
 

@@ -20,44 +20,34 @@ Inv-loop table₀ clock i₀ table i = (i ≤ 64) × (table ≡ freeRows clock t
 abbrev μ-loop : tie.MeasureT-loop
 μ-loop table₀ clock i₀ table i = 64 - i
 
--- src/table.rt:138:23
 mul-if1 : tie.Need-mul-if1 Inv-loop μ-loop
 mul-if1 c = omega arith
 
--- src/table.rt:139:9
 returns : tie.Need-returns Inv-loop μ-loop
 returns c = sym (of-other _ _ _ (c .if1 .taken))
 
--- src/table.rt:142:5
 loop-holds : tie.Need-loop-holds Inv-loop μ-loop
 unfolding freeRows
 loop-holds c = (omega arith, refl)
 
--- src/table.rt:143:12
 is-dead-requires : tie.Need-is-dead-requires Inv-loop μ-loop
 is-dead-requires c κs = (c .before .loop-test .taken, pass-length _ _ _ _ (c .before .before .loop .inv .1) (c .before .before .before .if1 .left))
 
--- src/table.rt:144:13
 put-row-requires : tie.Need-put-row-requires Inv-loop μ-loop
 put-row-requires c κs = (c .before .before .before .before .loop-test .taken, pass-length _ _ _ _ (c .before .before .before .before .before .loop .inv .1) (c .before .before .before .before .before .before .if1 .left))
 
--- src/table.rt:155:9
 add-i : tie.Need-add-i Inv-loop μ-loop
 add-i c = omega arith
 
--- src/table.rt:142:5
 loop-less : tie.Need-loop-less Inv-loop μ-loop
 loop-less c = omega arith
 
--- src/table.rt:142:5
 loop-again : tie.Need-loop-again Inv-loop μ-loop
 loop-again c = (omega arith, ⊎-elim (λ w. pass-dead (c .before .before .before .before .before .before .before .args .clock) (c .before .before .before .before .before .before .before .args .table .now) (c .before .before .before .before .loop .table) (c .if2 .table) (c .before .before .before .before .loop .i) (c .before .before .before .before .loop .inv .1) (sym (c .before .is-dead .ensures) ∙ w .0 .taken) (w .5 ∙ w .2 .ensures)) (λ w. w .1 ∙ pass-live (c .before .before .before .before .before .before .before .args .clock) (c .before .before .before .before .before .before .before .args .table .now) (c .before .before .before .before .loop .table) (c .before .before .before .before .loop .i) (c .before .before .before .before .loop .inv .1) (sym (c .before .is-dead .ensures) ∙ w .0 .left)) (c .if2 .came))
 
--- src/table.rt:135:1
 same-length : tie.Need-same-length Inv-loop μ-loop
 same-length c = ap length (c .before .loop .inv .1) ∙ length-free (c .before .before .before .before .args .clock) (c .before .before .before .before .args .table .now) (c .before .loop .i)
 
--- src/table.rt:135:1
 returns-2 : tie.Need-returns-2 Inv-loop μ-loop
 unfolding freed
 returns-2 c = let e : c .before .loop .i ≡ 64 = omega arith in rw (of-sized _ _ _ (c .before .before .if1 .left)) (rw e at (c .before .loop .inv .1))

@@ -10,53 +10,41 @@ use Rattle.node_state.proofs.table.has_key.Tie as tie
 use Rattle.node_state.proofs.table.has_key.Reads as reads
 use Rattle.node_state.proofs.table.has_key.Lts as lts
 
--- src/table.rt:177:14
 mul-at : tie.Need-mul-at
 mul-at c = search needs
 
--- src/table.rt:178:8
 mul-if1 : tie.Need-mul-if1
 mul-if1 c = search needs
 
--- src/table.rt:178:8
 shared-slice-read-if1 : tie.Need-shared-slice-read-if1
 shared-slice-read-if1 c = search needs
 
--- src/table.rt:179:9
 returns : tie.Need-returns
 unfolding rowMatches cell
 returns c = rw (cell-first _ _, ne-eqb _ _ (c .if1 .taken)) refl
 
--- src/table.rt:181:14
 add-if2 : tie.Need-add-if2
 add-if2 c = search needs
 
--- src/table.rt:181:8
 mul-if2 : tie.Need-mul-if2
 mul-if2 c = search needs
 
--- src/table.rt:181:8
 shared-slice-read-if2 : tie.Need-shared-slice-read-if2
 shared-slice-read-if2 c = search needs
 
--- src/table.rt:182:9
 returns-2 : tie.Need-returns-2
 unfolding rowMatches cell
 returns-2 c = rw (cell-first _ _, eq-eqb _ _ (c .before .before .before .if1 .left), ne-eqb _ _ (c .if2 .taken)) refl
 
--- src/table.rt:184:11
 add-result : tie.Need-add-result
 add-result c = search needs
 
--- src/table.rt:184:5
 mul-result : tie.Need-mul-result
 mul-result c = search needs
 
--- src/table.rt:184:5
 shared-slice-read-result : tie.Need-shared-slice-read-result
 shared-slice-read-result c = search needs
 
--- src/table.rt:172:1
 returns-3 : tie.Need-returns-3
 unfolding rowMatches cell
 returns-3 c = rw (cell-first _ _, eq-eqb _ _ (c .before .before .before .before .before .if1 .left), eq-eqb _ _ (c .before .before .if2 .left)) refl

@@ -18,41 +18,32 @@ Inv-loop table clock i₀ i = (i ≤ 64) × (firstFrom (rowBad clock table) (64 
 abbrev μ-loop : tie.MeasureT-loop
 μ-loop table clock i₀ i = 64 - i
 
--- src/table.rt:20:23
 mul-if1 : tie.Need-mul-if1 Inv-loop μ-loop
 mul-if1 c = omega arith
 
--- src/table.rt:21:9
 returns : tie.Need-returns Inv-loop μ-loop
 unfolding tableBad
 returns c = rw (ne-eqb _ 256 (c .if1 .taken)) refl
 
--- src/table.rt:24:5
 loop-holds : tie.Need-loop-holds Inv-loop μ-loop
 loop-holds c = (omega arith, refl)
 
--- src/table.rt:25:12
 is-bad-row-requires : tie.Need-is-bad-row-requires Inv-loop μ-loop
 is-bad-row-requires c κs = (c .loop-test .taken, c .before .before .if1 .left)
 
--- src/table.rt:26:13
 returns-2 : tie.Need-returns-2 Inv-loop μ-loop
 unfolding tableBad
 returns-2 c = rw (eq-eqb _ 256 (c .before .before .before .before .if1 .left)) (some-here (rowBad (c .before .before .before .before .before .before .args .clock) (c .before .before .before .before .before .before .args .table .now)) (c .before .before .before .loop .i) (c .before .before .loop-test .taken) (sym (c .before .is-bad-row .ensures) ∙ c .if2 .taken) (c .before .before .before .loop .inv .1))
 
--- src/table.rt:28:9
 add-i : tie.Need-add-i Inv-loop μ-loop
 add-i c = omega arith
 
--- src/table.rt:24:5
 loop-less : tie.Need-loop-less Inv-loop μ-loop
 loop-less c = omega arith
 
--- src/table.rt:24:5
 loop-again : tie.Need-loop-again Inv-loop μ-loop
 loop-again c = (omega arith, scan-next (rowBad (c .before .before .before .before .before .before .args .clock) (c .before .before .before .before .before .before .args .table .now)) 64 (c .before .before .before .loop .i) (firstFrom (rowBad (c .before .before .before .before .before .before .args .clock) (c .before .before .before .before .before .before .args .table .now)) 64 0) (c .before .before .loop-test .taken) (sym (c .before .is-bad-row .ensures) ∙ c .if2 .left) (c .before .before .before .loop .inv .1))
 
--- src/table.rt:17:1
 returns-3 : tie.Need-returns-3 Inv-loop μ-loop
 unfolding tableBad
 returns-3 c = rw (eq-eqb _ 256 (c .before .before .if1 .left)) (some-end (rowBad (c .before .before .before .before .args .clock) (c .before .before .before .before .args .table .now)) (c .before .loop .i) (c .loop-test .left) (c .before .loop .inv .1))

@@ -11,41 +11,32 @@ use Rattle.node_state.proofs.table.is_bad_row.Lts as lts
 use Rattle.node_state.proofs.table.is_free.Reads as is-free-reads
 use Rattle.node_state.proofs.table.is_keyed.Reads as is-keyed-reads
 
--- src/table.rt:39:8
 is-free-requires : tie.Need-is-free-requires
 is-free-requires c κs = search needs
 
--- src/table.rt:40:9
 returns : tie.Need-returns
 unfolding rowBad rowUsed
 returns c = rw (sym (c .before .is-free .ensures) ∙ c .if1 .taken) refl
 
--- src/table.rt:42:8
 is-keyed-requires : tie.Need-is-keyed-requires
 is-keyed-requires c κs = search needs
 
--- src/table.rt:43:30
 mul-result : tie.Need-mul-result
 mul-result c = search needs
 
--- src/table.rt:43:30
 add-result : tie.Need-add-result
 add-result c = search needs
 
--- src/table.rt:43:24
 mul-result-2 : tie.Need-mul-result-2
 mul-result-2 c = search needs
 
--- src/table.rt:43:24
 shared-slice-read-result : tie.Need-shared-slice-read-result
 shared-slice-read-result c = search needs
 
--- src/table.rt:43:9
 returns-2 : tie.Need-returns-2
 unfolding rowBad rowUsed cell
 returns-2 c = rw (sym (c .before .before .before .before .is-free .ensures) ∙ c .before .before .before .if1 .left, sym (c .before .before .is-keyed .ensures) ∙ c .before .if2 .taken) (later-bad (c .before .before .before .before .before .before .args .clock) (cell (c .before .before .before .before .before .before .args .table .now) (c .before .before .before .before .before .before .args .i) 3))
 
--- src/table.rt:34:1
 returns-3 : tie.Need-returns-3
 unfolding rowBad rowUsed
 returns-3 c = rw (sym (c .before .before .before .is-free .ensures) ∙ c .before .before .if1 .left, sym (c .before .is-keyed .ensures) ∙ c .if2 .left) refl

@@ -10,40 +10,31 @@ use Rattle.node_state.proofs.table.is_dead.Reads as reads
 use Rattle.node_state.proofs.table.is_dead.Lts as lts
 use Rattle.node_state.proofs.table.life_of.Reads as life-of-reads
 
--- src/table.rt:113:14
 mul-at : tie.Need-mul-at
 mul-at c = search needs
 
--- src/table.rt:114:17
 mul-first : tie.Need-mul-first
 mul-first c = search needs
 
--- src/table.rt:114:17
 shared-slice-read-first : tie.Need-shared-slice-read-first
 shared-slice-read-first c = search needs
 
--- src/table.rt:115:26
 add-admitted : tie.Need-add-admitted
 add-admitted c = search needs
 
--- src/table.rt:115:20
 mul-admitted : tie.Need-mul-admitted
 mul-admitted c = search needs
 
--- src/table.rt:115:20
 shared-slice-read-admitted : tie.Need-shared-slice-read-admitted
 shared-slice-read-admitted c = search needs
 
--- src/table.rt:117:9
 returns : tie.Need-returns
 unfolding rowDead cell
 returns c = later-lives _ _ _ (c .if1 .taken)
 
--- src/table.rt:119:5
 life-of-requires : tie.Need-life-of-requires
 life-of-requires c κs = search needs
 
--- src/table.rt:108:1
 returns-2 : tie.Need-returns-2
 unfolding rowDead cell
 returns-2 c = rw (cell-first _ _, sym (c .life-of .ensures)) refl

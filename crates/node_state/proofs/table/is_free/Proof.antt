@@ -10,70 +10,54 @@ use Rattle.node_state.proofs.table.is_free.Tie as tie
 use Rattle.node_state.proofs.table.is_free.Reads as reads
 use Rattle.node_state.proofs.table.is_free.Lts as lts
 
--- src/table.rt:54:14
 mul-at : tie.Need-mul-at
 mul-at c = search needs
 
--- src/table.rt:55:8
 mul-if1 : tie.Need-mul-if1
 mul-if1 c = search needs
 
--- src/table.rt:55:8
 shared-slice-read-if1 : tie.Need-shared-slice-read-if1
 shared-slice-read-if1 c = search needs
 
--- src/table.rt:56:9
 returns : tie.Need-returns
 unfolding rowFree cell
 returns c = rw (cell-first _ _, ne-eqb _ 0 (c .if1 .taken)) refl
 
--- src/table.rt:58:14
 add-if2 : tie.Need-add-if2
 add-if2 c = search needs
 
--- src/table.rt:58:8
 mul-if2 : tie.Need-mul-if2
 mul-if2 c = search needs
 
--- src/table.rt:58:8
 shared-slice-read-if2 : tie.Need-shared-slice-read-if2
 shared-slice-read-if2 c = search needs
 
--- src/table.rt:59:9
 returns-2 : tie.Need-returns-2
 unfolding rowFree cell
 returns-2 c = rw (cell-first _ _, eq-eqb _ 0 (c .before .before .if1 .left), ne-eqb _ 0 (c .if2 .taken)) refl
 
--- src/table.rt:61:14
 add-if3 : tie.Need-add-if3
 add-if3 c = search needs
 
--- src/table.rt:61:8
 mul-if3 : tie.Need-mul-if3
 mul-if3 c = search needs
 
--- src/table.rt:61:8
 shared-slice-read-if3 : tie.Need-shared-slice-read-if3
 shared-slice-read-if3 c = search needs
 
--- src/table.rt:62:9
 returns-3 : tie.Need-returns-3
 unfolding rowFree cell
 returns-3 c = rw (cell-first _ _, eq-eqb _ 0 (c .before .before .before .before .if1 .left), eq-eqb _ 0 (c .before .before .if2 .left), ne-eqb _ 0 (c .if3 .taken)) refl
 
--- src/table.rt:64:11
 add-result : tie.Need-add-result
 add-result c = search needs
 
--- src/table.rt:64:5
 mul-result : tie.Need-mul-result
 mul-result c = search needs
 
--- src/table.rt:64:5
 shared-slice-read-result : tie.Need-shared-slice-read-result
 shared-slice-read-result c = search needs
 
--- src/table.rt:49:1
 returns-4 : tie.Need-returns-4
 unfolding rowFree cell
 returns-4 c = rw (cell-first _ _, eq-eqb _ 0 (c .before .before .before .before .before .if1 .left), eq-eqb _ 0 (c .before .before .before .if2 .left), eq-eqb _ 0 (c .before .if3 .left)) refl

@@ -12,67 +12,52 @@ use Rattle.node_state.proofs.table.is_keyed.Reads as reads
 use Rattle.node_state.proofs.table.is_keyed.Lts as lts
 use Rattle.node_state.proofs.table.tag_of.Reads as tag-of-reads
 
--- src/table.rt:73:14
 mul-at : tie.Need-mul-at
 mul-at c = search needs
 
--- src/table.rt:74:22
 mul-tag-of : tie.Need-mul-tag-of
 mul-tag-of c = search needs
 
--- src/table.rt:74:22
 shared-slice-read-tag-of : tie.Need-shared-slice-read-tag-of
 shared-slice-read-tag-of c = search needs
 
--- src/table.rt:74:9
 tag-of-requires : tie.Need-tag-of-requires
 tag-of-requires c κs = search needs
 
--- src/table.rt:76:9
 returns : tie.Need-returns
 unfolding rowKeyed initiatorFits cell pick
 returns c = rw (cell-first _ _, sym (c .before .tag-of .ensures), lt-leb 1 _ (c .if1 .taken)) refl
 
--- src/table.rt:79:9
 returns-2 : tie.Need-returns-2
 unfolding rowKeyed initiatorFits cell pick
 returns-2 c = rw (cell-first _ _, sym (c .before .before .tag-of .ensures), le-leb 1 _ (c .before .if1 .left), lt-leb _ 4 (c .if2 .taken)) refl
 
--- src/table.rt:82:9
 returns-3 : tie.Need-returns-3
 unfolding rowKeyed initiatorFits cell pick
 returns-3 c = rw (cell-first _ _, sym (c .before .before .before .tag-of .ensures), le-leb 1 _ (c .before .before .if1 .left), le-leb _ 4 (c .before .if2 .left), eq-eqb _ 0 (c .if3 .taken)) refl
 
--- src/table.rt:84:31
 add-if4 : tie.Need-add-if4
 add-if4 c = search needs
 
--- src/table.rt:84:25
 mul-if4 : tie.Need-mul-if4
 mul-if4 c = search needs
 
--- src/table.rt:84:25
 shared-slice-read-if4 : tie.Need-shared-slice-read-if4
 shared-slice-read-if4 c = search needs
 
--- src/table.rt:85:9
 returns-4 : tie.Need-returns-4
 unfolding rowKeyed initiatorFits cell pick
 returns-4 c = rw (cell-first _ _, sym (c .before .before .before .before .before .tag-of .ensures), le-leb 1 _ (c .before .before .before .before .if1 .left), le-leb _ 4 (c .before .before .before .if2 .left), ne-eqb _ 0 (c .before .before .if3 .left), le-ltb _ 4294967296 (c .if4 .taken)) refl
 
--- src/table.rt:87:11
 add-result : tie.Need-add-result
 add-result c = search needs
 
--- src/table.rt:87:5
 mul-result : tie.Need-mul-result
 mul-result c = search needs
 
--- src/table.rt:87:5
 shared-slice-read-result : tie.Need-shared-slice-read-result
 shared-slice-read-result c = search needs
 
--- src/table.rt:68:1
 returns-5 : tie.Need-returns-5
 unfolding rowKeyed initiatorFits cell pick
 returns-5 c = rw (cell-first _ _, sym (c .before .before .before .before .before .before .tag-of .ensures), le-leb 1 _ (c .before .before .before .before .before .if1 .left), le-leb _ 4 (c .before .before .before .before .if2 .left), ne-eqb _ 0 (c .before .before .before .if3 .left), lt-ltb _ 4294967296 (c .before .if4 .left)) refl

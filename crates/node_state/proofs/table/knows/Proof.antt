@@ -17,41 +17,32 @@ Inv-loop table key i₀ i = (i ≤ 64) × (firstFrom (rowMatches key table) (64 
 abbrev μ-loop : tie.MeasureT-loop
 μ-loop table key i₀ i = 64 - i
 
--- src/table.rt:20:23
 mul-if1 : tie.Need-mul-if1 Inv-loop μ-loop
 mul-if1 c = omega arith
 
--- src/table.rt:21:9
 returns : tie.Need-returns Inv-loop μ-loop
 unfolding isKnown
 returns c = sym (of-other _ _ _ (c .if1 .taken))
 
--- src/table.rt:24:5
 loop-holds : tie.Need-loop-holds Inv-loop μ-loop
 loop-holds c = (omega arith, refl)
 
--- src/table.rt:25:12
 has-key-requires : tie.Need-has-key-requires Inv-loop μ-loop
 has-key-requires c κs = (c .loop-test .taken, c .before .before .if1 .left)
 
--- src/table.rt:26:13
 returns-2 : tie.Need-returns-2 Inv-loop μ-loop
 unfolding isKnown
 returns-2 c = rw (of-sized _ _ _ (c .before .before .before .before .if1 .left)) (some-here (rowMatches (c .before .before .before .before .before .before .args .key) (c .before .before .before .before .before .before .args .table .now)) (c .before .before .before .loop .i) (c .before .before .loop-test .taken) (sym (c .before .has-key .ensures) ∙ c .if2 .taken) (c .before .before .before .loop .inv .1))
 
--- src/table.rt:28:9
 add-i : tie.Need-add-i Inv-loop μ-loop
 add-i c = omega arith
 
--- src/table.rt:24:5
 loop-less : tie.Need-loop-less Inv-loop μ-loop
 loop-less c = omega arith
 
--- src/table.rt:24:5
 loop-again : tie.Need-loop-again Inv-loop μ-loop
 loop-again c = (omega arith, scan-next (rowMatches (c .before .before .before .before .before .before .args .key) (c .before .before .before .before .before .before .args .table .now)) 64 (c .before .before .before .loop .i) (firstFrom (rowMatches (c .before .before .before .before .before .before .args .key) (c .before .before .before .before .before .before .args .table .now)) 64 0) (c .before .before .loop-test .taken) (sym (c .before .has-key .ensures) ∙ c .if2 .left) (c .before .before .before .loop .inv .1))
 
--- src/table.rt:17:1
 returns-3 : tie.Need-returns-3 Inv-loop μ-loop
 unfolding isKnown
 returns-3 c = rw (of-sized _ _ _ (c .before .before .if1 .left)) (some-end (rowMatches (c .before .before .before .before .args .key) (c .before .before .before .before .args .table .now)) (c .before .loop .i) (c .loop-test .left) (c .before .loop .inv .1))

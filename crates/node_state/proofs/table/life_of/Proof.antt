@@ -11,16 +11,13 @@ use Rattle.node_state.proofs.table.life_of.Reads as reads
 use Rattle.node_state.proofs.table.life_of.Lts as lts
 use Rattle.node_state.proofs.table.tag_of.Reads as tag-of-reads
 
--- src/table.rt:101:8
 tag-of-requires : tie.Need-tag-of-requires
 tag-of-requires c κs = search needs
 
--- src/table.rt:102:9
 returns : tie.Need-returns
 unfolding rowLife pick
 returns c = rw (sym (c .before .tag-of .ensures), lt-ltb _ 3 (c .if1 .taken)) refl
 
--- src/table.rt:98:1
 returns-2 : tie.Need-returns-2
 unfolding rowLife pick
 returns-2 c = rw (sym (c .before .tag-of .ensures), le-ltb _ 3 (c .if1 .left)) refl

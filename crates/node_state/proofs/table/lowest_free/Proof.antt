@@ -17,32 +17,25 @@ Inv-loop table i₀ i = (i ≤ 64) × (firstFrom (rowFree table) (64 - i) i ≡ 
 abbrev μ-loop : tie.MeasureT-loop
 μ-loop table i₀ i = 64 - i
 
--- src/table.rt:162:5
 loop-holds : tie.Need-loop-holds Inv-loop μ-loop
 unfolding lowestFree
 loop-holds c = (omega arith, refl)
 
--- src/table.rt:163:12
 is-free-requires : tie.Need-is-free-requires Inv-loop μ-loop
 is-free-requires c κs = (c .loop-test .taken, c .before .before .before .pre)
 
--- src/table.rt:164:13
 returns : tie.Need-returns Inv-loop μ-loop
 returns c = scan-here (rowFree (c .before .before .before .before .before .args .table .now)) 64 (c .before .before .before .loop .i) (lowestFree (c .before .before .before .before .before .args .table .now)) (c .before .before .loop-test .taken) (sym (c .before .is-free .ensures) ∙ c .if1 .taken) (c .before .before .before .loop .inv .1)
 
--- src/table.rt:166:9
 add-i : tie.Need-add-i Inv-loop μ-loop
 add-i c = omega arith
 
--- src/table.rt:162:5
 loop-less : tie.Need-loop-less Inv-loop μ-loop
 loop-less c = omega arith
 
--- src/table.rt:162:5
 loop-again : tie.Need-loop-again Inv-loop μ-loop
 loop-again c = (omega arith, scan-next (rowFree (c .before .before .before .before .before .args .table .now)) 64 (c .before .before .before .loop .i) (lowestFree (c .before .before .before .before .before .args .table .now)) (c .before .before .loop-test .taken) (sym (c .before .is-free .ensures) ∙ c .if1 .left) (c .before .before .before .loop .inv .1))
 
--- src/table.rt:157:1
 returns-2 : tie.Need-returns-2 Inv-loop μ-loop
 returns-2 c = scan-end (rowFree (c .before .before .before .args .table .now)) 64 (c .before .loop .i) (lowestFree (c .before .before .before .args .table .now)) (c .loop-test .left) (c .before .loop .inv .1)
 

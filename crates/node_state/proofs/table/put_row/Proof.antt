@@ -10,59 +10,45 @@ use Rattle.node_state.proofs.table.put_row.Tie as tie
 use Rattle.node_state.proofs.table.put_row.Reads as reads
 use Rattle.node_state.proofs.table.put_row.Lts as lts
 
--- src/table.rt:126:14
 mul-at : tie.Need-mul-at
 mul-at c = search needs
 
--- src/table.rt:127:5
 mul-table : tie.Need-mul-table
 mul-table c = search needs
 
--- src/table.rt:127:5
 slice-write-table : tie.Need-slice-write-table
 slice-write-table c = search needs
 
--- src/table.rt:128:11
 add-table : tie.Need-add-table
 add-table c = search needs
 
--- src/table.rt:128:5
 mul-table-2 : tie.Need-mul-table-2
 mul-table-2 c = search needs
 
--- src/table.rt:128:5
 slice-write-table-2 : tie.Need-slice-write-table-2
 slice-write-table-2 c = simp length-set (omega arith)
 
--- src/table.rt:129:11
 add-table-2 : tie.Need-add-table-2
 add-table-2 c = search needs
 
--- src/table.rt:129:5
 mul-table-3 : tie.Need-mul-table-3
 mul-table-3 c = search needs
 
--- src/table.rt:129:5
 slice-write-table-3 : tie.Need-slice-write-table-3
 slice-write-table-3 c = simp length-set (omega arith)
 
--- src/table.rt:130:11
 add-table-3 : tie.Need-add-table-3
 add-table-3 c = search needs
 
--- src/table.rt:130:5
 mul-table-4 : tie.Need-mul-table-4
 mul-table-4 c = search needs
 
--- src/table.rt:130:5
 slice-write-table-4 : tie.Need-slice-write-table-4
 slice-write-table-4 c = simp length-set (omega arith)
 
--- src/table.rt:121:1
 same-length : tie.Need-same-length
 same-length c = search needs
 
--- src/table.rt:121:1
 returns : tie.Need-returns
 unfolding putRow
 returns c = refl

@@ -7,7 +7,6 @@ use Rattle.node_state.proofs.table.tag_of.Tie as tie
 use Rattle.node_state.proofs.table.tag_of.Reads as reads
 use Rattle.node_state.proofs.table.tag_of.Lts as lts
 
--- src/table.rt:91:1
 returns : tie.Need-returns
 unfolding tagIn
 returns c = refl

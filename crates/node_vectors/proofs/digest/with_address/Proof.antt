@@ -14,31 +14,24 @@ Inv-loop d address d₀ i₀ d' i = i ≤ 16
 abbrev μ-loop : tie.MeasureT-loop
 μ-loop d address d₀ i₀ d' i = 16 - i
 
--- src/digest.rt:24:5
 loop-holds : tie.Need-loop-holds Inv-loop μ-loop
 loop-holds c = search needs
 
--- src/digest.rt:25:26
 element-copy-out-with-byte : tie.Need-element-copy-out-with-byte Inv-loop μ-loop
 element-copy-out-with-byte c = search needs
 
--- src/digest.rt:25:9
 with-byte-requires : tie.Need-with-byte-requires Inv-loop μ-loop
 with-byte-requires c κs = search needs
 
--- src/digest.rt:24:9
 add-i : tie.Need-add-i Inv-loop μ-loop
 add-i c = search needs
 
--- src/digest.rt:24:5
 loop-less : tie.Need-loop-less Inv-loop μ-loop
 loop-less c = search needs
 
--- src/digest.rt:24:5
 loop-again : tie.Need-loop-again Inv-loop μ-loop
 loop-again c = search needs
 
--- src/digest.rt:22:1
 returns : tie.Need-returns Inv-loop μ-loop
 returns c = search needs
 

@@ -16,35 +16,27 @@ Inv-loop d table d₀ i₀ i-end d' i = (i-end ≡ length table) × (i ≤ i-end
 abbrev μ-loop : tie.MeasureT-loop
 μ-loop d table d₀ i₀ i-end d' i = i-end - i
 
--- src/digest.rt:36:5
 loop-holds : tie.Need-loop-holds Inv-loop μ-loop
 loop-holds c = search needs
 
--- src/digest.rt:37:28
 mul-with-number : tie.Need-mul-with-number Inv-loop μ-loop
 mul-with-number c = search needs
 
--- src/digest.rt:37:28
 shared-slice-read-with-number : tie.Need-shared-slice-read-with-number Inv-loop μ-loop
 shared-slice-read-with-number c = search needs
 
--- src/digest.rt:37:9
 with-number-requires : tie.Need-with-number-requires Inv-loop μ-loop
 with-number-requires c κs = search needs
 
--- src/digest.rt:36:9
 add-i : tie.Need-add-i Inv-loop μ-loop
 add-i c = search needs
 
--- src/digest.rt:36:5
 loop-less : tie.Need-loop-less Inv-loop μ-loop
 loop-less c = search needs
 
--- src/digest.rt:36:5
 loop-again : tie.Need-loop-again Inv-loop μ-loop
 loop-again c = search needs
 
--- src/digest.rt:34:1
 returns : tie.Need-returns Inv-loop μ-loop
 returns c = search needs
 

@@ -11,39 +11,30 @@ use Rattle.node_vectors.proofs.line.print_state.Lts as lts
 use Rattle.node_vectors.proofs.digest.digest_of.Reads as digest-of-reads
 use Rattle.node_vectors.proofs.line.print_number.Reads as print-number-reads
 
--- src/line.rt:62:9
 returns : tie.Need-returns
 returns c = search needs
 
--- src/line.rt:65:18
 slice-aggregate-print-number : tie.Need-slice-aggregate-print-number
 slice-aggregate-print-number c = search needs
 
--- src/line.rt:65:5
 print-number-requires : tie.Need-print-number-requires
 print-number-requires c κs = search needs
 
--- src/line.rt:66:18
 slice-aggregate-print-number-2 : tie.Need-slice-aggregate-print-number-2
 slice-aggregate-print-number-2 c = search needs
 
--- src/line.rt:66:48
 slice-aggregate-digest-of : tie.Need-slice-aggregate-digest-of
 slice-aggregate-digest-of c = sym (length-take-le _ _ (omega arith))
 
--- src/line.rt:66:24
 digest-of-requires : tie.Need-digest-of-requires
 digest-of-requires c κs = search needs
 
--- src/line.rt:66:24
 cast-print-number : tie.Need-cast-print-number
 cast-print-number c = search needs
 
--- src/line.rt:66:5
 print-number-requires-2 : tie.Need-print-number-requires-2
 print-number-requires-2 c κs = search needs
 
--- src/line.rt:59:1
 returns-2 : tie.Need-returns-2
 returns-2 c = search needs
 

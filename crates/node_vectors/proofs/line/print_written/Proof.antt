@@ -11,27 +11,21 @@ use Rattle.node_vectors.proofs.line.print_written.Lts as lts
 use Rattle.io.proofs.write_all.Reads as write-all-reads
 use Rattle.node_vectors.proofs.line.print_bytes.Reads as print-bytes-reads
 
--- src/line.rt:89:22
 slice-aggregate-write-all : tie.Need-slice-aggregate-write-all
 slice-aggregate-write-all c = search needs
 
--- src/line.rt:89:5
 write-all-requires : tie.Need-write-all-requires
 write-all-requires c κs = search needs
 
--- src/line.rt:91:9
 returns : tie.Need-returns
 returns c = search needs
 
--- src/line.rt:93:17
 slice-aggregate-print-bytes : tie.Need-slice-aggregate-print-bytes
 slice-aggregate-print-bytes c = sym (length-take-le _ _ (omega arith))
 
--- src/line.rt:93:5
 print-bytes-requires : tie.Need-print-bytes-requires
 print-bytes-requires c κs = search needs
 
--- src/line.rt:88:1
 returns-2 : tie.Need-returns-2
 returns-2 c = search needs
 

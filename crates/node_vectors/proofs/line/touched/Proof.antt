@@ -16,35 +16,27 @@ Inv-loop out from count₀ i₀ i-end count i = (i-end ≡ length out) × (count
 abbrev μ-loop : tie.MeasureT-loop
 μ-loop out from count₀ i₀ i-end count i = i-end - i
 
--- src/line.rt:72:5
 loop-holds : tie.Need-loop-holds Inv-loop μ-loop
 loop-holds c = search needs
 
--- src/line.rt:73:26
 shared-slice-read-changed : tie.Need-shared-slice-read-changed Inv-loop μ-loop
 shared-slice-read-changed c = search needs
 
--- src/line.rt:73:18
 changed-requires : tie.Need-changed-requires Inv-loop μ-loop
 changed-requires c κs = search needs
 
--- src/line.rt:73:9
 add-count : tie.Need-add-count Inv-loop μ-loop
 add-count c = search needs
 
--- src/line.rt:72:9
 add-i : tie.Need-add-i Inv-loop μ-loop
 add-i c = search needs
 
--- src/line.rt:72:5
 loop-less : tie.Need-loop-less Inv-loop μ-loop
 loop-less c = search needs
 
--- src/line.rt:72:5
 loop-again : tie.Need-loop-again Inv-loop μ-loop
 loop-again c = search needs
 
--- src/line.rt:70:1
 returns : tie.Need-returns Inv-loop μ-loop
 returns c = search needs
 

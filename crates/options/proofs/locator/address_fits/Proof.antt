@@ -8,22 +8,18 @@ use Rattle.options.proofs.locator.address_fits.Tie as tie
 use Rattle.options.proofs.locator.address_fits.Reads as reads
 use Rattle.options.proofs.locator.address_fits.Lts as lts
 
--- src/locator.rt:88:9
 returns : tie.Need-returns
 unfolding addressFits pick
 returns c = search tests
 
--- src/locator.rt:92:13
 returns-2 : tie.Need-returns-2
 unfolding addressFits pick
 returns-2 c = search tests
 
--- src/locator.rt:94:9
 returns-3 : tie.Need-returns-3
 unfolding addressFits pick
 returns-3 c = search tests
 
--- src/locator.rt:84:1
 returns-4 : tie.Need-returns-4
 unfolding addressFits pick
 returns-4 c = search tests

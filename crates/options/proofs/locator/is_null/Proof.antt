@@ -9,26 +9,21 @@ use Rattle.options.proofs.locator.is_null.Tie as tie
 use Rattle.options.proofs.locator.is_null.Reads as reads
 use Rattle.options.proofs.locator.is_null.Lts as lts
 
--- src/locator.rt:147:24
 sub-result : tie.Need-sub-result
 sub-result c = search needs
 
--- src/locator.rt:147:17
 returns : tie.Need-returns
 unfolding isNull pick
 returns c = search tests
 
--- src/locator.rt:149:13
 returns-2 : tie.Need-returns-2
 unfolding isNull pick
 returns-2 c = search tests
 
--- src/locator.rt:151:9
 returns-3 : tie.Need-returns-3
 unfolding isNull pick
 returns-3 c = search tests
 
--- src/locator.rt:141:1
 returns-4 : tie.Need-returns-4
 unfolding isNull pick
 returns-4 c = search tests

@@ -8,22 +8,18 @@ use Rattle.options.proofs.locator.locator_of.Tie as tie
 use Rattle.options.proofs.locator.locator_of.Reads as reads
 use Rattle.options.proofs.locator.locator_of.Lts as lts
 
--- src/locator.rt:160:9
 returns : tie.Need-returns
 unfolding locatorOf pick
 returns c = search tests
 
--- src/locator.rt:163:9
 returns-2 : tie.Need-returns-2
 unfolding locatorOf pick
 returns-2 c = search tests
 
--- src/locator.rt:166:9
 returns-3 : tie.Need-returns-3
 unfolding locatorOf pick
 returns-3 c = search tests
 
--- src/locator.rt:156:1
 returns-4 : tie.Need-returns-4
 unfolding locatorOf pick
 returns-4 c = search tests

@@ -7,73 +7,57 @@ use Rattle.options.proofs.locator.numbers_of.Tie as tie
 use Rattle.options.proofs.locator.numbers_of.Reads as reads
 use Rattle.options.proofs.locator.numbers_of.Lts as lts
 
--- src/block.rt:148:23
 enum-known-l : tie.Need-enum-known-l
 enum-known-l c = search needs
 
--- src/block.rt:148:68
 cast-t16 : tie.Need-cast-t16
 cast-t16 c = search needs
 
--- src/block.rt:148:85
 cast-t17 : tie.Need-cast-t17
 cast-t17 c = search needs
 
--- src/block.rt:149:23
 enum-known-l-2 : tie.Need-enum-known-l-2
 enum-known-l-2 c = search needs
 
--- src/block.rt:149:67
 cast-t19 : tie.Need-cast-t19
 cast-t19 c = search needs
 
--- src/block.rt:149:84
 cast-t20 : tie.Need-cast-t20
 cast-t20 c = search needs
 
--- src/block.rt:151:13
 enum-known-l-3 : tie.Need-enum-known-l-3
 enum-known-l-3 c = search needs
 
--- src/block.rt:158:13
 cast-t23 : tie.Need-cast-t23
 cast-t23 c = search needs
 
--- src/block.rt:159:13
 cast-t24 : tie.Need-cast-t24
 cast-t24 c = search needs
 
--- src/block.rt:162:13
 enum-known-l-4 : tie.Need-enum-known-l-4
 enum-known-l-4 c = search needs
 
--- src/block.rt:169:13
 cast-t27 : tie.Need-cast-t27
 cast-t27 c = search needs
 
--- src/block.rt:170:13
 cast-t28 : tie.Need-cast-t28
 cast-t28 c = search needs
 
--- src/block.rt:144:1
 returns : tie.Need-returns
 unfolding locatorNumbers
 returns c =
     rw (c .before .l .given .1)
 
--- src/block.rt:144:1
 returns-2 : tie.Need-returns-2
 unfolding locatorNumbers
 returns-2 c =
     rw (c .before .l2 .given .1)
 
--- src/block.rt:144:1
 returns-3 : tie.Need-returns-3
 unfolding locatorNumbers
 returns-3 c =
     rw (c .before .l3 .given .1)
 
--- src/block.rt:144:1
 returns-4 : tie.Need-returns-4
 unfolding locatorNumbers
 returns-4 c =

@@ -10,39 +10,32 @@ use Rattle.options.proofs.locator.port_of.Reads as reads
 use Rattle.options.proofs.locator.port_of.Lts as lts
 use Rattle.options.proofs.locator.is_null.Reads as is-null-reads
 
--- src/locator.rt:127:20
 cast-result : tie.Need-cast-result
 cast-result c = search needs
 
--- src/locator.rt:127:13
 returns : tie.Need-returns
 unfolding portOf pick
 returns c =
     rw (eq-eqb _ _ (c .before .before .before .if1 .taken), le-leb _ _ (c .before .if2 .taken))
 
--- src/locator.rt:129:9
 returns-2 : tie.Need-returns-2
 unfolding portOf pick
 returns-2 c =
     rw (eq-eqb _ _ (c .before .before .if1 .taken), lt-leb _ _ (c .if2 .left))
 
--- src/locator.rt:132:12
 is-null-requires : tie.Need-is-null-requires
 is-null-requires c κs = search needs
 
--- src/locator.rt:133:13
 returns-3 : tie.Need-returns-3
 unfolding portOf pick
 returns-3 c =
     rw (ne-eqb _ _ (c .before .before .before .if1 .left), eq-eqb _ _ (c .before .before .if3 .taken), ← c .before .is-null .ensures, c .if4 .taken)
 
--- src/locator.rt:135:9
 returns-4 : tie.Need-returns-4
 unfolding portOf pick
 returns-4 c =
     rw (ne-eqb _ _ (c .before .before .before .if1 .left), eq-eqb _ _ (c .before .before .if3 .taken), ← c .before .is-null .ensures, c .if4 .left)
 
--- src/locator.rt:122:1
 returns-5 : tie.Need-returns-5
 unfolding portOf pick
 returns-5 c =

@@ -10,41 +10,34 @@ use Rattle.options.proofs.locator.protocol_of.Reads as reads
 use Rattle.options.proofs.locator.protocol_of.Lts as lts
 use Rattle.options.proofs.locator.is_null.Reads as is-null-reads
 
--- src/locator.rt:105:13
 returns : tie.Need-returns
 unfolding protocolOf pick
 returns c =
     rw (eq-eqb _ _ (c .before .before .if1 .taken), eq-eqb _ _ (c .if2 .taken))
 
--- src/locator.rt:108:13
 returns-2 : tie.Need-returns-2
 unfolding protocolOf pick
 returns-2 c =
     rw (eq-eqb _ _ (c .before .before .before .before .if1 .taken), ne-eqb _ _ (c .before .before .if2 .left), eq-eqb _ _ (c .if3 .taken))
 
--- src/locator.rt:110:9
 returns-3 : tie.Need-returns-3
 unfolding protocolOf pick
 returns-3 c =
     rw (eq-eqb _ _ (c .before .before .before .before .if1 .taken), ne-eqb _ _ (c .before .before .if2 .left), ne-eqb _ _ (c .if3 .left))
 
--- src/locator.rt:113:12
 is-null-requires : tie.Need-is-null-requires
 is-null-requires c κs = search needs
 
--- src/locator.rt:114:13
 returns-4 : tie.Need-returns-4
 unfolding protocolOf pick
 returns-4 c =
     rw (ne-eqb _ _ (c .before .before .before .if1 .left), eq-eqb _ _ (c .before .before .if4 .taken), ← c .before .is-null .ensures, c .if5 .taken)
 
--- src/locator.rt:116:9
 returns-5 : tie.Need-returns-5
 unfolding protocolOf pick
 returns-5 c =
     rw (ne-eqb _ _ (c .before .before .before .if1 .left), eq-eqb _ _ (c .before .before .if4 .taken), ← c .before .is-null .ensures, c .if5 .left)
 
--- src/locator.rt:100:1
 returns-6 : tie.Need-returns-6
 unfolding protocolOf pick
 returns-6 c =

@@ -8,12 +8,10 @@ use Rattle.options.proofs.objective.long_name.Tie as tie
 use Rattle.options.proofs.objective.long_name.Reads as reads
 use Rattle.options.proofs.objective.long_name.Lts as lts
 
--- src/objective.rt:125:9
 returns : tie.Need-returns
 unfolding longName pick
 returns c = search tests
 
--- src/objective.rt:121:1
 returns-2 : tie.Need-returns-2
 unfolding longName pick
 returns-2 c = search tests

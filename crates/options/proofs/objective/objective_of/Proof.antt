@@ -8,23 +8,18 @@ use Rattle.options.proofs.objective.objective_of.Tie as tie
 use Rattle.options.proofs.objective.objective_of.Reads as reads
 use Rattle.options.proofs.objective.objective_of.Lts as lts
 
--- src/objective.rt:107:17
 add-t7 : tie.Need-add-t7
 add-t7 c = search needs
 
--- src/objective.rt:108:18
 sub-t8 : tie.Need-sub-t8
 sub-t8 c = search needs
 
--- src/objective.rt:112:19
 add-t10 : tie.Need-add-t10
 add-t10 c = search needs
 
--- src/objective.rt:114:17
 add-t11 : tie.Need-add-t11
 add-t11 c = search needs
 
--- src/objective.rt:101:1
 returns : tie.Need-returns
 unfolding objectiveOf
 returns c = refl

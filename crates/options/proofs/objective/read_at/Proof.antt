@@ -11,27 +11,21 @@ use Rattle.options.proofs.objective.read_at.Reads as reads
 use Rattle.options.proofs.objective.read_at.Lts as lts
 use Rattle.options.proofs.objective.read_in.Reads as read-in-reads
 
--- src/objective.rt:39:9
 returns : tie.Need-returns
 returns c = objective-past _ _ _ (c .if1 .taken)
 
--- src/objective.rt:41:13
 sub-read-in : tie.Need-sub-read-in
 sub-read-in c = search needs
 
--- src/objective.rt:41:13
 part-read-in-start : tie.Need-part-read-in-start
 part-read-in-start c = search needs
 
--- src/objective.rt:41:13
 part-read-in-end : tie.Need-part-read-in-end
 part-read-in-end c = search needs
 
--- src/objective.rt:41:5
 read-in-requires : tie.Need-read-in-requires
 read-in-requires c κs = search needs
 
--- src/objective.rt:35:1
 returns-2 : tie.Need-returns-2
 returns-2 c = c .read-in .ensures ∙ ap (objectiveIn (c .before .before .before .before .args .levels) (c .before .before .before .before .args .at)) (rest-is (c .before .before .before .before .args .at) (c .before .before .before .before .args .s .now))
 

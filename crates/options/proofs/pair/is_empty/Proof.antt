@@ -8,12 +8,10 @@ use Rattle.options.proofs.pair.is_empty.Tie as tie
 use Rattle.options.proofs.pair.is_empty.Reads as reads
 use Rattle.options.proofs.pair.is_empty.Lts as lts
 
--- src/pair.rt:115:9
 returns : tie.Need-returns
 unfolding isEmpty pick
 returns c = search tests
 
--- src/pair.rt:111:1
 returns-2 : tie.Need-returns-2
 unfolding isEmpty pick
 returns-2 c = search tests

@@ -8,39 +8,30 @@ use Rattle.options.proofs.pair.numbers_of.Reads as reads
 use Rattle.options.proofs.pair.numbers_of.Lts as lts
 use Rattle.options.proofs.pair.tag_numbers.Reads as tag-numbers-reads
 
--- src/block.rt:189:13
 tag-numbers-requires : tie.Need-tag-numbers-requires
 tag-numbers-requires c κs = search needs
 
--- src/block.rt:193:9
 cast-t7 : tie.Need-cast-t7
 cast-t7 c = search needs
 
--- src/block.rt:194:9
 cast-t8 : tie.Need-cast-t8
 cast-t8 c = search needs
 
--- src/block.rt:198:9
 array-read-t14 : tie.Need-array-read-t14
 array-read-t14 c = search needs
 
--- src/block.rt:199:9
 array-read-t17 : tie.Need-array-read-t17
 array-read-t17 c = search needs
 
--- src/block.rt:200:9
 array-read-t20 : tie.Need-array-read-t20
 array-read-t20 c = search needs
 
--- src/block.rt:201:9
 array-read-t23 : tie.Need-array-read-t23
 array-read-t23 c = search needs
 
--- src/block.rt:202:9
 array-read-t26 : tie.Need-array-read-t26
 array-read-t26 c = search needs
 
--- src/block.rt:186:1
 returns : tie.Need-returns
 unfolding pairNumbers
 returns c =

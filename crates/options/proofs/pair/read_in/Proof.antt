@@ -17,66 +17,51 @@ use Rattle.cbor.proofs.token.array_at.Reads as array-at-reads
 use Rattle.options.proofs.objective.read_in.Reads as read-in-reads
 use Rattle.options.proofs.pair.read_tag.Reads as read-tag-reads
 
--- src/pair.rt:49:9
 array-at-requires : tie.Need-array-at-requires
 array-at-requires c κs = search needs
 
--- src/pair.rt:50:8
 items-in-requires : tie.Need-items-in-requires
 items-in-requires c κs = search needs
 
--- src/pair.rt:51:9
 returns : tie.Need-returns
 unfolding pairIn pick
 returns c = rw (← c .before .before .array-at .ensures .is, ← c .before .items-in .ensures, eq-eqb _ _ (c .if1 .taken))
 
--- src/pair.rt:54:35
 sub-read-in : tie.Need-sub-read-in
 sub-read-in c = search needs
 
--- src/pair.rt:54:35
 part-read-in-start : tie.Need-part-read-in-start
 part-read-in-start c = search needs
 
--- src/pair.rt:54:35
 part-read-in-end : tie.Need-part-read-in-end
 part-read-in-end c = search needs
 
--- src/pair.rt:54:45
 add-read-in : tie.Need-add-read-in
 add-read-in c = search needs
 
--- src/pair.rt:54:9
 read-in-requires : tie.Need-read-in-requires
 read-in-requires c κs = search needs
 
--- src/pair.rt:56:28
 enum-known-read : tie.Need-enum-known-read
 enum-known-read c = search needs
 
--- src/pair.rt:58:13
 enum-known-read-2 : tie.Need-enum-known-read-2
 enum-known-read-2 c = search needs
 
--- src/pair.rt:64:42
 add-read-tag : tie.Need-add-read-tag
 add-read-tag c = omega (arith, c .before .before .before .before .before .before .before .before .before .before .before .pre, c .before .before .before .before .before .before .before .before .before .array-at .ensures, objective-fits 3 (c .before .before .before .before .before .before .before .before .before .before .before .args .s .now) _ (c .before .before .before .before .before .before .before .before .before .array-at .result .next) _ _ (c .before .before .before .before .before .read-in .ensures) (c .before .before .before .read2 .given .1))
 
--- src/pair.rt:64:17
 read-tag-requires : tie.Need-read-tag-requires
 read-tag-requires c κs = (c .before .before .before .before .before .before .before .before .before .before .before .pre, omega (arith, c .before .before .before .before .before .before .before .before .before .array-at .ensures, objective-fits 3 (c .before .before .before .before .before .before .before .before .before .before .before .args .s .now) _ (c .before .before .before .before .before .before .before .before .before .array-at .result .next) _ _ (c .before .before .before .before .before .read-in .ensures) (c .before .before .before .read2 .given .1)))
 
--- src/pair.rt:64:17
 returns-2 : tie.Need-returns-2
 unfolding pairLed pick
 returns-2 c = (c .read-tag .ensures) ∙ rw (eq-eqb _ _ (c .before .if2 .taken)) at (pair-found _ _ _ _ _ (ObjectiveRead.Got _ _ _ _) (c .before .before .before .before .before .before .before .before .before .before .array-at .ensures .is) (c .before .before .before .before .before .before .before .before .before .items-in .ensures) (c .before .before .before .before .before .before .before .before .if1 .left) (c .before .before .before .before .before .before .read-in .ensures) (c .before .before .before .before .read2 .given .1))
 
--- src/pair.rt:45:1
 returns-3 : tie.Need-returns-3
 unfolding pairLed pick
 returns-3 c = pair-found _ _ _ _ _ (ObjectiveRead.Bad _) (c .before .before .before .before .before .before .before .array-at .ensures .is) (c .before .before .before .before .before .before .items-in .ensures) (c .before .before .before .before .before .if1 .left) (c .before .before .before .read-in .ensures) (c .before .read .given .1)
 
--- src/pair.rt:45:1
 returns-4 : tie.Need-returns-4
 unfolding pairLed pick
 returns-4 c = rw (ne-eqb _ _ (c .if2 .left)) at (pair-found _ _ _ _ _ (ObjectiveRead.Got _ _ _ _) (c .before .before .before .before .before .before .before .before .before .array-at .ensures .is) (c .before .before .before .before .before .before .before .before .items-in .ensures) (c .before .before .before .before .before .before .before .if1 .left) (c .before .before .before .before .before .read-in .ensures) (c .before .before .before .read2 .given .1))

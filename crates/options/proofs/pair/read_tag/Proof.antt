@@ -15,61 +15,47 @@ use Rattle.options.proofs.first_of.Reads as first-of-reads
 use Rattle.options.proofs.locator.read_in.Reads as read-in-reads
 use Rattle.options.proofs.pair.is_empty.Reads as is-empty-reads
 
--- src/pair.rt:83:9
 array-at-requires : tie.Need-array-at-requires
 array-at-requires c κs = search needs
 
--- src/pair.rt:84:8
 is-empty-requires : tie.Need-is-empty-requires
 is-empty-requires c κs = search needs
 
--- src/pair.rt:85:9
 returns : tie.Need-returns
 unfolding pairTail pick
 returns c = rw (← c .before .before .array-at .ensures .is, ← c .before .is-empty .ensures, c .if1 .taken)
 
--- src/pair.rt:93:33
 sub-read-in : tie.Need-sub-read-in
 sub-read-in c = search needs
 
--- src/pair.rt:93:33
 part-read-in-start : tie.Need-part-read-in-start
 part-read-in-start c = search needs
 
--- src/pair.rt:93:33
 part-read-in-end : tie.Need-part-read-in-end
 part-read-in-end c = search needs
 
--- src/pair.rt:93:43
 add-read-in : tie.Need-add-read-in
 add-read-in c = search needs
 
--- src/pair.rt:93:9
 read-in-requires : tie.Need-read-in-requires
 read-in-requires c κs = search needs
 
--- src/pair.rt:95:26
 enum-known-read : tie.Need-enum-known-read
 enum-known-read c = search needs
 
--- src/pair.rt:97:13
 enum-known-read-2 : tie.Need-enum-known-read-2
 enum-known-read-2 c = search needs
 
--- src/pair.rt:103:19
 add-t22 : tie.Need-add-t22
 add-t22 c = omega (arith, c .before .before .before .before .before .before .before .before .before .pre, c .before .before .before .before .before .before .before .before .before .good, locator-fits (c .before .before .before .before .before .before .before .before .before .args .s .now) _ (c .before .before .before .before .before .before .before .before .before .args .at) _ _ (c .before .before .before .read-in .ensures) (c .before .read2 .given .1))
 
--- src/pair.rt:104:18
 first-of-requires : tie.Need-first-of-requires
 first-of-requires c κs = search needs
 
--- src/pair.rt:72:1
 returns-2 : tie.Need-returns-2
 unfolding pairTagged
 returns-2 c = tail-found _ _ _ _ _ _ _ _ _ (LocatorRead.Bad _) (c .before .before .before .before .before .before .before .array-at .ensures .is) (c .before .before .before .before .before .before .is-empty .ensures) (c .before .before .before .before .before .if1 .left) (c .before .before .before .read-in .ensures) (c .before .read .given .1)
 
--- src/pair.rt:72:1
 returns-3 : tie.Need-returns-3
 unfolding pairTagged
 returns-3 c = rw (c .first-of .ensures) (tail-found _ _ _ _ _ _ _ _ _ (LocatorRead.Got _ _ _) (c .before .before .before .before .before .before .before .before .array-at .ensures .is) (c .before .before .before .before .before .before .before .is-empty .ensures) (c .before .before .before .before .before .before .if1 .left) (c .before .before .before .before .read-in .ensures) (c .before .before .read2 .given .1))

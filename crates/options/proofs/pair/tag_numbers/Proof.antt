@@ -8,25 +8,20 @@ use Rattle.options.proofs.pair.tag_numbers.Reads as reads
 use Rattle.options.proofs.pair.tag_numbers.Lts as lts
 use Rattle.options.proofs.locator.numbers_of.Reads as numbers-of-reads
 
--- src/block.rt:180:23
 enum-told : tie.Need-enum-told
 enum-told c = search needs
 
--- src/block.rt:181:17
 enum-known-tag : tie.Need-enum-known-tag
 enum-known-tag c = search needs
 
--- src/block.rt:181:29
 numbers-of-requires : tie.Need-numbers-of-requires
 numbers-of-requires c κs = search needs
 
--- src/block.rt:176:1
 returns : tie.Need-returns
 unfolding tagNumbers
 returns c =
     rw (c .enum-told .given .1)
 
--- src/block.rt:176:1
 returns-2 : tie.Need-returns-2
 unfolding tagNumbers
 returns-2 c =
