@@ -1,7 +1,7 @@
 -- For readers: `ItemLaws`, the first whole item held against the standard; `PutExact`, heads written.
 pub mod ItemLaws
 pub mod PutExact
--- For callers' proofs: heads read and written, items accepted and refused, tokens and their bounds.
+-- For callers' proofs: heads read and written and stored, items accepted and refused, tokens and their bounds.
 pub mod HeadExact
 pub mod HeadFault
 pub mod Accepts
@@ -9,6 +9,7 @@ pub mod Exact
 pub mod Unique
 pub mod Refuses
 pub mod Tokens
+pub mod Stores
 -- For the proofs of this crate.
 mod Bounds
 mod Common
@@ -17,4 +18,3 @@ mod Turn
 mod Steps
 mod Within
 mod Followed
-mod Stores

@@ -1,9 +1,5 @@
 -- The description of a message that was read: the same numbers, and spans of its bytes.
-use Prim.Native.Nat.{ℕ}
 use mathlib.Core.Bool.{Bool, true, false}
-use lib.Dec.{eqb}
-use Rattle.base.specs.Pick.{pick}
-use Rattle.options.specs.declared.Span.{Span}
 use Rattle.options.specs.declared.objective.Objective.{Objective}
 use Rattle.message.specs.declared.Targets.{Targets}
 use Rattle.message.specs.declared.Extra.{Extra}
@@ -25,17 +21,6 @@ extraOf (Extra.With o) = X.With (goalOf o)
 unfoldable pub isDivert : Targets → Bool
 isDivert (Targets.Locators series) = false
 isDivert (Targets.Divert series) = true
-
-unfoldable pub responseOf : ℕ → Span → ℕ → Targets → Extra → Description
-responseOf session initiator ttl targets extra = D.Response session initiator ttl (isDivert targets) (extraOf extra)
-
--- kinds 3, 4, 5 and 8, which have a session and an objective alone
-unfoldable pub exchangeOf : ℕ → ℕ → Objective → Description
-exchangeOf kind session o =
-    pick (eqb kind 3) (D.RequestNegotiation session (goalOf o))
-    (pick (eqb kind 4) (D.RequestSynchronization session (goalOf o))
-    (pick (eqb kind 5) (D.Negotiate session (goalOf o))
-    (D.Synch session (goalOf o))))
 
 unfoldable pub descriptionOf : Message → Description
 descriptionOf M.Noop = D.Noop

@@ -1,6 +1,8 @@
 // A message that was read, as a description for the writer: its numbers and spans, and its locators or pairs as rows of a list.
 ghost use mathlib.Core.Path.{_≡_};
-ghost use Rattle.describe.specs.Describe.{goalOf, extraOf, isDivert, responseOf, exchangeOf, descriptionOf};
+ghost use Rattle.message.specs.Shape.{exchangeOf};
+ghost use Rattle.message.specs.declared.Message.{Message};
+ghost use Rattle.describe.specs.Describe.{goalOf, extraOf, isDivert, descriptionOf};
 use description::Description;
 use description::Extra;
 use description::Goal;
@@ -60,7 +62,7 @@ fn response_of(
     targets: Targets,
     extra: message::Extra,
 ) -> Description
-    ensures { λ r. ⌜ r ≡ responseOf session initiator ttl targets extra ⌝ }
+    ensures { λ r. ⌜ r ≡ descriptionOf (Message.Response session initiator ttl targets extra) ⌝ }
 {
     Description::Response {
         session,
@@ -73,7 +75,7 @@ fn response_of(
 
 // Kinds 3, 4, 5 and 8, which have a session and an objective alone.
 fn exchange(kind: u8, session: u32, o: Objective) -> Description
-    ensures { λ r. ⌜ r ≡ exchangeOf kind session o ⌝ }
+    ensures { λ r. ⌜ r ≡ descriptionOf (exchangeOf kind session o) ⌝ }
 {
     let objective = goal_of(o);
     if kind == 3 {

@@ -51,7 +51,7 @@ join-all {s} {e = e} {xs = Items.done} {ys} a b = subst (λ (k : ℕ). StandAll 
 join-all {xs = Items.more x xs} a b = let c = split a in join (c .first) (join-all (c .rest) b)
 
 -- there are so many
-count-joined : (xs ys : Items) → count (joined xs ys) ≡ count xs + count ys
+pub count-joined : (xs ys : Items) → count (joined xs ys) ≡ count xs + count ys
 unfolding count
 count-joined Items.done ys = omega arith
 count-joined (Items.more x xs) ys = ap suc (count-joined xs ys) ∙ omega arith

@@ -17,6 +17,7 @@ use Rattle.base.specs.BigEndian.{bytesOf}
 use Rattle.syntax.specs.Message.{Loc, Obj, Pair, Aim, Ending, Msg, valuedObj, valuedPair, valued}
 use Rattle.grammar.specs.Cddl.{uint, list, array, Protocol, Port, OrNull, LocatorItem, LocatorItems, Value, ObjectiveItem, PairItem, PairItems, Number, Initiator, OptionalItems, joined, AimItems, EndingItem, MessageItem}
 use Rattle.description.specs.Encoding.{string, numberOrNull, reached, fixed, encodeLoc, oneMore, encodeObj, maybeObj, howMany, locOrEmpty, encodePair, targetItems, encodeTargets, encodeEnding, opening, exchange, encodeMsg}
+use Rattle.exact.proofs.Response.{count-joined}
 use Rattle.exact.proofs.Described.{locators-count, pairs-count}
 use Rattle.roundtrip.specs.Plain.{valueBytes, plain}
 
@@ -141,12 +142,6 @@ unfolding encode
 joined-encodes Items.done ys = refl
 joined-encodes (Items.more x xs) ys = rw (joined-encodes xs ys, append-assoc)
 
--- their number
-joined-count : (xs ys : Items) → count (joined xs ys) ≡ count xs + count ys
-unfolding count
-joined-count Items.done ys = omega arith
-joined-count (Items.more x xs) ys = omega (arith, joined-count xs ys)
-
 -- and both are without fault
 pub joined-goods : (xs ys : Items) → Goods (joined xs ys) → Goods xs × Goods ys
 joined-goods Items.done ys g = (tt, g)
@@ -166,7 +161,7 @@ unfolding encode count encodeTargets targetItems
 aim-encodes g (AimItems.locators {xs = xs} {ys = ys} is i) =
     let (gs, gy) = joined-goods xs ys g in
     let (bytes, many) = optional-encodes gy i in
-    (rw (joined-encodes xs ys, locators-encode gs is, bytes), rw (joined-count xs ys, locators-count is, many))
+    (rw (joined-encodes xs ys, locators-encode gs is, bytes), rw (count-joined xs ys, locators-count is, many))
 aim-encodes g (AimItems.divert is i) =
     let (bytes, many) = optional-encodes (g .1) i in (
       rw (array-head (g .0 .0), number-head (g .0 .1 .0), locators-encode (g .0 .1 .1) is, bytes, locators-count is, one-add) (simp append-assoc),

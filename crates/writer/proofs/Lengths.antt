@@ -8,15 +8,12 @@ use lib.ListN.{length, take, drop, length-append, length-drop}
 use lib.Seq.{length-take-le}
 use Rattle.base.specs.Pick.{pick}
 use Rattle.cbor.specs.Tree.{shortest}
+use Rattle.cbor.proofs.Stores.{length-shortest}
 use Rattle.cbor.specs.Put.{head}
-use Rattle.cbor.proofs.HeadExact.{length-head, shortest-case}
+use Rattle.cbor.proofs.HeadExact.{shortest-case}
 use Rattle.description.specs.Encoding.{string, reached, fixed, opening}
 use Rattle.writer.specs.Write.{lowered, answerOf}
 use Rattle.writer.proofs.Home.{answer-is}
-
-pub length-shortest : (major arg : ℕ) → length (head major arg) ≡ 1 + shortest arg
-unfolding head
-length-shortest major arg = length-head major (shortest arg) arg
 
 -- a head is of at most nine bytes
 shortest-few : (arg : ℕ) → shortest arg ≤ 8

@@ -1,7 +1,8 @@
 -- `describe::description_of` meets its contract.
 -- Assumes nothing.
 use Rattle.base.specs.Pick.{pick}
-use Rattle.describe.specs.Describe.{responseOf, exchangeOf, descriptionOf}
+use Rattle.message.specs.Shape.{exchangeOf}
+use Rattle.describe.specs.Describe.{descriptionOf}
 use borrow.Author.Needs.{needs}
 use Rattle.describe.proofs.description_of.Statement.{statement}
 use Rattle.describe.proofs.description_of.Tie as tie
@@ -73,7 +74,7 @@ returns-2 c =
     rw (c .before .before .m .given .1, ← c .goal-of .ensures)
 
 returns-3 : tie.Need-returns-3
-unfolding responseOf descriptionOf
+unfolding descriptionOf
 returns-3 c = rw (c .before .before .m2 .given .1) (c .response-of .ensures)
 
 returns-4 : tie.Need-returns-4

@@ -1,6 +1,6 @@
 -- `describe::response_of` meets its contract.
 -- Assumes nothing.
-use Rattle.describe.specs.Describe.{responseOf}
+use Rattle.describe.specs.Describe.{descriptionOf}
 use borrow.Author.Needs.{needs}
 use Rattle.describe.proofs.response_of.Statement.{statement}
 use Rattle.describe.proofs.response_of.Tie as tie
@@ -16,7 +16,7 @@ extra-of-requires : tie.Need-extra-of-requires
 extra-of-requires c κs = search needs
 
 returns : tie.Need-returns
-unfolding responseOf
+unfolding descriptionOf
 returns c =
     rw (← c .before .is-divert .ensures, ← c .extra-of .ensures)
 
