@@ -139,7 +139,7 @@ static void flood(struct ring *ring) {
     fields[GRASP_LIST_MANY] = 1;
     pair[GRASP_PAIR_NAME_AT] = GRASP_ADDRESS_BYTES;
     pair[GRASP_PAIR_NAME_LEN] = sizeof name;
-    pair[GRASP_PAIR_FLAGS] = 4;
+    pair[GRASP_PAIR_FLAGS] = GRASP_FLAG_SYNCHRONIZATION;
     pair[GRASP_PAIR_COUNT] = 6;
     pair[GRASP_PAIR_VALUE_AT] = GRASP_ADDRESS_BYTES + sizeof name;
     pair[GRASP_PAIR_VALUE_LEN] = sizeof value;

@@ -45,13 +45,14 @@ enum grasp_refusal {
     GRASP_UNKNOWN_KIND = 8, /* an array that begins with an unknown kind */
     GRASP_BAD_SHAPE = 9,    /* any other departure from the message shapes */
     GRASP_LONG_NAME = 10,   /* an objective's name over 64 bytes */
-    GRASP_BAD_TEXT = 11,    /* a named text that isn't UTF-8 */
+    GRASP_BAD_TEXT = 11,    /* an objective's name, a reason, a domain name or a URI that isn't UTF-8 */
     GRASP_BAD_RECORD = 12,  /* interfaces not 1 to 8, a link at or above them, or tally above 2^63 */
     GRASP_BAD_LINK = 13, /* arrival on no interface or on a link that is down, or new links with a bit at or
                             above the interfaces */
     GRASP_EARLY_CLOCK = 14,     /* clock earlier than the record's */
     GRASP_BAD_TABLE = 15,       /* table not 2,048 bytes long, or a row bad */
-    GRASP_BAD_NAMES = 16,       /* own names not an array of 0 to 16 texts of at most 64 bytes each */
+    GRASP_BAD_NAMES = 16,       /* own names not one array, with nothing after it and no head longer than
+                                   needed, of 0 to 16 UTF-8 texts of at most 64 bytes each */
     GRASP_SMALL_OUTPUT = 17,    /* the node call's output shorter than 2,048 bytes */
     GRASP_NO_SUCH_MESSAGE = 18, /* writing: no accepted message has this description */
     GRASP_SHORT_OUTPUT = 19,    /* writing: the output is shorter than the encoding */
@@ -71,6 +72,14 @@ enum grasp_kind {
     GRASP_SYNCH = 8,
     GRASP_FLOOD = 9,
     GRASP_INVALID = 99
+};
+
+/* The bits of an objective's flags (RFC 8990, section 2.10.2). */
+enum grasp_flag {
+    GRASP_FLAG_DISCOVERY = 1,
+    GRASP_FLAG_NEGOTIATION = 2,
+    GRASP_FLAG_SYNCHRONIZATION = 4,
+    GRASP_FLAG_DRY_RUN = 8
 };
 
 /* The most bytes of a message, and so the room that a node call's output must have. */
@@ -95,7 +104,7 @@ enum { GRASP_ADDRESS_BYTES = 16 };
  */
 struct grasp_record {
     uint8_t address[GRASP_ADDRESS_BYTES]; /* the node's own */
-    uint16_t port;
+    uint16_t port;      /* of an answer, whose locator is the address, TCP (6) and this port */
     uint32_t ttl;       /* of an answer, in ms */
     uint8_t interfaces; /* how many: 1 to 8 */
     uint8_t links;      /* bit i: interface i is up */
@@ -125,16 +134,16 @@ GRASP_ASSERT(offsetof(struct grasp_record, tally) == 40, "place of tally");
  */
 enum { GRASP_TABLE_BYTES = 2048 };
 
-/* What a node does with a message. */
+/* What a node does with a message: of 1 to 7, for a Discovery or a Flood, the first that applies. */
 enum grasp_verdict {
     GRASP_OWN = 1,       /* it began here */
     GRASP_ANSWER = 2,    /* a Discovery of an own name: send the output back */
-    GRASP_DUPLICATE = 3, /* relayed before, and its row lives */
-    GRASP_LAST = 4,      /* its count is used up */
+    GRASP_DUPLICATE = 3, /* relayed less than 60,000 ms ago, a Flood 120,000 */
+    GRASP_LAST = 4,      /* its count is 0 or 1 */
     GRASP_NOWHERE = 5,   /* no other link is up */
-    GRASP_NO_ROW = 6,    /* the table is full */
+    GRASP_NO_ROW = 6,    /* the table is full; in logs NOROW */
     GRASP_RELAY = 7,     /* send the output on */
-    GRASP_NOTHING = 8,   /* a Noop */
+    GRASP_NOTHING = 8,   /* a Noop; in logs NOOP */
     GRASP_HAND = 9       /* for the host */
 };
 
@@ -142,8 +151,9 @@ enum grasp_verdict {
 enum grasp_answer_field {
     GRASP_ANSWER_VERDICT = 0,
     GRASP_ANSWER_HANDED_UP = 1, /* 1 if the host is to look at the message */
-    GRASP_ANSWER_MASK = 2,      /* send on interface i where bit i is set */
-    GRASP_ANSWER_LENGTH = 3,    /* how many bytes of the output to send */
+    GRASP_ANSWER_MASK = 2,      /* send on interface i where bit i is set: RELAY, every other link that is up;
+                                   ANSWER, the one it came in by; else none */
+    GRASP_ANSWER_LENGTH = 3,    /* how many bytes of the output to send, 0 if there is nothing to */
     GRASP_ANSWER_FIELDS = 4
 };
 
@@ -167,10 +177,10 @@ uint8_t grasp_record_set_links(struct grasp_record *node, uint64_t links);
  * Says what the node does with a message that came in by an interface, at a clock
  * in ms. Answers 0, fills the answer, and changes the record (clock and tally),
  * the table and, where something is to be sent, the first bytes of the output; or
- * answers the number of the refusal, 12 to 17 and then 1 to 11, and leaves all as
- * it was. The names are one CBOR array of the node's own names (`80`: none). The
- * output must have room for GRASP_MESSAGE_BYTES. Record and table are handed in
- * as the call before left them.
+ * answers the number of the refusal, 12 to 17 and then 1 to 11 as grasp_read, and
+ * leaves all as it was. The names are one CBOR array of the node's own names
+ * (`80`: none). The output must have room for GRASP_MESSAGE_BYTES. Record and
+ * table are handed in as the call before left them.
  */
 uint8_t grasp_record_call(struct grasp_record *node, uint8_t *table, size_t table_size, uint64_t clock,
                           uint64_t interface, const uint8_t *names, size_t names_len, const uint8_t *message,
@@ -180,8 +190,10 @@ uint8_t grasp_record_call(struct grasp_record *node, uint8_t *table, size_t tabl
 
 /*
  * Where each field of a message stands in the block that grasp_read fills. A
- * place is an offset into the message's bytes. What a kind lacks is 0; a value or
- * an item that is left out has length 0, at the place where it would stand.
+ * place is an offset into the message's bytes. Addresses, names, reasons, domain
+ * names and URIs are contents without their heads; a value and Invalid's item are
+ * encoded items. What a message lacks is 0, but a value or Invalid's item that is
+ * left out has length 0 at the place where it would stand.
  */
 enum grasp_field {
     GRASP_KIND = 0,
@@ -192,7 +204,7 @@ enum grasp_field {
     GRASP_HAS_OBJECTIVE = 5, /* 1 if there is one; a Flood's is its first pair's */
     GRASP_NAME_AT = 6,
     GRASP_NAME_LEN = 7,
-    GRASP_FLAGS = 8,
+    GRASP_FLAGS = 8,     /* bits of enum grasp_flag */
     GRASP_COUNT = 9,     /* loop count */
     GRASP_COUNT_AT = 10, /* the head of the loop count ends at GRASP_VALUE_AT */
     GRASP_VALUE_AT = 11,
@@ -231,7 +243,9 @@ enum grasp_pair_field {
 
 /*
  * Reads the message that the len bytes are. Answers 0 and fills the block, or
- * answers the number of the refusal, 1 to 11, and leaves the block as it was.
+ * answers the number of the refusal, 1 to 11, and leaves the block as it was. Of
+ * several refusals it is the first of 1; that of the leftmost head at fault, 2 to
+ * 6; 7; 8; 9; 11; 10.
  */
 uint8_t grasp_read(const uint8_t *bytes, size_t len, uint64_t fields[GRASP_FIELDS]);
 
@@ -335,7 +349,7 @@ static inline struct grasp_span grasp_pair_value(const uint8_t *bytes, size_t le
  * Writes the message that a block describes, every head in its shortest form.
  * The block is laid out as grasp_read fills it; its places are offsets into the
  * source. Answers 0, stores the length and puts the encoding at the front of the
- * output, whose other bytes stay; or answers 18 or 19 and leaves all as it was.
+ * output, whose other bytes stay; or answers 18, else 19, and leaves all as it was.
  *
  * An objective's value and Invalid's item are encoded items and are copied; all
  * else is encoded from numbers and contents. The locators of a Response or of its
@@ -344,7 +358,8 @@ static inline struct grasp_span grasp_pair_value(const uint8_t *bytes, size_t le
  * GRASP_PAIR_COUNT_AT. `numbers` says how many numbers the list has in all, and
  * GRASP_LIST_MANY how many rows. In the block GRASP_COUNT_AT and GRASP_LIST_AT
  * are 0, of a Flood GRASP_HAS_OBJECTIVE to GRASP_VALUE_LEN too (its objectives
- * stand in the rows), and so is every field that the kind lacks; else 18.
+ * stand in the rows), and so is every field that the kind lacks; else 18. So a
+ * block that grasp_read filled is taken again once these are 0.
  */
 uint8_t grasp_write(const uint8_t *source, size_t len, const uint64_t *list, size_t numbers,
                     const uint64_t fields[GRASP_FIELDS], uint8_t *out, size_t size, uint64_t *length);
@@ -375,9 +390,12 @@ enum grasp_side { GRASP_WE = 0, GRASP_THEY = 1 };
  * grasp_read, then 20. A fresh state takes a Request of negotiation with a count
  * of at least 1, by either side. An open one takes from the side with the turn,
  * with the state's session: a Negotiate with a count one lower and at least 1, a
- * Wait, or an End. All else is 20, and so is a side or a state with a number that
- * isn't one of the above, a session over 32 bits or a count over 255. A state
- * that becomes closed has 0 in its other fields.
+ * Wait, or an End. A Request and a Negotiate give the turn to the other side; a
+ * Wait leaves the state as it was, and may be repeated. All else is 20, and so is a
+ * side or a state with a number that isn't one of the above, a session over 32
+ * bits, a count over 255, or a count of 0 in an open state. A state that becomes
+ * closed has 0 in its other fields. That a Negotiate is about the Request's
+ * objective is the host's to see to: names and values aren't compared.
  */
 uint8_t grasp_step(uint64_t state[GRASP_STATE_FIELDS], const uint8_t *bytes, size_t len, uint64_t side);
 
