@@ -1,4 +1,4 @@
-// The heads of an item that is known to be whole, one after the other: a head with its string, in place.
+// The heads of an item one after the other: a head with its string, in place.
 ghost use mathlib.Core.Path.{_≡_};
 ghost use Prim.Native.Nat.{_+_, _≤_, _<_, _^_};
 ghost use Rattle.cbor.specs.Token.{nothingAt, tokenOf, TokenIs, SizeIs, itemsIn, upTo};

@@ -7,16 +7,20 @@ use lib.Dec.{leb}
 use Rattle.base.specs.Pick.{pick}
 use Rattle.cbor.specs.Put.{put, written}
 
+-- where a step that would end at a place of so many bytes ends: there, or one past them
+abbrev pub endWithin : ℕ → ℕ → ℕ
+endWithin room end = pick (leb end room) end (room + 1)
+
 -- ---- `put::all`: bs stored from `at` on, and nothing where they don't fit
 unfoldable pub allEnd : List ℕ → ℕ → List ℕ → ℕ
-allEnd l at bs = pick (leb (at + length bs) (length l)) (at + length bs) (length l + 1)
+allEnd l at bs = endWithin (length l) (at + length bs)
 
 unfoldable pub allPut : List ℕ → ℕ → List ℕ → List ℕ
 allPut l at bs = pick (leb (at + length bs) (length l)) (put l at bs) l
 
 -- ---- `message`: bs at the front of the buffer, which is cleared where they don't fit
 unfoldable pub frontEnd : List ℕ → List ℕ → ℕ
-frontEnd l bs = pick (leb (length bs) (length l)) (length bs) (length l + 1)
+frontEnd l bs = endWithin (length l) (length bs)
 
 unfoldable pub frontPut : List ℕ → List ℕ → List ℕ
 frontPut l bs = pick (leb (length bs) (length l)) (written bs l) (replicate (length l) 0)

@@ -68,7 +68,7 @@ pub data ObjectiveItem : Item → Obj Value → Type 0 where
   valued : {w a b c : ℕ} {name : List ℕ} {flags count : ℕ} {x : Item} → flags ≤ 15 → count ≤ 255
       → ObjectiveItem (array w (text a name ∷ uint b flags ∷ uint c count ∷ x ∷ [])) (record { name = name; flags = flags; count = count; value = some x })
 
--- +locator-option
+-- *locator-option; that there is one at least is asked where it is due
 pub data LocatorItems : Items → List Loc → Type 0 where
   empty : LocatorItems Items.done []
   more : {x : Item} {l : Loc} {xs : Items} {ls : List Loc} → LocatorItem x l → LocatorItems xs ls → LocatorItems (Items.more x xs) (l ∷ ls)
@@ -101,7 +101,7 @@ abbrev pub joined : Items → Items → Items
 joined Items.done ys = ys
 joined (Items.more x xs) ys = Items.more x (joined xs ys)
 
--- (+locator-option / divert-option), ?objective
+-- (+locator-option // divert-option), ?objective
 pub data AimItems : Items → Aim → Option (Obj Value) → Type 0 where
   locators : {xs ys : Items} {l : Loc} {ls : List Loc} {obj : Option (Obj Value)} → LocatorItems xs (l ∷ ls) → OptionalItems ys obj
       → AimItems (joined xs ys) (Aim.locators (l ∷ ls)) obj

@@ -51,7 +51,7 @@ linked r mask =
 unfoldable pub setLinks : Record → ℕ → Kept
 setLinks r mask = pick (recordBad r) (keeps 12 r) (pick (leb (2 ^ r .interfaces) mask) (keeps 13 r) (keeps 0 (linked r mask)))
 
--- the link of interface i is up
+-- of a mask of links or copies: interface i is in it
 unfoldable pub isUp : ℕ → ℕ → Bool
 isUp mask i = hasBit mask i
 

@@ -23,7 +23,7 @@ use Rattle.options.specs.Objective.{objectiveIn}
 unfoldable pub isEmpty : Token → Bool
 isEmpty w = pick (eqb (w .major) 4) (eqb (w .arg) 0) false
 
--- a pair: an objective, and a locator or an empty array
+-- a pair whose second item was read as a locator
 unfoldable pub pairTagged : ℕ → Objective → ℕ → ℕ → LocatorRead → PairRead
 pairTagged at o bad long (LR.Bad place) = PR.Bad place
 pairTagged at o bad long (LR.Got l size bad′) = PR.Got o (Tag.At l) (at + size) (firstOf bad bad′) long
@@ -41,6 +41,7 @@ pairLed base s n at (OR.Got o size bad long) = unless (eqb n 2) (PR.Bad base) (p
 abbrev pub pairLevels : ℕ
 pairLevels = 3
 
+-- a pair: an array of an objective, and a locator or an empty array
 unfoldable pub pairIn : ℕ → List ℕ → PairRead
 pairIn base s =
     let a = tokenAt s 0 in

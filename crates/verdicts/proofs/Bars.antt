@@ -61,7 +61,7 @@ record-test r = (λ e. there (or-true (eqb n 0 || ltb 8 n || leb (2 ^ n) mask) (
 
     links : ((eqb n 0 || ltb 8 n) ≡ true) ⊎ (leb (2 ^ n) mask ≡ true) → BadRecord r
     links (inl e) = low (or-true (eqb n 0) (ltb 8 n) e)
-    links (inr e) = let (j, l, up) = high-bit mask n mask (below-power mask) (leb-true (2 ^ n) mask e) in high-link j l up
+    links (inr e) = let (j, l, up) = high-bit mask n mask (below-power mask) (leb-true (2 ^ n) mask e) in high-link (j, l, up)
 
     there : ((eqb n 0 || ltb 8 n || leb (2 ^ n) mask) ≡ true) ⊎ (ltb (2 ^ 63) (r .tally) ≡ true) → BadRecord r
     there (inl e) = links (or-true (eqb n 0 || ltb 8 n) (leb (2 ^ n) mask) e)
@@ -73,7 +73,7 @@ record-test r = (λ e. there (or-true (eqb n 0 || ltb 8 n || leb (2 ^ n) mask) (
     back : BadRecord r → (eqb n 0 || ltb 8 n || leb (2 ^ n) mask || ltb (2 ^ 63) (r .tally)) ≡ true
     back (no-interface e) = bad (inl (either (eqb n 0) (ltb 8 n) (inl (eq-eqb n 0 e))))
     back (many-interfaces l) = bad (inl (either (eqb n 0) (ltb 8 n) (inr (lt-ltb 8 n l))))
-    back (high-link j l up) = bad (inr (le-leb (2 ^ n) mask (le-trans (pow-mono l) (up-le mask j up))))
+    back (high-link (j, l, up)) = bad (inr (le-leb (2 ^ n) mask (le-trans (pow-mono l) (up-le mask j up))))
     back (high-tally l) = either (eqb n 0 || ltb 8 n || leb (2 ^ n) mask) (ltb (2 ^ 63) (r .tally)) (inr (lt-ltb (2 ^ 63) (r .tally) l))
 
 arrival-test : (r : Record) (c : Call) → arrivalBad r (c .interface) ≡ true ↔ BadArrival r c

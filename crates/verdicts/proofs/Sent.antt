@@ -29,7 +29,7 @@ use Rattle.node.specs.History.{isRelay, saysRelay}
 use Rattle.node.proofs.Outcomes.{arrives}
 use Rattle.history.proofs.Calls.{Relays, View, stayed, ended, went, view}
 use Rattle.verdicts.specs.Due.{Does, sends-nothing, answers, relays-discovery, relays-flood, Comes, barred-by, unread, given}
-use Rattle.verdicts.specs.Sent.{Relayed, answerTo}
+use Rattle.verdicts.specs.Sent.{Relayed, Answered}
 use Rattle.verdicts.proofs.Links.{others-exactly}
 use Rattle.verdicts.proofs.Ways.{comes, Says, says, says-once, no-refusal, does-say}
 use Rattle.verdicts.proofs.Rows.{freed-length, lowest-is, filled-row, table-good}
@@ -78,10 +78,10 @@ module _ (r : Record) (t : List ℕ) (c : Call) where
       (s, k .role, ups, went-on s mask len a k e masks longs)
 
   answered-by : {m : Message} {v : Verdict} {up : Bool} {a : After} → v ≡ Answer → Does r t c m v up a
-      → (session : ℕ) × (i : Span) × (o : Objective) × (m ≡ M.Discovery session i o) × (a ≡ answerTo r t c session i o)
+      → (session : ℕ) × (i : Span) × (o : Objective) × (m ≡ M.Discovery session i o) × Answered r t c session i a
   unfolding answered response clocked isRelay
   answered-by e (sends-nothing n k) = absurd (n e)
-  answered-by e (answers {session} {i} {o}) = (session, i, o, refl, refl)
+  answered-by e (answers {session} {i} {o}) = (session, i, o, refl, record { bytes = _; is = refl; output = refl; reply = refl; table = refl; node = refl })
   answered-by e relays-discovery = absurd (not-both true refl (ap isRelay e))
   answered-by e relays-flood = absurd (not-both true refl (ap isRelay e))
 
@@ -110,7 +110,7 @@ relay-does r t c up mask len = went-way r t c up mask len (nodeCall r t c) (view
 
 -- ANSWER writes a Response to a Discovery and sends it back by the arriving interface alone; no row is filled and nothing is tallied.
 pub answer-does : (r : Record) (t : List ℕ) (c : Call) (up : Bool) (mask len : ℕ) → nodeCall r t c .called .reply ≡ Given Answer up mask len
-    → (session : ℕ) × (i : Span) × (o : Objective) × (readOf (c .message) ≡ Reading.Read (M.Discovery session i o)) × (nodeCall r t c ≡ answerTo r t c session i o)
+    → (session : ℕ) × (i : Span) × (o : Objective) × (readOf (c .message) ≡ Reading.Read (M.Discovery session i o)) × Answered r t c session i (nodeCall r t c)
 answer-does r t c up mask len q =
     let (m, read, does) = gave r t c (comes r t c) q in
     let (session, i, o, is, after) = answered-by r t c refl does in

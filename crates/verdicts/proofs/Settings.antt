@@ -15,8 +15,8 @@ use Rattle.base.proofs.Bools.{or-true, not-both}
 use Rattle.node_state.specs.declared.Record.{Record}
 use Rattle.node_state.specs.Record.{linksBad, recordBad, begun, fresh, setLinks}
 use Rattle.node_state.proofs.Masks.{up-le}
-use Rattle.verdicts.specs.Bars.{BadRecord}
-use Rattle.verdicts.specs.Settings.{HighLink, Begun, LinksSet}
+use Rattle.verdicts.specs.Bars.{HighLink, BadRecord}
+use Rattle.verdicts.specs.Settings.{Begun, LinksSet}
 use Rattle.verdicts.proofs.Links.{below-power}
 use Rattle.verdicts.proofs.Bars.{high-bit, either, record-test}
 

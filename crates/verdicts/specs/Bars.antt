@@ -11,11 +11,15 @@ use Rattle.node_state.specs.Record.{isUp}
 use Rattle.node.specs.Call.{Call}
 use Rattle.verdicts.specs.Rows.{Free, Used}
 
+-- a bit of the mask is set at or above the count
+abbrev pub HighLink : ℕ → ℕ → Type 0
+HighLink interfaces mask = (j : ℕ) × (interfaces ≤ j) × (isUp mask j ≡ true)
+
 -- the interface count isn't 1 to 8, a link bit is set at or above it, or the tally is above 2^63
 pub data BadRecord (r : Record) : Type 0 where
   no-interface : r .interfaces ≡ 0 → BadRecord r
   many-interfaces : 8 < r .interfaces → BadRecord r
-  high-link : (j : ℕ) → r .interfaces ≤ j → isUp (r .links) j ≡ true → BadRecord r
+  high-link : HighLink (r .interfaces) (r .links) → BadRecord r
   high-tally : 2 ^ 63 < r .tally → BadRecord r
 
 -- the arriving interface isn't below the count, or its link is down

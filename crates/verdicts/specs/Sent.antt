@@ -7,17 +7,18 @@ use mathlib.Core.Path.{_≡_}
 use lib.Count.{ones}
 use lib.ListN.{length}
 use Rattle.options.specs.declared.Span.{Span}
-use Rattle.options.specs.declared.objective.Objective.{Objective}
 use Rattle.node_state.specs.declared.Record.{Record}
 use Rattle.node.specs.declared.Verdict.the-variants.{Answer}
 use Rattle.node.specs.declared.Reply.the-variants.{Given}
 use Rattle.node.specs.declared.role.Spread.{Spread}
 use Rattle.node_state.specs.Record.{isUp, clocked, tallied}
 use Rattle.node_state.specs.Table.{cell, freed}
-use Rattle.node.specs.Role.{spreadOf, keyIn}
+use Rattle.node.specs.Role.{keyIn}
+use Rattle.options.specs.Text.{held}
 use Rattle.cbor.specs.Put.{written}
+use Rattle.writer.specs.Write.{answerOf}
 use Rattle.roundtrip.specs.Lower.{onward}
-use Rattle.node.specs.Call.{Call, After, afterOf, replies, response}
+use Rattle.node.specs.Call.{Call, After}
 use Rattle.verdicts.specs.Rows.{Free, HasKey, SameRow}
 
 -- RELAY of s, which was read of the message, with the reply's mask and length, and what is after the call
@@ -39,8 +40,14 @@ pub record Relayed (r : Record) (t : List ℕ) (c : Call) (s : Spread) (mask len
   pub long : len ≡ length (onward (c .message) (s .objective))
   pub output : a .output ≡ written (onward (c .message) (s .objective)) (c .output)
 
--- ANSWER to a Discovery: a Response goes back by the arriving interface alone; no row is filled and nothing is tallied
-abbrev pub answerTo : Record → List ℕ → Call → ℕ → Span → Objective → After
-answerTo r t c session initiator o =
-    let bytes = response r (c .message) (spreadOf false session initiator o) in
-    afterOf (replies (Given Answer false (2 ^ c .interface) (length bytes)) (clocked r (c .clock))) (freed (c .clock) t) (written bytes (c .output))
+-- ANSWER to a Discovery, which was read of the message, and what is after the call
+pub record Answered (r : Record) (t : List ℕ) (c : Call) (session : ℕ) (initiator : Span) (a : After) : Type 0 where
+  -- a Response with the node's own locator is in front of the output
+  pub bytes : List ℕ
+  pub is : bytes ≡ answerOf session (held (c .message) initiator) (r .ttl) (r .address) (r .port)
+  pub output : a .output ≡ written bytes (c .output)
+  -- it goes back by the arriving interface alone, and the Discovery isn't handed up
+  pub reply : a .called .reply ≡ Given Answer false (2 ^ c .interface) (length bytes)
+  -- no row is filled, and nothing is tallied
+  pub table : a .table ≡ freed (c .clock) t
+  pub node : a .called .node ≡ clocked r (c .clock)

@@ -1,16 +1,10 @@
 -- Asking for a fresh record, and setting links (the rules, "Record and relay table" and "Refusal numbers", 12 and 13), said of the bits of a mask.
-use Prim.Native.Nat.{ℕ, _≤_}
-use mathlib.Core.Bool.{true}
+use Prim.Native.Nat.{ℕ}
 use mathlib.Core.List.{List}
-use mathlib.Core.Path.{_≡_}
 use Rattle.node_state.specs.declared.Record.{Record}
 use Rattle.node_state.specs.declared.Kept.{Kept}
-use Rattle.node_state.specs.Record.{keeps, begun, blank, linked, isUp}
-use Rattle.verdicts.specs.Bars.{BadRecord}
-
--- a bit of the mask is set at or above the count
-abbrev pub HighLink : ℕ → ℕ → Type 0
-HighLink interfaces mask = (j : ℕ) × (interfaces ≤ j) × (isUp mask j ≡ true)
+use Rattle.node_state.specs.Record.{keeps, begun, blank, linked}
+use Rattle.verdicts.specs.Bars.{HighLink, BadRecord}
 
 -- 12, beside a blank record, where the record would be bad; else the record, with clock and tally 0
 pub data Begun (address : List ℕ) (port ttl interfaces mask : ℕ) : Kept → Type 0 where

@@ -137,7 +137,7 @@ fn put_lowered(out: &mut [u8], message: &[u8], at: usize, end: usize, count: u8)
     put::all(out, b, &message[end..])
 }
 
-// How many bytes an answer has: six heads of one or two bytes that are always the same, and what differs.
+// How many bytes an answer has: five heads that are always the same, six bytes together, and what differs.
 fn answer_len(session: u32, initiator: &[u8], ttl: u32, address: &[u8; 16], port: u16) -> usize
     ensures { λ r. ⌜ r ≡ length (answerOf session (now (initiator .entry)) ttl (now (address .entry)) port) ⌝ }
 {
