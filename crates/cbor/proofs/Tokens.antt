@@ -1,25 +1,26 @@
 -- The bounds of a token and of an item's size, and how the code's answers meet the definitions.
 -- Assumes nothing.
 use mathlib.Core.Path.{_≡_, refl, sym, ap, _∙_, subst}
-use mathlib.Core.List.{List, []}
+use mathlib.Core.List.{List, [], _∷_}
 use mathlib.Core.Bool.{Bool, true, false}
-use Prim.Native.Nat.{ℕ, _+_, _-_, _≤_, _<_, zero-le}
+use Prim.Native.Nat.{ℕ, _+_, _-_, _/_, _%_, _≤_, _<_, zero-le}
 use native.Mathlib.Nat.{le-refl}
 use native.Mathlib.Omega.{arith}
 use lib.ListN.{length, take, drop, length-drop}
 use lib.Seq.{drop-drop}
-use lib.Dec.{ltb, leb}
-use borrow.Author.Tests.{leb-true, leb-false}
+use lib.Dec.{ltb, leb, eqb, lit≤}
+use borrow.Author.Tests.{ltb-true, ltb-false, leb-true, leb-false, eqb-true}
 use Rattle.base.specs.Pick.{pick}
 use Rattle.base.proofs.Picks.{pick-case, both}
 use Rattle.base.proofs.Parts.{rest-is, drop-past}
 use Rattle.cbor.specs.declared.head.HeadRead.{HeadRead}
 use Rattle.cbor.specs.declared.item.ItemRead.{ItemRead}
 use Rattle.cbor.specs.declared.token.Token.{Token}
-use Rattle.cbor.specs.Head.{headAt}
+use Rattle.cbor.specs.Head.{widthOf, argOf, headAt}
 use Rattle.cbor.specs.Item.{firstItem, run, enough, next, stepAt, stepFrom}
-use Rattle.cbor.specs.Token.{nothingAt, tokenOf, tokenFrom, tokenAt, TokenIs, sizeFrom, sizeAt, SizeIs}
+use Rattle.cbor.specs.Token.{nothingAt, tokenOf, tokenFrom, tokenAt, TokenIs, sizeFrom, sizeAt, SizeIs, itemsIn, upTo}
 use Rattle.cbor.proofs.Bounds.{HeadOk, head-ok}
+use Rattle.cbor.proofs.HeadExact.{judged-case, first-case}
 use Rattle.cbor.proofs.Within.{item-within}
 
 abbrev Bounds : ℕ → ℕ → Token → Type 0
@@ -87,6 +88,74 @@ head-fits s at major arg len y e q =
 
 pub token-end : (s : List ℕ) (at : ℕ) → tokenAt s at .next ≤ length s
 token-end s at = token-is s at (tokenAt s at) refl .end
+
+-- ---- by its numbers
+-- items are of an array
+pub is-array : (w : Token) → (itemsIn w ≡ 0 → ⊥) → w .major ≡ 4
+unfolding itemsIn
+is-array w = pick-case (λ n. (n ≡ 0 → ⊥) → w .major ≡ 4) (eqb (w .major) 4) (λ e _. eqb-true (w .major) 4 e) (λ e n. absurd (n refl))
+
+-- a number within its limit
+pub is-number : (limit : ℕ) (w : Token) → upTo limit w ≤ limit → (w .major ≡ 0) × (upTo limit w ≡ w .arg)
+unfolding upTo
+is-number limit w =
+    pick-case by (eqb (w .major) 0)
+    (λ e. pick-case by (leb (w .arg) limit) (λ _ _. (eqb-true (w .major) 0 e, refl)) (λ _ h. absurd (omega arith)))
+    (λ e h. absurd (omega arith))
+  where
+    by : ℕ → Type 0
+    by n = n ≤ limit → (w .major ≡ 0) × (n ≡ w .arg)
+
+-- ---- the least that a token has
+-- a head with an argument above 23 has two bytes at least
+abbrev HeadLong : HeadRead → Type 0
+HeadLong (HeadRead.Refused number place) = Unit {0}
+HeadLong (HeadRead.Head major arg len) = 23 < arg → 2 ≤ len
+
+head-long : (s : List ℕ) → HeadLong (headAt s)
+unfolding headAt argOf widthOf pick
+head-long [] = tt
+head-long (first ∷ s) =
+    first-case HeadLong first s (λ _ _. tt) (λ _. tt) (λ _ _. tt)
+    (λ _ _. judged-case HeadLong (first / 32) (argOf first (widthOf (first % 32)) s) (widthOf (first % 32)) (λ _ _ _. tt) (λ _ _. tt) (λ _ _ over. let one = wide over in omega arith))
+  where
+    By : ℕ → Type 0
+    By width = 23 < argOf first width s → 1 ≤ width
+
+    wide : By (widthOf (first % 32))
+    wide =
+        pick-case By (ltb (first % 32) 24) (λ e over. absurd (omega (arith, ltb-true (first % 32) 24 e)))
+        (λ _. both By (eqb (first % 32) 24) (λ _. lit≤ tt) (both By (eqb (first % 32) 25) (λ _. lit≤ tt) (both By (eqb (first % 32) 26) (λ _. lit≤ tt) (λ _. lit≤ tt))))
+
+-- a byte, two where the argument is above 23, and a string's own
+pub record TokenHas (at : ℕ) (t : Token) : Type 0 where
+  pub some : t .major < 8 → at + 1 ≤ t .next
+  pub wide : 23 < t .arg → at + 2 ≤ t .next
+  pub string : 1 < t .major → t .major < 4 → t .next ≡ t .body + t .arg
+
+nothing-has : (at : ℕ) → TokenHas at (nothingAt at)
+unfolding nothingAt
+nothing-has at = record { some = λ k. absurd (omega arith); wide = λ k. absurd (omega arith); string = λ _ k. absurd (omega arith) }
+
+has-from : (at room : ℕ) (x : HeadRead) → HeadOk room x → HeadLong x → TokenHas at (tokenFrom at room x)
+unfolding tokenFrom tokenOf
+has-from at room (HeadRead.Refused number place) h l = nothing-has at
+has-from at room (HeadRead.Head major arg len) h l =
+    pick-case Has _
+    (λ e. pick-case Has _
+    (λ f. both Has _ (record { some = λ _. omega arith; wide = λ k. omega (arith, l k); string = λ _ _. refl }) (nothing-has at))
+    (λ f. leaf (λ _ k. omega (arith, ltb-false major 4 f))))
+    (λ e. leaf (λ k _. omega (arith, ltb-false 1 major e)))
+  where
+    Has : Token → Type 0
+    Has = TokenHas at
+
+    leaf : (1 < major → major < 4 → ⊥) → Has (record { at = at; major = major; arg = arg; body = at + len; next = at + len })
+    leaf other = record { some = λ _. omega (arith, h .0); wide = λ k. omega (arith, l k); string = λ j k. absurd (other j k) }
+
+pub token-has : (s : List ℕ) (at : ℕ) → TokenHas at (tokenAt s at)
+unfolding tokenAt
+token-has s at = has-from at (length (drop at s)) (headAt (drop at s)) (head-ok (drop at s)) (head-long (drop at s))
 
 -- ---- a token seen from an earlier place
 -- the same head with its string at two places: one is nothing where the other is, and the next heads lie as far off

@@ -14,14 +14,14 @@ use Rattle.base.specs.Lists.{Every}
 use Rattle.base.proofs.Picks.{pick-case}
 use Rattle.cbor.specs.Token.{tokenAt, sizeAt, itemsIn, upTo}
 use Rattle.cbor.specs.Tree.{Item, Items, count, depth}
-use Rattle.cbor.proofs.Tokens.{token-is, token-end}
+use Rattle.cbor.proofs.Tokens.{token-is, token-end, is-array}
 use Rattle.options.specs.Text.{contentIn, contentOf}
 use Rattle.syntax.specs.Message.{Ending, Msg}
 use Rattle.grammar.specs.Cddl.{uint, list, Number, EndingItem, MessageItem}
 use Rattle.grammar.specs.Limits.{Utf8, textsOf, namesOf, endingTexts}
 use Rattle.grammar.specs.Stands.{Stands, StandAll, ValueIs, Before}
 use Rattle.grammar.proofs.Bridge.{token-heading, advances, join, none as no-items, last, only}
-use Rattle.grammar.proofs.Pieces.{is-array, array-at, array-items, number-here, number-is}
+use Rattle.grammar.proofs.Pieces.{array-at, array-items, number-here, number-is}
 use Rattle.grammar.proofs.Texts.{bad-text}
 use Rattle.grammar.proofs.Sizes.{sized-item, item-sized}
 use Rattle.options.specs.declared.Outcome.{Outcome}

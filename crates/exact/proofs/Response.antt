@@ -15,7 +15,7 @@ use Rattle.base.proofs.Picks.{pick-case, both}
 use Rattle.cbor.specs.declared.token.Token.{Token}
 use Rattle.cbor.specs.Token.{tokenAt, itemsIn, upTo}
 use Rattle.cbor.specs.Tree.{Item, Items, count, depth, depths}
-use Rattle.cbor.proofs.Tokens.{token-end}
+use Rattle.cbor.proofs.Tokens.{token-end, is-array}
 use Rattle.options.specs.declared.objective.ObjectiveRead.{ObjectiveRead}
 use Rattle.options.specs.Text.{firstOf}
 use Rattle.options.specs.Objective.{objectiveAt}
@@ -26,7 +26,7 @@ use Rattle.grammar.specs.Stands.{Stands, StandAll, ArrayHead, ObjectiveIs}
 use Rattle.grammar.proofs.Depths.{locators-depth}
 use Rattle.grammar.proofs.Objectives.{objective-sound}
 use Rattle.grammar.proofs.Bridge.{token-heading, join, none as no-items, last, split, none-end}
-use Rattle.grammar.proofs.Pieces.{is-array, array-items, array-at, array-head, number-here, number-is}
+use Rattle.grammar.proofs.Pieces.{array-items, array-at, array-head, number-here, number-is}
 use Rattle.message.specs.declared.Targets.{Targets}
 use Rattle.message.specs.declared.Extra.{Extra}
 use Rattle.message.specs.declared.opening.Opening.{Opening}

@@ -23,12 +23,12 @@ use Rattle.cbor.specs.Token.{tokenAt, itemsIn}
 use Rattle.cbor.specs.Tree.{Item, Items, Good, Right, headBytes, count, encode, encodes, depth}
 use Rattle.cbor.proofs.Accepts.{item-accepts}
 use Rattle.cbor.proofs.HeadExact.{head-read}
-use Rattle.cbor.proofs.Tokens.{token-end}
+use Rattle.cbor.proofs.Tokens.{token-end, is-array}
 use Rattle.syntax.specs.Message.{Msg}
 use Rattle.grammar.specs.Cddl.{uint, MessageItem, Value}
 use Rattle.grammar.specs.Stands.{Stands, StandAll}
 use Rattle.grammar.proofs.Bridge.{Heading, token-heading, split, last, stands-once}
-use Rattle.grammar.proofs.Pieces.{is-array, array-items, array-at, array-head}
+use Rattle.grammar.proofs.Pieces.{array-items, array-at, array-head}
 use Rattle.message.specs.declared.Message.{Message}
 use Rattle.message.specs.declared.shape.Shape.{Shape}
 use Rattle.message.specs.declared.shape.Shape.the-variants as S

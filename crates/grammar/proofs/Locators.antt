@@ -19,7 +19,7 @@ use Rattle.base.proofs.Parts.{bytes-drop}
 use Rattle.cbor.specs.declared.token.Token.{Token}
 use Rattle.cbor.specs.Tree.{Item, count}
 use Rattle.cbor.specs.Token.{tokenAt, itemsIn, upTo}
-use Rattle.cbor.proofs.Tokens.{token-is, token-end}
+use Rattle.cbor.proofs.Tokens.{token-is, token-end, is-array}
 use Rattle.options.specs.declared.locator.Locator.{Locator}
 use Rattle.options.specs.declared.locator.LocatorRead.{LocatorRead}
 use Rattle.options.specs.Text.{contentIn}
@@ -29,7 +29,7 @@ use Rattle.grammar.specs.Cddl.{LocatorItem}
 use Rattle.grammar.specs.Limits.{Utf8, locTexts}
 use Rattle.grammar.specs.Stands.{Stands, locOf}
 use Rattle.grammar.proofs.Bridge.{split, join, last, only, lift-first, sink-first, advances, string-major, token-heading, number-token, text-token, array-token}
-use Rattle.grammar.proofs.Pieces.{is-array, array-items, number-is, number-here, text-size, text-at, array-at, content-there}
+use Rattle.grammar.proofs.Pieces.{array-items, number-is, number-here, text-size, text-at, array-at, content-there}
 use Rattle.grammar.proofs.One.{locator-one}
 use Rattle.grammar.proofs.LocatorParts.{AddressIs, Shape, shape-of, shape-item, shape-texts, protocol-here, port-here, address-here, protocol-reads, port-reads, address-reads}
 

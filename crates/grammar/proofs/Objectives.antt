@@ -21,7 +21,7 @@ use Rattle.cbor.specs.Item.{leftUnder}
 use Rattle.cbor.specs.Tree.{Item, Items, count, depth, depths}
 use Rattle.cbor.specs.Token.{tokenAt, sizeAt, itemsIn, upTo}
 use Rattle.cbor.proofs.HeadExact.{length-head}
-use Rattle.cbor.proofs.Tokens.{token-is, token-end}
+use Rattle.cbor.proofs.Tokens.{token-is, token-end, is-array}
 use Rattle.options.specs.declared.objective.Objective.{Objective}
 use Rattle.options.specs.declared.objective.ObjectiveRead.{ObjectiveRead}
 use Rattle.options.specs.Text.{spanOf, contentIn, badText}
@@ -31,7 +31,7 @@ use Rattle.grammar.specs.Cddl.{uint, text, ObjectiveItem, Value}
 use Rattle.grammar.specs.Limits.{Utf8, Short}
 use Rattle.grammar.specs.Stands.{Stands, StandAll, ArrayHead, ValueIs, itemsWith, ObjectiveIs}
 use Rattle.grammar.proofs.Bridge.{split, join, none as no-more, none-end, only, last, lift, lift-first, sink-first, advances, token-heading, number-token, text-token, array-token}
-use Rattle.grammar.proofs.Pieces.{is-array, array-items, number-is, number-here, text-size, text-at, array-at, array-head, lift-head, content-there}
+use Rattle.grammar.proofs.Pieces.{array-items, number-is, number-here, text-size, text-at, array-at, array-head, lift-head, content-there}
 use Rattle.grammar.proofs.Texts.{bad-text, long-name}
 use Rattle.grammar.proofs.Sizes.{sized-item, item-sized}
 

@@ -21,6 +21,7 @@ use Rattle.cbor.specs.declared.token.Token.{Token}
 use Rattle.cbor.specs.Item.{leftUnder}
 use Rattle.cbor.specs.Tree.{Item, count, depth}
 use Rattle.cbor.specs.Token.{tokenAt, itemsIn}
+use Rattle.cbor.proofs.Tokens.{is-array}
 use Rattle.options.specs.declared.locator.Locator.{Locator}
 use Rattle.options.specs.declared.locator.LocatorRead.{LocatorRead}
 use Rattle.options.specs.declared.objective.Objective.{Objective}
@@ -36,7 +37,7 @@ use Rattle.grammar.specs.Cddl.{array, LocatorItem, ObjectiveItem, PairIt
 use Rattle.grammar.specs.Limits.{Utf8, Short, tagTexts, pairTexts}
 use Rattle.grammar.specs.Stands.{Stands, ArrayHead, tagOf, ObjectiveIs}
 use Rattle.grammar.proofs.Bridge.{split, join, none as no-more, none-end, only, last, lift, lift-first, sink-sized, sink-first, advances, Heading, token-heading, array-token}
-use Rattle.grammar.proofs.Pieces.{both-hold, is-array, array-items, array-at, array-head, lift-head}
+use Rattle.grammar.proofs.Pieces.{both-hold, array-items, array-at, array-head, lift-head}
 use Rattle.grammar.proofs.Texts.{first-zero}
 use Rattle.grammar.proofs.Depths.{locator-depth}
 use Rattle.grammar.proofs.LocatorParts.{Shape, shape-of}

@@ -8,16 +8,16 @@ use Prim.Native.Nat.{ℕ, suc, _+_, _-_, _≤_, _<_}
 use native.Mathlib.Omega.{arith}
 use lib.ListN.{length, take, drop, length-append, length-drop, take-append-drop}
 use lib.Seq.{drop-drop, length-take-le}
-use lib.Dec.{leb, eqb, lit<, lit≤}
-use borrow.Author.Tests.{eqb-true, eq-eqb, le-leb}
+use lib.Dec.{lit<, lit≤}
+use borrow.Author.Tests.{eq-eqb, le-leb}
 use Rattle.base.specs.Pick.{pick}
 use Rattle.base.specs.BigEndian.{Bytes}
-use Rattle.base.proofs.Picks.{pick-case}
 use Rattle.base.proofs.Parts.{bytes-drop, bytes-take}
 use Rattle.cbor.specs.declared.token.Token.{Token}
 use Rattle.cbor.specs.Tree.{Item, Items, headBytes, Right, count, encode, encodes, Good}
 use Rattle.cbor.specs.Token.{tokenAt, itemsIn, upTo}
 use Rattle.cbor.proofs.HeadExact.{length-head}
+use Rattle.cbor.proofs.Tokens.{is-number}
 use Rattle.options.specs.Text.{contentIn}
 use Rattle.grammar.specs.Stands.{Stands, StandAll, ArrayHead}
 use Rattle.grammar.proofs.Bridge.{Heading, token-heading, string-major}
@@ -34,27 +34,12 @@ pub both-hold : (t : Bool) {u : Bool} → pick t u false ≡ true → (t ≡ tru
 both-hold t q = kept t q (λ e. let z : _≡_ {A = ℕ} 0 1 = cc in omega arith)
 
 -- ---- numbers of a token
--- items are of an array
-pub is-array : (w : Token) → (itemsIn w ≡ 0 → ⊥) → w .major ≡ 4
-unfolding itemsIn
-is-array w = pick-case (λ n. (n ≡ 0 → ⊥) → w .major ≡ 4) (eqb (w .major) 4) (λ e _. eqb-true (w .major) 4 e) (λ e n. absurd (n refl))
-
--- and an array that has items has them
+-- an array that has items has them
 pub array-items : (w : Token) (n : ℕ) → w .major ≡ 4 → w .arg ≡ suc n → itemsIn w ≡ 0 → ⊥
 unfolding itemsIn pick
 array-items w n e f z = let y : w .arg ≡ 0 = rw (eq-eqb _ _ e) at z in omega arith
 
--- a number within its limit, and back
-pub is-number : (limit : ℕ) (w : Token) → upTo limit w ≤ limit → (w .major ≡ 0) × (upTo limit w ≡ w .arg)
-unfolding upTo
-is-number limit w =
-    pick-case by (eqb (w .major) 0)
-    (λ e. pick-case by (leb (w .arg) limit) (λ _ _. (eqb-true (w .major) 0 e, refl)) (λ _ h. absurd (omega arith)))
-    (λ e h. absurd (omega arith))
-  where
-    by : ℕ → Type 0
-    by n = n ≤ limit → (w .major ≡ 0) × (n ≡ w .arg)
-
+-- a number within a limit
 pub number-is : (limit : ℕ) (w : Token) → w .major ≡ 0 → w .arg ≤ limit → upTo limit w ≡ w .arg
 unfolding upTo pick
 number-is limit w e h = rw (eq-eqb (w .major) 0 e, le-leb (w .arg) limit h)

@@ -3,7 +3,7 @@
 use mathlib.Core.Path.{_≡_, refl, sym, _∙_, subst}
 use mathlib.Core.List.{List}
 use mathlib.Core.Bool.{Bool, true, false}
-use Prim.Native.Nat.{ℕ, zero, suc, _+_, _-_, _≤_, _<_}
+use Prim.Native.Nat.{ℕ, zero, suc, _+_, _-_, _*_, _≤_, _<_}
 use native.Mathlib.Nat.{le-refl}
 use native.Mathlib.Omega.{arith}
 use lib.ListN.{length}
@@ -18,7 +18,7 @@ use Rattle.options.specs.declared.pair.PairRead.{PairRead}
 use Rattle.options.specs.Text.{firstOf}
 use Rattle.options.specs.Locator.{locatorAt}
 use Rattle.options.specs.Pair.{pairAt}
-use Rattle.options.proofs.Fits.{LocatorOk, locator-within, pair-within}
+use Rattle.options.proofs.Fits.{LocatorOk, PairOk, locator-within, pair-within}
 use Rattle.message.specs.declared.opening.OpeningRead.{OpeningRead}
 use Rattle.message.specs.declared.sequence.LocatorsRead.{LocatorsRead}
 use Rattle.message.specs.declared.sequence.PairsRead.{PairsRead}
@@ -36,26 +36,52 @@ opening-ok s at = both ok _ tt (both ok _ (both ok _ tt (token-end s _)) tt)
 pub opening-is : (s : List ℕ) (at : ℕ) (r : OpeningRead) → r ≡ openingAt s at → OpeningIs s at r
 opening-is s at r e = record { is = e; within = subst (OpeningOk (length s)) (sym e) (opening-ok s at) }
 
--- ---- the locators end within the message
-next-ok : (s : List ℕ) (n at bad : ℕ) (x : LocatorRead) → at ≤ length s → LocatorOk (length s - at) x
-    → ((at′ bad′ : ℕ) → at′ ≤ length s → LocatorsOk (length s) n (locatorsFrom s n at′ bad′)) → LocatorsOk (length s) (suc n) (locatorNext (locatorsFrom s n) at bad x)
-unfolding locatorNext
-next-ok s n at bad (LocatorRead.Bad place) h k rest = tt
-next-ok s n at bad (LocatorRead.Got l size b) h k rest = wider (locatorsFrom s n (at + size) (firstOf bad b)) (rest (at + size) (firstOf bad b) (omega arith))
-  where
-    wider : (r : LocatorsRead) → LocatorsOk (length s) n r → LocatorsOk (length s) (suc n) r
-    wider (LocatorsRead.Bad place) k = tt
-    wider (LocatorsRead.Ran end left b) k = (k .0, omega arith)
+-- ---- locators and pairs, one after the other: each has six bytes at least, and they end within the message
+module _ (s : List ℕ) where
+  abbrev pub LocatorsRan : ℕ → ℕ → LocatorsRead → Type 0
+  LocatorsRan n at (LocatorsRead.Bad place) = Unit {0}
+  LocatorsRan n at (LocatorsRead.Ran end left bad) = (at + 6 * (n - left) ≤ end) × (left ≤ n) × (end ≤ length s)
 
-locators-ok : (s : List ℕ) (n at bad : ℕ) → at ≤ length s → LocatorsOk (length s) n (locatorsFrom s n at bad)
-unfolding locatorsFrom
-locators-ok s zero at bad h = (h, le-refl 0)
-locators-ok s (suc n) at bad h =
-    both (LocatorsOk (length s) (suc n)) _ (h, le-refl (suc n))
-    (next-ok s n at bad (locatorAt s at) h (locator-within s at at _ _ refl refl) (λ at′ bad′ h′. locators-ok s n at′ bad′ h′))
+  locators-more : (n at size : ℕ) (r : LocatorsRead) → 6 ≤ size → LocatorsRan n (at + size) r → LocatorsRan (suc n) at r
+  locators-more n at size (LocatorsRead.Bad place) six h = tt
+  locators-more n at size (LocatorsRead.Ran end left bad) six h = (omega arith, omega arith, h .2)
+
+  pub locators-ran : (n at bad : ℕ) → at ≤ length s → LocatorsRan n at (locatorsFrom s n at bad)
+  unfolding locatorsFrom locatorNext
+  locators-ran zero at bad low = (omega arith, le-refl 0, low)
+  locators-ran (suc n) at bad low =
+      both (LocatorsRan (suc n) at) _ (omega arith, le-refl (suc n), low) (next (locators-ran n) (locatorAt s at) (locator-within s at at _ _ refl refl))
+    where
+      next : ((at′ bad′ : ℕ) → at′ ≤ length s → LocatorsRan n at′ (locatorsFrom s n at′ bad′)) → (x : LocatorRead) → LocatorOk (length s - at) x
+          → LocatorsRan (suc n) at (locatorNext (locatorsFrom s n) at bad x)
+      next go (LocatorRead.Bad place) h = tt
+      next go (LocatorRead.Got l size b) h = locators-more n at size (locatorsFrom s n (at + size) (firstOf bad b)) (h .0) (go (at + size) (firstOf bad b) (omega arith))
+
+  abbrev pub PairsRan : ℕ → ℕ → PairsRead → Type 0
+  PairsRan n at (PairsRead.Bad place) = Unit {0}
+  PairsRan n at (PairsRead.Ran end bad long) = (at + 6 * n ≤ end) × (end ≤ length s)
+
+  pairs-more : (n at size : ℕ) (r : PairsRead) → 6 ≤ size → PairsRan n (at + size) r → PairsRan (suc n) at r
+  pairs-more n at size (PairsRead.Bad place) six h = tt
+  pairs-more n at size (PairsRead.Ran end bad long) six h = (omega arith, h .1)
+
+  pub pairs-ran : (n at bad long : ℕ) → at ≤ length s → PairsRan n at (pairsFrom s n at bad long)
+  unfolding pairsFrom pairNext
+  pairs-ran zero at bad long low = (omega arith, low)
+  pairs-ran (suc n) at bad long low = next (pairs-ran n) (pairAt s at) (pair-within s at at _ _ refl refl)
+    where
+      next : ((at′ bad′ long′ : ℕ) → at′ ≤ length s → PairsRan n at′ (pairsFrom s n at′ bad′ long′)) → (x : PairRead) → PairOk at (length s - at) x
+          → PairsRan (suc n) at (pairNext (pairsFrom s n) at bad long x)
+      next go (PairRead.Bad place) h = tt
+      next go (PairRead.Got o t size b l) h =
+          pairs-more n at size (pairsFrom s n (at + size) (firstOf bad b) (firstOf long l)) (h .1) (go (at + size) (firstOf bad b) (firstOf long l) (omega arith))
+
+  locators-within : (n at : ℕ) (r : LocatorsRead) → LocatorsRan n at r → LocatorsOk (length s) n r
+  locators-within n at (LocatorsRead.Bad place) h = tt
+  locators-within n at (LocatorsRead.Ran end left bad) h = (h .2, h .1)
 
 pub locators-are : (s : List ℕ) (n from : ℕ) (r : LocatorsRead) → from ≤ length s → r ≡ locatorsFrom s n from 0 → LocatorsAre s n from r
-locators-are s n from r h e = record { is = e; within = subst (LocatorsOk (length s) n) (sym e) (locators-ok s n from 0 h) }
+locators-are s n from r h e = record { is = e; within = subst (LocatorsOk (length s) n) (sym e) (locators-within s n from (locatorsFrom s n from 0) (locators-ran s n from 0 h)) }
 
 -- ---- the turns of the loops
 less : (m : ℕ) → suc m - 1 ≡ m

@@ -3,26 +3,21 @@
 use mathlib.Core.Path.{_≡_, refl, ap, _∙_, subst}
 use mathlib.Core.List.{List}
 use mathlib.Core.Bool.{Bool, false}
-use Prim.Native.Nat.{ℕ, _≤_}
+use Prim.Native.Nat.{ℕ}
 use native.Mathlib.Nat.{add-zero}
 use native.Mathlib.Omega.{arith}
 use lib.ListN.{drop}
 use lib.Dec.{ltb, eqb}
-use borrow.Author.Tests.{ltb-false, eqb-true, eqb-false, ne-eqb}
+use borrow.Author.Tests.{ltb-false, eqb-false, ne-eqb}
 use Rattle.base.specs.Pick.{pick}
-use Rattle.base.proofs.Picks.{pick-case, both, past}
+use Rattle.base.proofs.Picks.{both, past}
 use Rattle.cbor.specs.declared.token.Token.{Token}
 use Rattle.cbor.specs.Token.{tokenAt, itemsIn, upTo}
-use Rattle.cbor.proofs.Tokens.{Shifted, token-shifted}
+use Rattle.cbor.proofs.Tokens.{is-number, Shifted, token-shifted}
 use Rattle.options.specs.declared.locator.LocatorRead.{LocatorRead}
 use Rattle.options.specs.declared.locator.Locator.{Locator}
 use Rattle.options.specs.Locator.{locatorIn, locatorReached, locatorAt}
 use Rattle.message.specs.Sequence.{textLed}
-
--- a number within its limit is a number
-numbered : (limit : ℕ) (t : Token) → upTo limit t ≤ limit → t .major ≡ 0
-unfolding upTo
-numbered limit t = pick-case (λ (n : ℕ). n ≤ limit → t .major ≡ 0) _ (λ e _. eqb-true (t .major) 0 e) (λ _ over. absurd (omega arith))
 
 -- what has items is there
 present : (t : Token) → (itemsIn t ≡ 0 → ⊥) → t .major ≡ 8 → ⊥
@@ -51,7 +46,7 @@ module _ (s : List ℕ) (at : ℕ) where
       let items = past (eqb (itemsIn array) 0) q (never _ l size bad) in
       let least = past (ltb (upTo 106 kind) 103) (items .1) (never _ l size bad) in
       let most = past (ltb 106 (upTo 106 kind)) (least .1) (never _ l size bad) in
-      (eqb-false (itemsIn array) 0 (items .0), numbered 106 kind (ltb-false 106 (upTo 106 kind) (most .0)))
+      (eqb-false (itemsIn array) 0 (items .0), is-number 106 kind (ltb-false 106 (upTo 106 kind) (most .0)) .0)
 
   here : Shifted at (tokenAt s at) array
   here = subst (λ (p : ℕ). Shifted at (tokenAt s p) array) (add-zero at) (token-shifted s at 0)

@@ -63,7 +63,7 @@ unfolding pairTail
 tail-ok m base s at o bad long h k =
     both (TagOk m) _ tt (tagged-ok m at o bad long (locatorIn (base + at) (drop at s)) (text-ok m (base + at) (drop at s) (omega (arith, length-drop at s))))
 
-led-ok : (m : List ℕ) (base : ℕ) (s : List ℕ) (n at : ℕ) (x : ObjectiveRead) → at ≤ length s → base + length s ≤ length m → ObjectiveOk (length s - at) x → TagOk m (pairLed base s n at x)
+led-ok : (m : List ℕ) (base : ℕ) (s : List ℕ) (n at : ℕ) (x : ObjectiveRead) → at ≤ length s → base + length s ≤ length m → ObjectiveOk (base + at) (length s - at) x → TagOk m (pairLed base s n at x)
 unfolding pairLed
 led-ok m base s n at (ObjectiveRead.Bad place) h k f = tt
 led-ok m base s n at (ObjectiveRead.Got o size bad long) h k f = both (TagOk m) _ (tail-ok m base s (at + size) o bad long (omega arith) k) tt
