@@ -7,7 +7,7 @@ use Prim.Native.Nat.{ℕ, suc, _+_, _-_, _≤_}
 use native.Mathlib.Omega.{arith}
 use lib.ListN.{length, length-append}
 use Rattle.cbor.specs.Item.{mostLevels}
-use Rattle.cbor.specs.Tree.{Item, Items, Right, Sized, headBytes, count, encode, encodes, depth, Good}
+use Rattle.cbor.specs.Tree.{Item, Items, Right, headBytes, count, encode, encodes, depth, Good}
 use Rattle.options.specs.declared.Span.{Span}
 use Rattle.options.specs.declared.objective.Objective.{Objective}
 use Rattle.syntax.specs.Message.{Loc, Obj, Pair, Msg}
@@ -29,7 +29,6 @@ pub record Hole (s : List ℕ) (at end n : ℕ) (msg : Msg Value) : Type 0 where
   pub shallow : (w m : ℕ) → depth (item w m) ≤ mostLevels
   -- the count's own head
   pub width : ℕ
-  pub sized : Sized width n
   pub whole : encode (item width n) ≡ s
   pub place : at ≡ length before
   pub ends : end ≡ at + length (headBytes 0 width n)
@@ -117,7 +116,6 @@ discovery-hole {w = w} {k} {y = y} {z} {o = o} kind number initiator objective s
       good = λ v n r. (g .0, (g .1 .0, (g .1 .1 .0, (g .1 .1 .1 .0, ((og .0, (og .1 .0, (og .1 .1 .0, (r, og .1 .1 .1 .1)))), tt)))));
       shallow = λ v n. deep;
       width = d;
-      sized = rw same (og .1 .1 .1 .0 .sized);
       whole = rw same e;
       place = simp length-append (omega arith);
       ends = rw same end;
@@ -156,7 +154,6 @@ flood-hole {s} {w} {k} {y = y} {z} {v} {xs = xs} {o} kind number initiator live 
           (g .0, (g .1 .0, (g .1 .1 .0, (g .1 .1 .1 .0, (g .1 .1 .1 .1 .0, ((pg .0, ((og .0, (og .1 .0, (og .1 .1 .0, (r, og .1 .1 .1 .1)))), pg .1 .1)), g .1 .1 .1 .1 .1 .1))))));
       shallow = λ j n. deep;
       width = d;
-      sized = rw same (og .1 .1 .1 .0 .sized);
       whole = rw same e;
       place = simp length-append (omega arith);
       ends = rw same end;

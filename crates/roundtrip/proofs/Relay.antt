@@ -4,21 +4,21 @@
 use mathlib.Core.Path.{_≡_, refl, sym, ap, _∙_, subst}
 use mathlib.Core.Logic.{_⊎_, inl, inr}
 use mathlib.Core.List.{List, [], _∷_, _++_, flatMap, append-assoc}
-use Prim.Native.Nat.{ℕ, _+_, _-_, _^_, _≤_, _<_}
+use Prim.Native.Nat.{ℕ, _+_, _-_, _≤_}
 use native.Mathlib.Omega.{arith}
 use lib.Dec.{lit<}
-use lib.ListN.{length, take, drop, length-append}
+use lib.ListN.{length, take, drop, length-append, length-drop}
 use borrow.Author.Tests.{ne-eqb, le-ltb}
-use lib.Seq.{take-at, drop-append-add, drop-at}
+use lib.Seq.{length-take-le, take-at, drop-append-add, drop-at}
 use Rattle.options.specs.Text.{held}
 use Rattle.base.specs.Pick.{pick}
 use Rattle.base.specs.BigEndian.{Bytes}
 use Rattle.cbor.specs.Put.{head, written}
-use Rattle.cbor.specs.Tree.{Item, Sized, shortest, headBytes, encode, Good}
-use Rattle.cbor.proofs.HeadExact.{length-head, shortest-right}
-use Rattle.cbor.proofs.PutExact.{shortest-head}
+use Rattle.cbor.specs.Tree.{Item, shortest, headBytes, encode, Good}
+use Rattle.cbor.proofs.HeadExact.{length-head, shortest-case, shortest-right}
 use Rattle.options.specs.declared.Span.{Span}
 use Rattle.options.specs.declared.objective.Objective.{Objective}
+use Rattle.options.proofs.Fits.{ObjectiveParts}
 use Rattle.syntax.specs.Message.{Msg}
 use Rattle.grammar.specs.Cddl.{Value}
 use Rattle.grammar.specs.Limits.{TextsGood, NamesGood, textsOf, namesOf, pairTexts}
@@ -29,6 +29,7 @@ use Rattle.message.specs.declared.Message.the-variants as M
 use Rattle.message.specs.declared.Reading.{Reading}
 use Rattle.contents.specs.Fields.{kindOf, sessionOf, initiatorOf, objectiveOf}
 use Rattle.message.specs.Read.{mostBytes, readOf}
+use Rattle.message.proofs.Least.{MessageParts, read-parts}
 use Rattle.exact.specs.Accepted.{Accepted}
 use Rattle.exact.specs.Describes.{InitiatorIs, Describes}
 use Rattle.exact.proofs.Exact.{accepted-exactly, accepted-bytes, accepted-described}
@@ -75,13 +76,21 @@ names-stay (Msg.flood s i t (p ∷ ps)) = refl
 names-stay (Msg.invalid s item) = refl
 
 -- ---- the head replaced
--- a head of the same width has one less
-sized-less : {w n : ℕ} → Sized w n → Sized w (n - 1)
-sized-less {n = n} (Sized.in-first h) = let l : n - 1 < 24 = omega arith in Sized.in-first l
-sized-less {n = n} (Sized.one h) = let l : n - 1 < 2 ^ 8 = omega arith in Sized.one l
-sized-less {n = n} (Sized.two h) = let l : n - 1 < 2 ^ 16 = omega arith in Sized.two l
-sized-less {n = n} (Sized.four h) = let l : n - 1 < 2 ^ 32 = omega arith in Sized.four l
-sized-less {n = n} (Sized.eight h) = let l : n - 1 < 2 ^ 64 = omega arith in Sized.eight l
+-- the objective's parts lie in the message
+lowers-parts : (s : List ℕ) {m : Message} {o : Objective} → Lowers m o → MessageParts s m → ObjectiveParts (length s) o
+lowers-parts s Lowers.discovery h = h .objective
+lowers-parts s Lowers.flood h = h .0 .objective
+
+-- the new head isn't longer, so the bytes are no more
+shorter : (s : List ℕ) (o : Objective) → ObjectiveParts (length s) o → length (onward s o) ≤ length s
+unfolding lowered head
+shorter s o h =
+    let n : ℕ = o .count - 1 in
+    let few : o .«count_at» + (1 + shortest n) ≤ o .value .at =
+    shortest-case (λ w. o .«count_at» + (1 + w) ≤ o .value .at) n (λ _. omega (arith, h .some)) (λ l _. omega (arith, h .wide (omega arith)))
+    (λ l _. absurd (omega (arith, h .limit))) (λ l _. absurd (omega (arith, h .limit))) (λ l. absurd (omega (arith, h .limit))) in
+    let front : length (take (o .«count_at») s) ≡ o .«count_at» = length-take-le (o .«count_at») s (omega (arith, h .some, h .counted)) in
+    simp length-append (omega (arith, front, length-head 0 (shortest n) n, length-drop (o .value .at) s, h .counted))
 
 module _ {s : List ℕ} {at end n : ℕ} {msg : Msg Value} (h : Hole s at end n msg) where
   -- the item with the count one lower
@@ -109,24 +118,8 @@ module _ {s : List ℕ} {at end n : ℕ} {msg : Msg Value} (h : Hole s at end n 
       ∙ drop-at (headBytes 0 (h .width) n) (h .after) (length (headBytes 0 (h .width) n)) refl in
       rw (front, back, append-assoc) (sym (h .spelt (shortest (n - 1)) (n - 1)))
 
-  -- they are no more
-  shorter : length (lowered s at end n) ≤ length s
-  unfolding less head
-  shorter =
-      let few : length (head 0 (n - 1)) ≤ length (headBytes 0 (h .width) (n - 1)) = shortest-head 0 (h .width) (n - 1) (sized-less (h .sized)) in
-      let l : length (lowered s at end n) ≡ length (h .before) + (length (headBytes 0 (shortest (n - 1)) (n - 1)) + length (h .after)) =
-      ap length (replaced ∙ h .spelt (shortest (n - 1)) (n - 1)) ∙ simp length-append in
-      let k : length s ≡ length (h .before) + (length (headBytes 0 (h .width) n) + length (h .after)) = ap length spelt ∙ simp length-append in
-      omega (arith, length-head 0 (h .width) n, length-head 0 (h .width) (n - 1))
-
-  -- the count's head lies in them
-  within : (at ≤ end) × (end ≤ length s)
-  within =
-      let k : length s ≡ length (h .before) + (length (headBytes 0 (h .width) n) + length (h .after)) = ap length spelt ∙ simp length-append in
-      (omega (arith, h .ends), omega (arith, h .ends, h .place))
-
   -- and they are accepted
-  lowered-accepted : length s ≤ mostBytes → TextsGood msg → NamesGood msg → (a : Accepted (lowered s at end n)) × (a .message .msg ≡ lowerMsg msg)
+  lowered-accepted : length (lowered s at end n) ≤ mostBytes → TextsGood msg → NamesGood msg → (a : Accepted (lowered s at end n)) × (a .message .msg ≡ lowerMsg msg)
   unfolding less
   lowered-accepted most texts names = (
     record {
@@ -136,7 +129,7 @@ module _ {s : List ℕ} {at end n : ℕ} {msg : Msg Value} (h : Hole s at end n 
                 record {
                   item = less;
                   bytes = sym replaced;
-                  most = omega (arith, shorter);
+                  most = most;
                   good = less-good;
                   shallow = h .shallow (shortest (n - 1)) (n - 1);
                 };
@@ -207,10 +200,15 @@ lowers-by (M.Wait session time) o k e = absurd (neither k (λ e. omega arith) (�
 lowers-by (M.Synch session objective) o k e = absurd (neither k (λ e. omega arith) (λ e. omega arith))
 lowers-by (M.Invalid session item) o k e = absurd (neither k (λ e. omega arith) (λ e. omega arith))
 
--- A Discovery or a Flood with its count's head replaced is accepted, as the same message with that count one lower.
+-- A Discovery or a Flood with its count's head replaced by the shortest of one less isn't longer.
+pub lowered-shorter : (s : List ℕ) (m : Message) (o : Objective) → readOf s ≡ Reading.Read m → Lowers m o → length (onward s o) ≤ length s
+lowered-shorter s m o q low = shorter s o (lowers-parts s low (read-parts s m q .1))
+
+-- It is accepted, as the same message with that count one lower.
 pub lowered-accepts : (s : List ℕ) (m : Message) (o : Objective) → readOf s ≡ Reading.Read m → Lowers m o → (a : Accepted s)
     → (a′ : Accepted (onward s o)) × (a′ .message .msg ≡ lowerMsg (a .message .msg))
-lowered-accepts s m o q low a = lowered-accepted (count-hole s m o q low a) (a .message .one .most) (a .texts) (a .names)
+lowered-accepts s m o q low a =
+    lowered-accepted (count-hole s m o q low a) (omega (arith, a .message .one .most, lowered-shorter s m o q low)) (a .texts) (a .names)
 
 -- It is read, with the kind, the session and the initiator that it had, and a count one lower.
 pub lowered-reads : (s : List ℕ) (m : Message) (o : Objective) → Bytes s → readOf s ≡ Reading.Read m → Lowers m o
@@ -222,10 +220,6 @@ lowered-reads s m o b q low =
     let (m′, q′) = accepted-exactly (onward s o) l .1 a′ in
     (m′, q′, relays low (accepted-described s m q a) (subst (Describes (onward s o) m′) same (accepted-described (onward s o) m′ q′ a′)))
 
--- It isn't longer.
-pub lowered-shorter : (s : List ℕ) (m : Message) (o : Objective) → Bytes s → readOf s ≡ Reading.Read m → Lowers m o → length (onward s o) ≤ length s
-lowered-shorter s m o b q low = shorter (count-hole s m o q low (accepted-exactly s b .0 (m, q)))
-
 -- It is what the writer writes for that message.
 pub lowered-written : (s : List ℕ) (m : Message) (o : Objective) → readOf s ≡ Reading.Read m → Lowers m o → (a : Accepted s)
     → onward s o ≡ encodeMsg (plain (lowerMsg (a .message .msg)))
@@ -234,14 +228,20 @@ lowered-written s m o q low a =
     sym (read-encoded (onward s o) a′) ∙ ap (λ (msg : Msg Value). encodeMsg (plain msg)) same
 
 -- So `lower` gives it, where the count is above 0 and the output has room for the message.
-pub lowered-given : (s : List ℕ) (m : Message) (o : Objective) (out : List ℕ) → Bytes s → readOf s ≡ Reading.Read m → Lowers m o → 1 ≤ o .count → length s ≤ length out
+pub lowered-given : (s : List ℕ) (m : Message) (o : Objective) (out : List ℕ) → readOf s ≡ Reading.Read m → Lowers m o → 1 ≤ o .count → length s ≤ length out
     → (lowerAnswer s (o .«count_at») (o .value .at) (o .count) out ≡ Written.Length (length (onward s o)))
     × (lowerOut s (o .«count_at») (o .value .at) (o .count) out ≡ written (onward s o) out)
 unfolding lowerAnswer lowerOut okLower passAnswer passOut passes pick
-lowered-given s m o out b q low some room =
-    let a = accepted-exactly s b .0 (m, q) in
-    let (lo, hi) = within (count-hole s m o q low a) in
-    let less : length (onward s o) ≤ length s = lowered-shorter s m o b q low in
-    let few : length (onward s o) ≤ mostBytes = omega (arith, a .message .one .most) in
-    rw (ne-eqb (o .count) 0 (λ e. omega arith), le-ltb (o .value .at) (o .«count_at») lo, le-ltb (length s) (o .value .at) hi, le-ltb mostBytes (length (onward s o)) few)
+lowered-given s m o out q low some room =
+    let (most, parts) = read-parts s m q in
+    let h = lowers-parts s low parts in
+    let less : length (onward s o) ≤ length s = shorter s o h in
+    let few : length (onward s o) ≤ mostBytes = omega arith in
+    let within : o .«count_at» ≤ o .value .at = omega (arith, h .some) in
+    rw (
+      ne-eqb (o .count) 0 (λ e. omega arith),
+      le-ltb (o .value .at) (o .«count_at») within,
+      le-ltb (length s) (o .value .at) (h .counted),
+      le-ltb mostBytes (length (onward s o)) few,
+    )
     (handed (onward s o) out (omega arith))
