@@ -56,5 +56,5 @@ count-of m o Lowers.flood = refl
 pub onward-count : (message : List ℕ) (s : Spread) → Bytes message → RoleIn message (Role.Spreads s) → told (onward message (s .objective)) .count ≡ s .objective .count - 1
 unfolding told toldBy
 onward-count message s b r =
-    let (m′, read, relays) = lowered-reads message (r .is) (s .objective) b (r .read) (role-spreading message s b r .lowers) in
+    let (m′, read, relays) = lowered-reads message (r .is) (s .objective) b (r .read) (role-spreading message s r .lowers) in
     ap (λ (x : Reading). toldBy (onward message (s .objective)) x .count) read ∙ count-of m′ (relays .objective) (relays .lowers) ∙ relays .lower

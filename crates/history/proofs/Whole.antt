@@ -69,7 +69,7 @@ module _ (x : Step) (s : Spread) (k : Known x s) where
   known-given = told-spread (x .call .message) s (k .facts .role)
 
   session-small : s .session < 2 ^ 32
-  session-small = role-spreading (x .call .message) s (k .bytes) (k .facts .role) .session
+  session-small = role-spreading (x .call .message) s (k .facts .role) .session
 
   -- how long its row lives
   row-life : rowLife (keyIn (x .call .message) s .first) ≡ pick (s .flood) 120000 60000

@@ -11,7 +11,6 @@ use lib.Seq.{length-take-le}
 use borrow.Author.Tests.{le-ltb}
 use Rattle.options.specs.Text.{held}
 use Rattle.base.specs.Pick.{pick}
-use Rattle.base.specs.BigEndian.{Bytes}
 use Rattle.base.proofs.Picks.{both}
 use Rattle.cbor.specs.Put.{head}
 use Rattle.cbor.specs.Tree.{shortest}
@@ -36,12 +35,12 @@ use Rattle.node.proofs.Spreads.{role-spreading, read-most}
 
 -- ---- a relay
 
-pub onward-given : (message out : List ℕ) (s : Spread) → Bytes message → RoleIn message (Role.Spreads s) → 1 ≤ s .objective .count → mostBytes ≤ length out
+pub onward-given : (message out : List ℕ) (s : Spread) → RoleIn message (Role.Spreads s) → 1 ≤ s .objective .count → mostBytes ≤ length out
     → (lowerAnswer message (s .objective .«count_at») (s .objective .value .at) (s .objective .count) out ≡ Written.Length (length (onward message (s .objective))))
     × (lowerOut message (s .objective .«count_at») (s .objective .value .at) (s .objective .count) out ≡ written (onward message (s .objective)) out)
-onward-given message out s b r some room =
+onward-given message out s r some room =
     let fits : length message ≤ length out = omega (arith, read-most message (Role.Spreads s) r) in
-    lowered-given message (r .is) (s .objective) out b (r .read) (role-spreading message s b r .lowers) some fits
+    lowered-given message (r .is) (s .objective) out (r .read) (role-spreading message s r .lowers) some fits
 
 -- ---- an answer
 

@@ -21,7 +21,7 @@ use Rattle.node.proofs.spread.relay_or_end.Reads as relay-or-end-reads
 use Rattle.node_state.proofs.table.knows.Reads as knows-reads
 
 is-own-requires : tie.Need-is-own-requires
-is-own-requires c κs = role-spreading (c .before .before .before .before .args .message .now) (c .before .before .before .before .args .s) (λ i. c .before .shared-slice-known2 .given i .fits) (c .before .before .before .before .pre .1) .within
+is-own-requires c κs = role-spreading (c .before .before .before .before .args .message .now) (c .before .before .before .before .args .s) (c .before .before .before .before .pre .1) .within
 
 quiet-requires : tie.Need-quiet-requires
 quiet-requires c κs = search needs
@@ -30,10 +30,10 @@ returns : tie.Need-returns
 returns c = own-outcome (c .before .before .before .before .before .before .before .args .node) (c .before .before .before .before .before .before .before .args .table .now) (callOf (c .before .before .before .before .before .before .before .args .node .clock) (c .before .before .before .before .before .before .before .args .interface) (c .before .before .before .before .before .before .before .args .names .now) (c .before .before .before .before .before .before .before .args .message .now) (c .before .before .before .before .before .before .before .args .out .now)) (c .before .before .before .before .before .before .before .args .s) _ (c .quiet .ensures) (sym (c .before .before .is-own .ensures) ∙ c .before .if1 .taken)
 
 is-ours-requires : tie.Need-is-ours-requires
-is-ours-requires c κs = role-spreading (c .before .before .before .before .before .before .args .message .now) (c .before .before .before .before .before .before .args .s) (λ i. c .before .before .before .shared-slice-known2 .given i .fits) (c .before .before .before .before .before .before .pre .1) .within
+is-ours-requires c κs = role-spreading (c .before .before .before .before .before .before .args .message .now) (c .before .before .before .before .before .before .args .s) (c .before .before .before .before .before .before .pre .1) .within
 
 answer-requires : tie.Need-answer-requires
-answer-requires c κs = (c .before .before .before .before .before .before .before .before .before .pre .0 .small, (c .before .before .before .before .before .before .before .before .before .pre .0 .fits, role-spreading (c .before .before .before .before .before .before .before .before .before .args .message .now) (c .before .before .before .before .before .before .before .before .before .args .s) (λ i. c .before .before .before .before .before .before .shared-slice-known2 .given i .fits) (c .before .before .before .before .before .before .before .before .before .pre .1) .within))
+answer-requires c κs = (c .before .before .before .before .before .before .before .before .before .pre .0 .small, (c .before .before .before .before .before .before .before .before .before .pre .0 .fits, role-spreading (c .before .before .before .before .before .before .before .before .before .args .message .now) (c .before .before .before .before .before .before .before .before .before .args .s) (c .before .before .before .before .before .before .before .before .before .pre .1) .within))
 
 same-length : tie.Need-same-length
 same-length c = search needs
@@ -42,7 +42,7 @@ returns-2 : tie.Need-returns-2
 returns-2 c = answer-outcome (c .before .before .before .before .before .before .before .before .before .before .before .before .args .node) (c .before .before .before .before .before .before .before .before .before .before .before .before .args .table .now) (callOf (c .before .before .before .before .before .before .before .before .before .before .before .before .args .node .clock) (c .before .before .before .before .before .before .before .before .before .before .before .before .args .interface) (c .before .before .before .before .before .before .before .before .before .before .before .before .args .names .now) (c .before .before .before .before .before .before .before .before .before .before .before .before .args .message .now) (c .before .before .before .before .before .before .before .before .before .before .before .before .args .out .now)) (c .before .before .before .before .before .before .before .before .before .before .before .before .args .s) (sym (c .before .before .before .before .before .before .before .is-own .ensures) ∙ c .before .before .before .before .before .before .if1 .left) _ _ (c .before .before .answer .ensures .0) (c .before .before .answer .ensures .1) (sym (c .before .before .before .before .before .is-ours .ensures) ∙ c .before .before .before .before .if2 .taken)
 
 key-in-requires : tie.Need-key-in-requires
-key-in-requires c κs = role-spreading (c .before .before .before .before .before .before .before .before .args .message .now) (c .before .before .before .before .before .before .before .before .args .s) (λ i. c .before .before .before .before .before .shared-slice-known2 .given i .fits) (c .before .before .before .before .before .before .before .before .pre .1) .within
+key-in-requires c κs = role-spreading (c .before .before .before .before .before .before .before .before .args .message .now) (c .before .before .before .before .before .before .before .before .args .s) (c .before .before .before .before .before .before .before .before .pre .1) .within
 
 knows-requires : tie.Need-knows-requires
 knows-requires c κs = search needs
