@@ -11,8 +11,8 @@ use lib.ListN.{length, take, length-append}
 use lib.Dec.{ltb, eqb, lit<}
 use borrow.Author.Tests.{lt-ltb, le-ltb, lt-leb, ne-eqb, ltb-true, ltb-false, leb-true, leb-false, eqb-true, eqb-false}
 use Rattle.base.specs.Pick.{pick}
-use Rattle.base.specs.BigEndian.{bytesOf, Bytes}
-use Rattle.base.proofs.Picks.{pick-case}
+use Rattle.base.specs.BigEndian.{bigEndian, bytesOf, Bytes}
+use Rattle.base.proofs.Picks.{pick-case, both}
 use Rattle.base.proofs.Digits.{length-bytes, read-back, spelled, big-endian-lt}
 use Rattle.cbor.specs.declared.head.Initial.{Initial}
 use Rattle.cbor.specs.declared.head.HeadRead.{HeadRead}
@@ -175,6 +175,53 @@ head-is (first ∷ s) b =
         (λ _ _ _. tt)
         (λ _ _. tt)
         (λ simple short. record { width = width; bytes = w .bytes; right = record { sized = w .sized; simple = simple; short = short }; kind = w .kind })
+
+-- ---- a small argument
+-- one element below 256 is the byte that spells it
+one-spelled : (s : List ℕ) → 1 ≤ length s → bigEndian s 1 < 2 ^ 8 → bytesOf 1 (bigEndian s 1) ≡ take 1 s
+unfolding bigEndian bytesOf
+one-spelled [] h l = absurd (omega arith)
+one-spelled (x ∷ s) h l = ap (λ (v : ℕ). v ∷ []) (omega arith)
+
+small-info : (first : ℕ) (s : List ℕ) → widthOf (first % 32) ≤ length s → leastOf (widthOf (first % 32)) ≤ argOf first (widthOf (first % 32)) s
+    → argOf first (widthOf (first % 32)) s < 2 ^ 8 → Info first s (widthOf (first % 32))
+unfolding widthOf leastOf infoOf argOf bytesOf pick
+small-info first s =
+    pick-case P (ltb info 24) (λ e h l a. record { same = refl; digits = refl; sized = Sized.in-first (ltb-true info 24 e) })
+    (λ _. pick-case P (eqb info 24) (λ e h l a. record { same = sym (eqb-true info 24 e); digits = one-spelled s h a; sized = Sized.one a })
+    (λ _. both P (eqb info 25) (λ h l a. absurd (omega arith)) (both P (eqb info 26) (λ h l a. absurd (omega arith)) (λ h l a. absurd (omega arith)))))
+  where
+    info : ℕ
+    info = first % 32
+
+    P : ℕ → Type 0
+    P width = width ≤ length s → leastOf width ≤ argOf first width s → argOf first width s < 2 ^ 8 → Info first s width
+
+abbrev pub SmallIs : List ℕ → HeadRead → Type 0
+SmallIs s (HeadRead.Refused number place) = Unit {0}
+SmallIs s (HeadRead.Head major arg len) = major < 7 → arg < 2 ^ 8 → Spelt s major arg len
+
+-- a head of major types 0 to 6 with an argument below 256 that was read is one that is written, whatever numbers follow it
+pub small-is : (s : List ℕ) → SmallIs s (headAt s)
+unfolding headAt headBytes
+small-is [] = tt
+small-is (first ∷ s) =
+    first-case P first s (λ _ _. tt) (λ _. tt) (λ _ _. tt)
+    (λ lt room. judged-case P (first / 32) (argOf first width s) width (λ _ _ _. tt) (λ _ _. tt)
+    (λ simple short low small.
+    let i = small-info first s room (short (λ e. omega arith)) small in
+    record {
+      width = width;
+      bytes = rw (one-add width, i .same, i .digits, div-add-mod' first 32);
+      right = record { sized = i .sized; simple = simple; short = short };
+      kind = omega arith;
+    }))
+  where
+    width : ℕ
+    width = widthOf (first % 32)
+
+    P : HeadRead → Type 0
+    P = SmallIs (first ∷ s)
 
 -- ---- the shortest form
 pub shortest-case : (P : ℕ → Type 0) (arg : ℕ) → (arg < 24 → P 0) → (24 ≤ arg → arg < 2 ^ 8 → P 1) → (2 ^ 8 ≤ arg → arg < 2 ^ 16 → P 2)

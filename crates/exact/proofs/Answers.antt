@@ -100,7 +100,7 @@ message-shape {s} i =
     (λ place u e. absurd (omega (arith, judged-number (r .message) (r .end) (r .bad) (r .long) (sym (r .is) ∙ e))))
     (λ place e. absurd (omega (arith, judged-number (r .message) (r .end) (r .bad) (r .long) (sym (r .is) ∙ e))))
     (λ m end bad long shape e.
-    let h = fills b (walked one) shape in
+    let h = fills (walked one) shape in
     let same : h .msg ≡ i .msg = message-one (subst (λ (x : Item). MessageItem x (h .msg)) (item-once (h .item) (one .item) (h .good) (one .good) (h .bytes) (one .bytes)) (h .is)) (i .is) in
     record {
       message = m;
@@ -151,7 +151,7 @@ module _ {s : List ℕ} (b : Bytes s) where
       let i = item-exact 0 s (length s) b whole in
       let one : OneItem s = record { item = i .item; bytes = sym (i .bytes) ∙ take-length s; most = fits .most; good = i .good; shallow = i .shallow } in
       shaped-case b (Answer s) (λ place u. Answer.kind one (unknown-there b (stands one) u)) (λ place. Answer.shape one)
-      (λ m end bad long h. judged-answer m end bad long (fits .most) (fills b whole h)))
+      (λ m end bad long h. judged-answer m end bad long (fits .most) (fills whole h)))
       (λ t.
       let i = item-exact 0 s end b e in
       Answer.more fits i (omega (arith, i .within, eqb-false end (length s) t)))

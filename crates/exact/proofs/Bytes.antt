@@ -1,12 +1,19 @@
--- The encoding of an item without fault is made of bytes.
+-- The encoding of an item without fault is made of bytes, and so is UTF-8.
 -- Assumes nothing.
+use mathlib.Core.Path.{_≡_, subst}
+use mathlib.Core.Logic.{inl, inr}
 use mathlib.Core.Bool.{Bool, true, false, cond}
 use mathlib.Core.List.{List, [], _∷_, _++_}
-use Prim.Native.Nat.{ℕ, zero, suc, _+_, _*_, _/_, _%_, _^_, _<_}
+use Prim.Native.Nat.{ℕ, zero, suc, _+_, _*_, _/_, _%_, _^_, _≤_, _<_}
 use native.Mathlib.Omega.{arith}
-use lib.Dec.{lit<}
+use lib.Dec.{ltb, lit<}
 use lib.ListN.{length}
+use borrow.Author.Tests.{ltb-true}
 use Rattle.base.specs.BigEndian.{Bytes, bytesOf}
+use Rattle.base.specs.Lists.{Every}
+use Rattle.base.proofs.Picks.{pick-case}
+use Rattle.utf8.specs.Utf8.{isUtf8, Scalar, scalarBytes, textBytes}
+use Rattle.utf8.proofs.Utf8Exact.{utf8-exactly}
 use Rattle.cbor.specs.Tree.{Item, Items, Sized, infoOf, headBytes, count, encode, encodes, Good, Goods}
 use Rattle.cbor.proofs.HeadExact.{info-lt}
 
@@ -44,6 +51,36 @@ bytes-head major width arg h z =
 either : (b : Bool) {x y : ℕ} → x < 8 → y < 8 → cond b x y < 8
 either true p q = p
 either false p q = q
+
+-- ---- texts
+scalar-most : (c : ℕ) → Scalar c → c ≤ 0x10FFFF
+scalar-most c (inl l) = omega arith
+scalar-most c (inr l) = l .1
+
+bytes-scalar : (c : ℕ) → Scalar c → Bytes (scalarBytes c)
+unfolding scalarBytes
+bytes-scalar c h =
+    let most = scalar-most c h in
+    all (scalarBytes c)
+    (pick-case P (ltb c 0x80) (λ e. (omega (arith, ltb-true c 0x80 e), tt))
+    (λ _. pick-case P (ltb c 0x800) (λ e. (omega (arith, ltb-true c 0x800 e), (omega arith, tt)))
+    (λ _. pick-case P (ltb c 0x10000) (λ e. (omega (arith, ltb-true c 0x10000 e), (omega arith, (omega arith, tt)))) (λ _. (omega arith, (omega arith, (omega arith, (omega arith, tt))))))))
+  where
+    P : List ℕ → Type 0
+    P = Every (λ (x : ℕ). x < 2 ^ 8)
+
+    all : (s : List ℕ) → P s → Bytes s
+    all [] g = bytes-none
+    all (x ∷ s) g = bytes-more x s (g .0) (all s (g .1))
+
+bytes-text : (cs : List ℕ) → Every Scalar cs → Bytes (textBytes cs)
+unfolding textBytes
+bytes-text [] g = bytes-none
+bytes-text (c ∷ cs) g = bytes-append (scalarBytes c) (textBytes cs) (bytes-scalar c (g .0)) (bytes-text cs (g .1))
+
+-- UTF-8 is made of bytes.
+pub bytes-utf8 : (s : List ℕ) → isUtf8 s ≡ true → Bytes s
+bytes-utf8 s e = let (cs, g, is) = utf8-exactly s .0 e in subst Bytes is (bytes-text cs g)
 
 -- ---- items
 mutual

@@ -7,11 +7,10 @@ use mathlib.Core.Bool.{Bool, true, false, cond}
 use Prim.Native.Nat.{ℕ, _+_, _≤_, _<_}
 use native.Mathlib.Omega.{arith}
 use lib.ListN.{length}
-use lib.Dec.{ltb, eqb}
-use borrow.Author.Tests.{ltb-false, eqb-true, le-ltb, eq-eqb, ne-eqb}
+use lib.Dec.{ltb}
+use borrow.Author.Tests.{ltb-false, le-ltb, eq-eqb, ne-eqb}
 use Rattle.base.specs.Pick.{pick}
 use Rattle.base.specs.BigEndian.{Bytes}
-use Rattle.base.proofs.Picks.{pick-case}
 use Rattle.cbor.specs.declared.token.Token.{Token}
 use Rattle.cbor.specs.Token.{tokenAt, upTo}
 use Rattle.cbor.specs.Tree.{Item, Items, count}
@@ -20,8 +19,9 @@ use Rattle.options.specs.Text.{spanOf, contentIn, contentOf}
 use Rattle.grammar.specs.Cddl.{uint, bytes, Number, Initiator}
 use Rattle.grammar.specs.Stands.{Stands, StandAll, Before}
 use Rattle.grammar.proofs.Bridge.{Heading, token-heading, split, string-major, number-token, text-token, array-token}
-use Rattle.grammar.proofs.Pieces.{Some, number-at, text-at, number-here, number-is}
+use Rattle.grammar.proofs.Pieces.{Some, number-at, content-bytes, text-at, number-here, number-is}
 use Rattle.message.specs.Opening.{most, isInitiator}
+use Rattle.message.proofs.Least.{initiated}
 use Rattle.exact.specs.Describes.{NumberIs, InitiatorIs}
 
 -- ---- from tokens to items
@@ -54,17 +54,6 @@ pub record InitiatorHere (s : List ℕ) (p e : ℕ) (span : Span) : Type 0 where
 pub initiator-is : {s : List ℕ} {p e : ℕ} {span : Span} (h : InitiatorHere s p e span) → InitiatorIs s p e span (h .content)
 initiator-is h = record { width = h .width; stands = h .stands; held = h .held }
 
--- what the test of an initiator says
-initiated : (t : Token) → isInitiator t ≡ true → (t .major ≡ 2) × ((t .arg ≡ 4) ⊎ (t .arg ≡ 16))
-unfolding isInitiator
-initiated t =
-    pick-case P (eqb (t .major) 2)
-    (λ two. pick-case P (eqb (t .arg) 4) (λ e _. (eqb-true (t .major) 2 two, inl (eqb-true (t .arg) 4 e))) (λ _ e. (eqb-true (t .major) 2 two, inr (eqb-true (t .arg) 16 e))))
-    (λ _ q. absurd (let z : _≡_ {A = ℕ} 0 1 = cc in omega arith))
-  where
-    P : Bool → Type 0
-    P b = b ≡ true → (t .major ≡ 2) × ((t .arg ≡ 4) ⊎ (t .arg ≡ 16))
-
 module _ {s : List ℕ} {p : ℕ} (b : Bytes s) (low : p ≤ length s) where
   heading : tokenAt s p .major < 8 → Heading s p (tokenAt s p)
   heading h = token-heading s p (tokenAt s p) b low refl h
@@ -85,7 +74,7 @@ module _ {s : List ℕ} {p : ℕ} (b : Bytes s) (low : p ≤ length s) where
   string-at text e =
       let (lo, hi) = string-major text in
       let h = heading (omega arith) in
-      let (i, long) = text-at h text e b in
+      let (i, long) = text-at h text e (content-bytes s (tokenAt s p) b) in
       let next : tokenAt s p .next ≡ tokenAt s p .body + tokenAt s p .arg = h .string (rw e lo) (rw e hi) in
       record { width = i .width; stands = i .stands; long = long; held = ap₂ spanOf (omega arith) (omega arith) }
 

@@ -1,21 +1,20 @@
 -- What every kind's laws share: what is said of a shape, the head that makes the items of a message the message, and going by a shape's tests.
 -- Assumes nothing.
-use mathlib.Core.Path.{_≡_, sym, ap, _∙_, subst}
+use mathlib.Core.Path.{_≡_, sym, ap, _∙_}
 use mathlib.Core.Logic.{_↔_}
-use mathlib.Core.List.{List, [], append-nil}
+use mathlib.Core.List.{List, _++_, append-nil}
 use mathlib.Core.Bool.{Bool, true, false}
 use Prim.Native.Nat.{ℕ, suc, _≤_}
 use native.Mathlib.Omega.{arith}
 use lib.ListN.{length, drop}
-use lib.Seq.{take-length}
 use Rattle.base.specs.Pick.{pick}
 use Rattle.base.specs.BigEndian.{Bytes}
 use Rattle.base.proofs.Picks.{pick-case}
+use Rattle.base.proofs.Parts.{drop-past}
 use Rattle.cbor.specs.declared.item.ItemRead.{ItemRead}
 use Rattle.cbor.specs.Item.{mostLevels, leftUnder, firstItem}
 use Rattle.cbor.specs.Tree.{Item, Items, Good, count, depth, depths, encode}
-use Rattle.cbor.proofs.Exact.{item-exact}
-use Rattle.cbor.proofs.Unique.{unique}
+use Rattle.cbor.proofs.Accepts.{item-accepts}
 use Rattle.syntax.specs.Message.{Msg}
 use Rattle.grammar.specs.Cddl.{uint, MessageItem, Value}
 use Rattle.grammar.specs.Limits.{TextsGood, NamesGood}
@@ -66,15 +65,13 @@ pub skipped : {t : Bool} (x : Shape) {y : Shape} → t ≡ false → Reads y →
 unfolding pick
 skipped x e r = rw e r
 
--- the walk took the whole: an item that stands at the start is the whole, and has eight levels at most
-pub whole : {s : List ℕ} {e : ℕ} {x : Item} → Bytes s → firstItem 0 s ≡ ItemRead.Ends (length s) → Stands s 0 e x
-    → (e ≡ length s) × (depth x ≤ mostLevels) × (encode x ≡ s)
-whole {s} {e} {x} b w a =
-    let i = item-exact 0 s (length s) b w in
-    let all : encode (i .item) ≡ s = sym (i .bytes) ∙ take-length s in
-    let same : x ≡ i .item = unique x (i .item) (drop e s) [] (a .good) (i .good) (sym (a .is) ∙ sym all ∙ sym (append-nil (encode (i .item)))) in
-    let full : encode x ≡ s = ap encode same ∙ all in
-    (omega (arith, a .end, ap length full), subst (λ (y : Item). depth y ≤ mostLevels) (sym same) (i .shallow), full)
+-- the walk took the whole: an item that stands at the start, of eight levels at most, is the whole
+pub whole : {s : List ℕ} {e : ℕ} {x : Item} → firstItem 0 s ≡ ItemRead.Ends (length s) → Stands s 0 e x → depth x ≤ mostLevels → (e ≡ length s) × (encode x ≡ s)
+whole {s} {e} {x} w a d =
+    let ends : ItemRead.Ends (length (encode x)) ≡ ItemRead.Ends (length s) = sym (ap (firstItem 0) (a .is) ∙ item-accepts 0 x (drop e s) (a .good) d) ∙ w in
+    let long : length (encode x) ≡ length s = cc in
+    let full : e ≡ length s = omega (arith, a .end) in
+    (full, sym (append-nil (encode x)) ∙ ap (λ (r : List ℕ). encode x ++ r) (sym (drop-past s e (omega arith))) ∙ sym (a .is))
 
 -- s is the encoding of a message that m describes
 pub record WholeIs (s : List ℕ) (m : Message) (bad long : ℕ) : Type 0 where
@@ -89,9 +86,9 @@ pub record WholeIs (s : List ℕ) (m : Message) (bad long : ℕ) : Type 0 where
   pub names : long ≡ 0 ↔ NamesGood msg
 
 -- so it is where the walk took the whole
-pub fills : {s : List ℕ} {m : Message} {end bad long : ℕ} → Bytes s → firstItem 0 s ≡ ItemRead.Ends (length s) → ShapeIs s m end bad long → WholeIs s m bad long
-fills b w h =
-    let (full, _, bytes) = whole b w (h .stands) in
+pub fills : {s : List ℕ} {m : Message} {end bad long : ℕ} → firstItem 0 s ≡ ItemRead.Ends (length s) → ShapeIs s m end bad long → WholeIs s m bad long
+fills w h =
+    let (full, bytes) = whole w (h .stands) (h .shallow) in
     record {
       item = h .item;
       msg = h .msg;

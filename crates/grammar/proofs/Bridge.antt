@@ -5,7 +5,7 @@ use mathlib.Core.Path.{_≡_, refl, sym, ap, ap₂, _∙_, subst}
 use mathlib.Core.Logic.{_⊎_, inl, inr}
 use mathlib.Core.List.{List, _++_, append-assoc}
 use mathlib.Core.Bool.{Bool, true, false, cond}
-use Prim.Native.Nat.{ℕ, _+_, _-_, _/_, _≤_, _<_}
+use Prim.Native.Nat.{ℕ, _+_, _-_, _/_, _^_, _≤_, _<_}
 use native.Mathlib.Nat.{add-zero, add-assoc}
 use native.Mathlib.Omega.{arith}
 use lib.ListN.{length, take, drop, length-append, length-drop, take-append-drop}
@@ -14,14 +14,14 @@ use lib.Dec.{ltb, leb, lit<, lit≤}
 use borrow.Author.Tests.{lt-ltb, le-ltb, le-leb, ltb-true, ltb-false, leb-true}
 use Rattle.base.specs.Pick.{pick}
 use Rattle.base.specs.BigEndian.{Bytes}
-use Rattle.base.proofs.Picks.{pick-case}
+use Rattle.base.proofs.Picks.{pick-case, both}
 use Rattle.base.proofs.Parts.{rest-is, bytes-drop}
 use Rattle.cbor.specs.declared.head.HeadRead.{HeadRead}
 use Rattle.cbor.specs.declared.token.Token.{Token}
 use Rattle.cbor.specs.Head.{headAt}
 use Rattle.cbor.specs.Tree.{Item, Items, headBytes, Right, count, encode, encodes}
 use Rattle.cbor.specs.Token.{nothingAt, tokenOf, tokenFrom, tokenAt}
-use Rattle.cbor.proofs.HeadExact.{head-read, length-head, Spelt, HeadIs, head-is}
+use Rattle.cbor.proofs.HeadExact.{head-read, length-head, Spelt, HeadIs, head-is, SmallIs, small-is}
 use Rattle.cbor.proofs.Tokens.{head-fits}
 use Rattle.cbor.proofs.Unique.{unique}
 use Rattle.grammar.specs.Stands.{Stands, StandAll, ArrayHead}
@@ -274,13 +274,35 @@ module _ (s : List ℕ) (p : ℕ) (low : p ≤ length s) (major arg len : ℕ) (
       leaf : (2 ≤ major → major < 4 → ⊥) → by (record { at = p; major = major; arg = arg; body = p + len; next = p + len })
       leaf other q h = subst (Heading s p) (sym q) (heading (p + len) (omega (arith, length-drop p s)) (λ _. refl) (λ lo hi. absurd (other lo hi)))
 
--- a token that was read has its head there
-pub token-heading : (s : List ℕ) (p : ℕ) (w : Token) → Bytes s → p ≤ length s → w ≡ tokenAt s p → w .major < 8 → Heading s p w
-unfolding tokenAt tokenFrom nothingAt
-token-heading s p w b low = go (headAt (drop p s)) refl (head-is (drop p s) (bytes-drop p s b))
+-- a token has the numbers of its head
+token-numbers : (p room major arg len : ℕ) (w : Token) → w ≡ tokenOf p room major arg len → w .major < 8 → (major ≡ w .major) × (arg ≡ w .arg)
+unfolding tokenOf nothingAt
+token-numbers p room major arg len w = both by (ltb 1 major) (both by (ltb major 4) (both by (leb arg (room - len)) same (λ q h. absurd (omega (arith, h, ap (λ (v : Token). v .major) q)))) same) same
   where
-    go : (x : HeadRead) → headAt (drop p s) ≡ x → HeadIs (drop p s) x → w ≡ tokenFrom p (length (drop p s)) x → w .major < 8 → Heading s p w
-    go (HeadRead.Refused number place) e is q h = absurd (omega (arith, h, ap (λ (v : Token). v .major) q))
-    go (HeadRead.Head major arg len) e is q h =
+    by : Token → Type 0
+    by v = w ≡ v → w .major < 8 → (major ≡ w .major) × (arg ≡ w .arg)
+
+    same : {next : ℕ} → by (record { at = p; major = major; arg = arg; body = p + len; next = next })
+    same q h = (sym (ap (λ (v : Token). v .major) q), sym (ap (λ (v : Token). v .arg) q))
+
+-- one that was read has its head there, where that is spelt so
+spelt-heading : (s : List ℕ) (p : ℕ) (w : Token) → ((major arg len : ℕ) → headAt (drop p s) ≡ HeadRead.Head major arg len → major ≡ w .major → arg ≡ w .arg → Spelt (drop p s) major arg len)
+    → p ≤ length s → w ≡ tokenAt s p → w .major < 8 → Heading s p w
+unfolding tokenAt tokenFrom nothingAt
+spelt-heading s p w spelt low = go (headAt (drop p s)) refl
+  where
+    go : (x : HeadRead) → headAt (drop p s) ≡ x → w ≡ tokenFrom p (length (drop p s)) x → w .major < 8 → Heading s p w
+    go (HeadRead.Refused number place) e q h = absurd (omega (arith, h, ap (λ (v : Token). v .major) q))
+    go (HeadRead.Head major arg len) e q h =
         let fits : len ≤ length s - p = head-fits s p major arg len (headAt (drop p s)) (ap headAt (sym (rest-is p s))) e in
-        token-of s p low major arg len is (omega (arith, length-drop p s)) w q h
+        let (same, same′) = token-numbers p (length (drop p s)) major arg len w q h in
+        token-of s p low major arg len (spelt major arg len e same same′) (omega (arith, length-drop p s)) w q h
+
+-- so of bytes,
+pub token-heading : (s : List ℕ) (p : ℕ) (w : Token) → Bytes s → p ≤ length s → w ≡ tokenAt s p → w .major < 8 → Heading s p w
+token-heading s p w b = spelt-heading s p w (λ major arg len e _ _. subst (HeadIs (drop p s)) e (head-is (drop p s) (bytes-drop p s b)))
+
+-- and of any numbers where the argument is below 256
+pub small-heading : (s : List ℕ) (p : ℕ) (w : Token) → p ≤ length s → w ≡ tokenAt s p → w .major < 7 → w .arg < 2 ^ 8 → Heading s p w
+small-heading s p w low e major arg =
+    spelt-heading s p w (λ major′ arg′ len q same same′. subst (SmallIs (drop p s)) q (small-is (drop p s)) (omega arith) (omega arith)) low e (omega arith)

@@ -29,7 +29,7 @@ use Rattle.grammar.specs.Cddl.{LocatorItem}
 use Rattle.grammar.specs.Limits.{Utf8, locTexts}
 use Rattle.grammar.specs.Stands.{Stands, locOf}
 use Rattle.grammar.proofs.Bridge.{split, join, last, only, lift-first, sink-first, advances, string-major, token-heading, number-token, text-token, array-token}
-use Rattle.grammar.proofs.Pieces.{array-items, number-is, number-here, text-size, text-at, array-at, content-there}
+use Rattle.grammar.proofs.Pieces.{array-items, number-is, number-here, text-size, content-bytes, text-at, array-at, content-there}
 use Rattle.grammar.proofs.One.{locator-one}
 use Rattle.grammar.proofs.LocatorParts.{AddressIs, Shape, shape-of, shape-item, shape-texts, protocol-here, port-here, address-here, protocol-reads, port-reads, address-reads}
 
@@ -95,7 +95,7 @@ sound m base low by =
         let ha = token-heading s 0 a bytes zero-le refl (omega arith) in
         let lead = number-here 106 k bytes (token-end s 0) refl hi in
         let hb = token-heading s (k .next) b bytes (token-end s (a .next)) refl (omega (arith, fits .major, string-major (fits .text))) in
-        let (string, long) = text-at hb (fits .text) (fits .major) bytes in
+        let (string, long) = text-at hb (fits .text) (fits .major) (content-bytes s b bytes) in
         let size = text-size hb (fits .text) (fits .major) ∙ sym long in
         let protocol = protocol-here s (b .next) p bytes (token-end s (k .next)) refl kind some-protocol in
         let port = port-here s (p .next) q bytes (token-end s (b .next)) refl kind some-port in

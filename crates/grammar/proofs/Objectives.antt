@@ -31,7 +31,7 @@ use Rattle.grammar.specs.Cddl.{uint, text, ObjectiveItem, Value}
 use Rattle.grammar.specs.Limits.{Utf8, Short}
 use Rattle.grammar.specs.Stands.{Stands, StandAll, ArrayHead, ValueIs, itemsWith, ObjectiveIs}
 use Rattle.grammar.proofs.Bridge.{split, join, none as no-more, none-end, only, last, lift, lift-first, sink-first, advances, token-heading, number-token, text-token, array-token}
-use Rattle.grammar.proofs.Pieces.{array-items, number-is, number-here, text-size, text-at, array-at, array-head, lift-head, content-there}
+use Rattle.grammar.proofs.Pieces.{array-items, number-is, number-here, text-size, content-bytes, text-at, array-at, array-head, lift-head, content-there}
 use Rattle.grammar.proofs.Texts.{bad-text, long-name}
 use Rattle.grammar.proofs.Sizes.{sized-item, item-sized}
 
@@ -114,7 +114,7 @@ sound levels m base low by =
     got array is-text few byte len size v xs sum many counted low-enough rest value is =
         let ha = token-heading s 0 a bytes zero-le refl (omega arith) in
         let hn = token-heading s (a .next) n bytes (token-end s 0) refl (omega arith) in
-        let (name, long) = text-at hn true is-text bytes in
+        let (name, long) = text-at hn true is-text (content-bytes s n bytes) in
         let name-size : n .next - n .body ≡ length (contentIn s n) = text-size hn true is-text ∙ sym long in
         let flags = number-here 15 f bytes (token-end s (a .next)) refl few in
         let number = number-here 255 c bytes (token-end s (n .next)) refl byte in

@@ -56,6 +56,10 @@ pub record Is (s : List ℕ) (p e : ℕ) (P : Item → Type 0) : Type 0 where
   pub stands : Stands s p e item
   pub is : P item
 
+-- the content of a string in bytes is bytes
+pub content-bytes : (s : List ℕ) (w : Token) → Bytes s → Bytes (contentIn s w)
+content-bytes s w b = bytes-take (w .next - w .body) (drop (w .body) s) (bytes-drop (w .body) s b)
+
 module _ {s : List ℕ} {p : ℕ} {w : Token} (h : Heading s p w) where
   -- a head alone is the whole item
   alone : (m : ℕ) (x : Item) → w .major ≡ m → (m < 2) ⊎ (4 ≤ m) → (Right m (h .width) (w .arg) → Good x) → encode x ≡ headBytes m (h .width) (w .arg) → Stands s p (w .next) x
@@ -84,8 +88,8 @@ module _ {s : List ℕ} {p : ℕ} {w : Token} (h : Heading s p w) where
       let (low, high) = string-major t in
       omega (arith, h .string (rw e low) (rw e high))
 
-  -- a string
-  pub text-at : (t : Bool) → w .major ≡ cond t 3 2 → Bytes s → Some s p (w .next) (λ n. Item.string t n (contentIn s w)) × (length (contentIn s w) ≡ w .arg)
+  -- a string of bytes
+  pub text-at : (t : Bool) → w .major ≡ cond t 3 2 → Bytes (contentIn s w) → Some s p (w .next) (λ n. Item.string t n (contentIn s w)) × (length (contentIn s w) ≡ w .arg)
   unfolding encode
   text-at t e b =
       let (low, high) = string-major t in
@@ -102,7 +106,7 @@ module _ {s : List ℕ} {p : ℕ} {w : Token} (h : Heading s p w) where
           width = h .width;
           stands =
               record {
-                good = (rw (long, ← e) (h .right), rw size (bytes-take (w .arg) (drop (w .body) s) (bytes-drop (w .body) s b)));
+                good = (rw (long, ← e) (h .right), b);
                 is = head ∙ ap (λ (r : List ℕ). front ++ r) rest ∙ sym (append-assoc front bs (drop (w .next) s));
                 end = omega (arith, next, h .body, long, length-append front bs, length-head (cond t 3 2) (h .width) (length bs));
                 within = h .within;

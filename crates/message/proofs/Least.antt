@@ -70,6 +70,17 @@ MessageParts s (M.Synch session o) = Unit {0}
 MessageParts s (M.Flood session initiator ttl first pairs) = SpreadParts s session initiator first × Six s pairs
 MessageParts s (M.Invalid session item) = Unit {0}
 
+-- what the test of an initiator says
+pub initiated : (t : Token) → isInitiator t ≡ true → (t .major ≡ 2) × ((t .arg ≡ 4) ⊎ (t .arg ≡ 16))
+unfolding isInitiator
+initiated t =
+    pick-case P (eqb (t .major) 2)
+    (λ two. pick-case P (eqb (t .arg) 4) (λ e _. (eqb-true (t .major) 2 two, inl (eqb-true (t .arg) 4 e))) (λ _ e. (eqb-true (t .major) 2 two, inr (eqb-true (t .arg) 16 e))))
+    (λ _ q. absurd (let z : _≡_ {A = ℕ} 0 1 = cc in omega arith))
+  where
+    P : Bool → Type 0
+    P b = b ≡ true → (t .major ≡ 2) × ((t .arg ≡ 4) ⊎ (t .arg ≡ 16))
+
 module _ (s : List ℕ) where
   -- ---- the shapes
   abbrev ShapeParts : Shape → Type 0
@@ -79,21 +90,12 @@ module _ (s : List ℕ) where
   -- an initiator of 4 or 16 bytes
   initiator-has : (at : ℕ) → isInitiator (tokenAt s at) ≡ true
       → (contentOf (tokenAt s at) .at + contentOf (tokenAt s at) .len ≤ length s) × ((contentOf (tokenAt s at) .len ≡ 4) ⊎ (contentOf (tokenAt s at) .len ≡ 16))
-  unfolding isInitiator
-  initiator-has at =
-      pick-case P (eqb (t .major) 2)
-      (λ e. let string : t .next ≡ t .body + t .arg = token-has s at .string (omega (arith, eqb-true (t .major) 2 e)) (omega (arith, eqb-true (t .major) 2 e)) in
-      pick-case P (eqb (t .arg) 4) (λ f _. (within, inl (omega (arith, eqb-true (t .arg) 4 f)))) (λ _ q. (within, inr (omega (arith, eqb-true (t .arg) 16 q)))))
-      (λ _ q. absurd (let z : _≡_ {A = ℕ} 0 1 = cc in omega arith))
-    where
-      t : Token
-      t = tokenAt s at
-
-      P : Bool → Type 0
-      P b = b ≡ true → (contentOf t .at + contentOf t .len ≤ length s) × ((contentOf t .len ≡ 4) ⊎ (contentOf t .len ≡ 16))
-
-      within : contentOf t .at + contentOf t .len ≤ length s
-      within = omega (arith, token-is s at t refl .start, token-end s at)
+  initiator-has at e =
+      let t = tokenAt s at in
+      let (two, size) = initiated t e in
+      let string : t .next ≡ t .body + t .arg = token-has s at .string (omega arith) (omega arith) in
+      let long : t .arg ≡ t .next - t .body = omega arith in
+      (omega (arith, token-is s at t refl .start, token-end s at), subst (λ (n : ℕ). (n ≡ 4) ⊎ (n ≡ 16)) long size)
 
   -- an objective of the message
   objective-in : {at : ℕ} {o : Objective} → at ≤ length s → ObjectiveParts (at + (length s - at)) o → ObjectiveParts (length s) o

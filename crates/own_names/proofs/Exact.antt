@@ -5,7 +5,6 @@ use mathlib.Core.Logic.{inl, inr, _↔_}
 use mathlib.Core.List.{List, List·Memᴰ}
 use mathlib.Core.Bool.{true, false}
 use Prim.Native.Nat.{ℕ, suc}
-use Rattle.base.specs.BigEndian.{Bytes}
 use Rattle.base.proofs.Bools.{true-or-false, not-both}
 use Rattle.cbor.specs.Tree.{Item, depth}
 use Rattle.exact.proofs.Answers.{item-once}
@@ -24,15 +23,15 @@ array-level (TextArray.array a) = ap suc (texts-flat a)
 
 -- for readers
 
--- Bytes are found good exactly if they are own names.
-pub names-exactly : (s : List ℕ) → Bytes s → (namesBad s ≡ false) ↔ OwnNames s
-names-exactly s b = (names-own b, names-good)
+-- A list of numbers is found good exactly if it is own names, and so is made of bytes.
+pub names-exactly : (s : List ℕ) → (namesBad s ≡ false) ↔ OwnNames s
+names-exactly s = (names-own, names-good)
 
 -- So 16 is due exactly if they aren't.
-pub names-refused : (s : List ℕ) → Bytes s → (namesBad s ≡ true) ↔ (OwnNames s → ⊥)
-names-refused s b = (
+pub names-refused : (s : List ℕ) → (namesBad s ≡ true) ↔ (OwnNames s → ⊥)
+names-refused s = (
   λ e o. not-both (namesBad s) e (names-good o),
-  λ other. elim (true-or-false (namesBad s)) [ inl e ↦ e | inr e ↦ absurd (other (names-own b e)) ],
+  λ other. elim (true-or-false (namesBad s)) [ inl e ↦ e | inr e ↦ absurd (other (names-own e)) ],
 )
 
 -- Own names are one list of names only.

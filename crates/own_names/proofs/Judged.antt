@@ -9,23 +9,22 @@ use lib.ListN.{length}
 use lib.Dec.{ltb, eqb}
 use borrow.Author.Tests.{eqb-true, ltb-false, not-false, eq-eqb, ne-eqb, le-ltb}
 use Rattle.base.specs.Pick.{pick}
-use Rattle.base.specs.BigEndian.{Bytes}
 use Rattle.base.proofs.Picks.{pick-case, past}
 use Rattle.base.proofs.Bools.{or-left, or-right, not-both}
 use Rattle.cbor.specs.declared.item.ItemRead.{ItemRead}
 use Rattle.cbor.specs.declared.token.Token.{Token}
-use Rattle.cbor.specs.Item.{firstItem}
+use Rattle.cbor.specs.Item.{mostLevels, firstItem}
 use Rattle.cbor.specs.Token.{tokenAt}
-use Rattle.cbor.specs.Tree.{Item, Items, count}
+use Rattle.cbor.specs.Tree.{Item, Items, count, depth}
 use Rattle.grammar.specs.Stands.{Stands, StandAll}
-use Rattle.grammar.proofs.Bridge.{array-token, token-heading, advances}
+use Rattle.grammar.proofs.Bridge.{array-token, small-heading, advances}
 use Rattle.grammar.proofs.Pieces.{array-at}
 use Rattle.exact.proofs.Whole.{whole}
 use Rattle.exact.proofs.Answers.{stands, walked}
 use Rattle.message.specs.Read.{mostBytes}
 use Rattle.names.specs.Names.{mostNames, goodNames, arrayBad, framedBad, namesBad, ownFrom, isOwn}
 use Rattle.own_names.specs.Own.{TextItems, TextArray, OwnNames}
-use Rattle.own_names.proofs.Texts.{texts-counted, names-sound, names-complete, own-sound, own-complete}
+use Rattle.own_names.proofs.Texts.{texts-counted, texts-flat, names-sound, names-complete, own-sound, own-complete}
 
 -- ---- own names are found good
 -- the array's token, and its texts
@@ -80,38 +79,38 @@ framed-good s (ItemRead.Ends end) =
     pick-case (λ r. r ≡ false → (ItemRead.Ends end ≡ ItemRead.Ends (length s)) × (arrayBad s ≡ false)) (eqb end (length s))
     (λ e q. (ap ItemRead.Ends (eqb-true end (length s) e), q)) (λ e q. absurd (not-both true refl q))
 
-module _ {s : List ℕ} (b : Bytes s) where
-  -- the walk took the whole, and the array is good
-  array-own : length s ≤ mostBytes → firstItem 0 s ≡ ItemRead.Ends (length s) → arrayBad s ≡ false → OwnNames s
-  unfolding arrayBad
-  array-own most all good =
-      let a = tokenAt s 0 in
-      let kind = eqb (a .major) 4 in
-      let over = ltb mostNames (a .arg) in
-      let named = goodNames s (a .arg) (a .next) in
-      let front = or-left (not kind || over) (not named) good in
-      let four : a .major ≡ 4 = eqb-true (a .major) 4 (not-false kind (or-left (not kind) over front)) in
-      let few : a .arg ≤ mostNames = ltb-false mostNames (a .arg) (or-right (not kind) over front) in
-      let h = token-heading s 0 a b zero-le refl (omega arith) in
-      let n = names-sound b (a .arg) (a .next) (h .within) (not-false named (or-right (not kind || over) (not named) good)) in
-      let stand = array-at h four (n .many) (n .stand) in
-      let (end, shallow, full) = whole b all stand in
-      record {
-        one = record { item = Item.array (h .width) (n .items); bytes = full; most = most; good = stand .good; shallow = shallow };
-        names = n .names;
-        are = TextArray.array (n .are);
-        few = omega (arith, n .many, texts-counted (n .are));
-        utf8 = n .utf8;
-        short = n .short;
-      }
+-- the walk took the whole, and the array is good
+array-own : {s : List ℕ} → length s ≤ mostBytes → firstItem 0 s ≡ ItemRead.Ends (length s) → arrayBad s ≡ false → OwnNames s
+unfolding arrayBad depth
+array-own {s} most all good =
+    let a = tokenAt s 0 in
+    let kind = eqb (a .major) 4 in
+    let over = ltb mostNames (a .arg) in
+    let named = goodNames s (a .arg) (a .next) in
+    let front = or-left (not kind || over) (not named) good in
+    let four : a .major ≡ 4 = eqb-true (a .major) 4 (not-false kind (or-left (not kind) over front)) in
+    let few : a .arg ≤ mostNames = ltb-false mostNames (a .arg) (or-right (not kind) over front) in
+    let h = small-heading s 0 a zero-le refl (omega arith) (omega arith) in
+    let n = names-sound (a .arg) (a .next) (h .within) (not-false named (or-right (not kind || over) (not named) good)) in
+    let stand = array-at h four (n .many) (n .stand) in
+    let shallow : depth (Item.array (h .width) (n .items)) ≤ mostLevels = omega (arith, texts-flat (n .are)) in
+    let (_, full) = whole all stand shallow in
+    record {
+      one = record { item = Item.array (h .width) (n .items); bytes = full; most = most; good = stand .good; shallow = shallow };
+      names = n .names;
+      are = TextArray.array (n .are);
+      few = omega (arith, n .many, texts-counted (n .are));
+      utf8 = n .utf8;
+      short = n .short;
+    }
 
-  pub names-own : namesBad s ≡ false → OwnNames s
-  unfolding namesBad
-  names-own q =
-      let (some, q₁) = past (eqb (length s) 0) q (λ e. not-both true refl e) in
-      let (most, q₂) = past (ltb mostBytes (length s)) q₁ (λ e. not-both true refl e) in
-      let (all, good) = framed-good s (firstItem 0 s) q₂ in
-      array-own (ltb-false mostBytes (length s) most) all good
+pub names-own : {s : List ℕ} → namesBad s ≡ false → OwnNames s
+unfolding namesBad
+names-own {s} q =
+    let (some, q₁) = past (eqb (length s) 0) q (λ e. not-both true refl e) in
+    let (most, q₂) = past (ltb mostBytes (length s)) q₁ (λ e. not-both true refl e) in
+    let (all, good) = framed-good s (firstItem 0 s) q₂ in
+    array-own (ltb-false mostBytes (length s) most) all good
 
 -- ---- a name among them
 module _ {s : List ℕ} (name : List ℕ) (o : OwnNames s) where

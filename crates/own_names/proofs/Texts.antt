@@ -11,7 +11,6 @@ use lib.ListN.{length}
 use lib.Dec.{leb, eqb}
 use borrow.Author.Tests.{eqb-true, leb-true, le-leb, eq-eqb}
 use Rattle.options.specs.Text.{contentIn}
-use Rattle.base.specs.BigEndian.{Bytes}
 use Rattle.base.specs.Lists.{Every}
 use Rattle.base.proofs.Bools.{and-left, and-right, and-true, or-true, not-both}
 use Rattle.cbor.specs.declared.token.Token.{Token}
@@ -21,8 +20,9 @@ use Rattle.utf8.specs.Utf8.{isUtf8}
 use Rattle.grammar.specs.Cddl.{text}
 use Rattle.grammar.specs.Limits.{Utf8, Short}
 use Rattle.grammar.specs.Stands.{Stands, StandAll}
-use Rattle.grammar.proofs.Bridge.{split, join, none, token-heading, text-token}
+use Rattle.grammar.proofs.Bridge.{split, join, none, small-heading, text-token}
 use Rattle.grammar.proofs.Pieces.{text-at}
+use Rattle.exact.proofs.Bytes.{bytes-utf8}
 use Rattle.options.specs.Objective.{mostName}
 use Rattle.names.specs.Names.{goodName, goodNames, sameBytes, ownFrom}
 use Rattle.own_names.specs.Own.{TextItems}
@@ -56,37 +56,37 @@ pub record NamesHere (s : List ℕ) (p n : ℕ) : Type 0 where
   pub utf8 : Every Utf8 names
   pub short : Every Short names
 
-module _ {s : List ℕ} (b : Bytes s) where
-  -- a good name, and then others
-  name-sound : {p n : ℕ} (t : Token) → p ≤ length s → t ≡ tokenAt s p → goodName s t ≡ true → (t .next ≤ length s → NamesHere s (t .next) n) → NamesHere s p (suc n)
-  unfolding goodName count
-  name-sound {p} {n} t low is good others =
-      let kind = eqb (t .major) 3 in
-      let fits = leb (t .arg) mostName in
-      let utf8 = isUtf8 (contentIn s t) in
-      let front = and-left (kind && fits) utf8 good in
-      let text : t .major ≡ 3 = eqb-true (t .major) 3 (and-left kind fits front) in
-      let h = token-heading s p t b low is (omega arith) in
-      let (item, long) = text-at h true text b in
-      let rest = others (h .within) in
-      record {
-        end = rest .end;
-        items = Items.more _ (rest .items);
-        names = contentIn s t ∷ rest .names;
-        stand = join (item .stands) (rest .stand);
-        are = TextItems.more (rest .are);
-        many = ap suc (rest .many);
-        utf8 = (and-right (kind && fits) utf8 good, rest .utf8);
-        short = (omega (arith, long, leb-true (t .arg) mostName (and-right kind fits front)), rest .short);
-      }
+-- a good name, and then others
+name-sound : {s : List ℕ} {p n : ℕ} (t : Token) → p ≤ length s → t ≡ tokenAt s p → goodName s t ≡ true → (t .next ≤ length s → NamesHere s (t .next) n) → NamesHere s p (suc n)
+unfolding goodName count
+name-sound {s} {p} {n} t low is good others =
+    let kind = eqb (t .major) 3 in
+    let fits = leb (t .arg) mostName in
+    let utf8 = isUtf8 (contentIn s t) in
+    let front = and-left (kind && fits) utf8 good in
+    let text : t .major ≡ 3 = eqb-true (t .major) 3 (and-left kind fits front) in
+    let few : t .arg ≤ mostName = leb-true (t .arg) mostName (and-right kind fits front) in
+    let h = small-heading s p t low is (omega arith) (omega arith) in
+    let (item, long) = text-at h true text (bytes-utf8 (contentIn s t) (and-right (kind && fits) utf8 good)) in
+    let rest = others (h .within) in
+    record {
+      end = rest .end;
+      items = Items.more _ (rest .items);
+      names = contentIn s t ∷ rest .names;
+      stand = join (item .stands) (rest .stand);
+      are = TextItems.more (rest .are);
+      many = ap suc (rest .many);
+      utf8 = (and-right (kind && fits) utf8 good, rest .utf8);
+      short = (omega (arith, long), rest .short);
+    }
 
-  pub names-sound : (n p : ℕ) → p ≤ length s → goodNames s n p ≡ true → NamesHere s p n
-  unfolding goodNames count
-  names-sound zero p low good = record { end = p; items = Items.done; names = []; stand = none low; are = TextItems.empty; many = refl; utf8 = tt; short = tt }
-  names-sound (suc n) p low good =
-      let t = tokenAt s p in
-      name-sound t low refl (and-left (goodName s t) (goodNames s n (t .next)) good)
-      (λ within. names-sound n (t .next) within (and-right (goodName s t) (goodNames s n (t .next)) good))
+pub names-sound : {s : List ℕ} (n p : ℕ) → p ≤ length s → goodNames s n p ≡ true → NamesHere s p n
+unfolding goodNames count
+names-sound zero p low good = record { end = p; items = Items.done; names = []; stand = none low; are = TextItems.empty; many = refl; utf8 = tt; short = tt }
+names-sound {s} (suc n) p low good =
+    let t = tokenAt s p in
+    name-sound t low refl (and-left (goodName s t) (goodNames s n (t .next)) good)
+    (λ within. names-sound n (t .next) within (and-right (goodName s t) (goodNames s n (t .next)) good))
 
 -- ---- what stands there is read
 -- a text's token
