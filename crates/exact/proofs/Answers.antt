@@ -150,7 +150,7 @@ module _ {s : List ℕ} (b : Bytes s) where
       let whole : firstItem 0 s ≡ ItemRead.Ends (length s) = e ∙ ap ItemRead.Ends (eqb-true end (length s) t) in
       let i = item-exact 0 s (length s) b whole in
       let one : OneItem s = record { item = i .item; bytes = sym (i .bytes) ∙ take-length s; most = fits .most; good = i .good; shallow = i .shallow } in
-      shaped-case b (Answer s) (λ place u. Answer.kind one (unknown-there b (stands one) u)) (λ place. Answer.shape one)
+      shaped-case b (Answer s) (λ place u. Answer.kind one (unknown-there (stands one) u)) (λ place. Answer.shape one)
       (λ m end bad long h. judged-answer m end bad long (fits .most) (fills whole h)))
       (λ t.
       let i = item-exact 0 s end b e in

@@ -55,7 +55,7 @@ row-given s _ (Row.kind one u) = ap placeless (examined-one one ∙ unknown-comp
 row-given s _ (Row.shape one known none) =
     let b = one-bytes one in
     ap placeless (examined-one one)
-    ∙ shaped-case b (λ (r : Examined). placeless r ≡ Reading.Refused 9) (λ place u. absurd (known (unknown-there b (stands one) u))) (λ place. refl)
+    ∙ shaped-case b (λ (r : Examined). placeless r ≡ Reading.Refused 9) (λ place u. absurd (known (unknown-there (stands one) u))) (λ place. refl)
     (λ m end bad long shape. let h = fills (walked one) shape in absurd (none (h .msg) (subst (λ (x : Item). MessageItem x (h .msg)) (item-once (h .item) (one .item) (h .good) (one .good) (h .bytes) (one .bytes)) (h .is))))
 row-given s _ (Row.text i bad) = let h = message-shape i in ap placeless (h .is) ∙ judged-bad (h .message) (h .end) (h .bad) (h .long) (λ z. bad (h .texts .0 z))
 row-given s _ (Row.name i texts long) = let h = message-shape i in ap placeless (h .is) ∙ judged-long (h .message) (h .end) (h .bad) (h .long) (h .texts .1 texts) (λ z. long (h .names .0 z))

@@ -9,25 +9,22 @@ use native.Mathlib.Decide.{decLt}
 use native.Mathlib.Nat.{zero-add}
 use native.Mathlib.Omega.{arith}
 use lib.ListN.{length, drop}
-use lib.Dec.{ltb, eqb}
+use lib.Dec.{ltb, eqb, lit<}
 use borrow.Author.Tests.{ltb-true, ltb-false, eqb-true, eqb-false, ne-eqb, eq-eqb, lt-ltb}
 use Rattle.base.specs.Pick.{pick}
 use Rattle.base.specs.BigEndian.{Bytes}
 use Rattle.base.proofs.Picks.{pick-case}
-use Rattle.cbor.specs.declared.head.HeadRead.{HeadRead}
 use Rattle.cbor.specs.declared.item.ItemRead.{ItemRead}
 use Rattle.cbor.specs.declared.token.Token.{Token}
-use Rattle.cbor.specs.Head.{headAt}
 use Rattle.cbor.specs.Item.{mostLevels, firstItem}
 use Rattle.cbor.specs.Token.{tokenAt, itemsIn}
 use Rattle.cbor.specs.Tree.{Item, Items, Good, Right, headBytes, count, encode, encodes, depth}
 use Rattle.cbor.proofs.Accepts.{item-accepts}
-use Rattle.cbor.proofs.HeadExact.{head-read}
 use Rattle.cbor.proofs.Tokens.{token-end, is-array}
 use Rattle.syntax.specs.Message.{Msg}
 use Rattle.grammar.specs.Cddl.{uint, MessageItem, Value}
 use Rattle.grammar.specs.Stands.{Stands, StandAll}
-use Rattle.grammar.proofs.Bridge.{Heading, token-heading, split, last, stands-once}
+use Rattle.grammar.proofs.Bridge.{Heading, headed-major, token-heading, number-token, split, last}
 use Rattle.grammar.proofs.Pieces.{array-items, array-at, array-head}
 use Rattle.message.specs.declared.Message.{Message}
 use Rattle.message.specs.declared.shape.Shape.{Shape}
@@ -109,34 +106,40 @@ judged-end m end bad long {m′} {end′} =
     P r = r ≡ E.Accepted m′ end′ → end ≡ end′
 
 -- ---- which items a kind can lead
--- the major type of a head is read of it
-same-major : (m w n m′ w′ n′ : ℕ) (r r′ : List ℕ) → Right m w n → Right m′ w′ n′ → headBytes m w n ++ r ≡ headBytes m′ w′ n′ ++ r′ → m ≡ m′
-same-major m w n m′ w′ n′ r r′ right right′ e =
-    let heads : HeadRead.Head m n (length (headBytes m w n)) ≡ HeadRead.Head m′ n′ (length (headBytes m′ w′ n′))
-    = sym (head-read m w n r right) ∙ ap headAt e ∙ head-read m′ w′ n′ r′ right′ in
-    cc
-
 -- an array
 data IsArray : Item → Type 0 where
   array : {w : ℕ} {xs : Items} → IsArray (Item.array w xs)
 
--- where the head of an array is read, an array stands
-array-there : {s : List ℕ} {p e : ℕ} {t : Token} (x : Item) → Stands s p e x → Heading s p t → t .major ≡ 4 → IsArray x
-unfolding encode
-array-there {s} {p} {e} {t} x a h four = by x (a .good) (sym (a .is) ∙ h .head)
-  where
-    other : {A : Type 0} (m w n : ℕ) (r : List ℕ) → Right m w n → headBytes m w n ++ r ≡ headBytes (t .major) (h .width) (t .arg) ++ drop (t .body) s → m ≢ 4 → A
-    other m w n r right is no-array = absurd (no-array (same-major m w n (t .major) (h .width) (t .arg) r (drop (t .body) s) right (h .right) is ∙ four))
+-- where a token of a major type is read, an item of no other major type stands
+module _ (s : List ℕ) (p e : ℕ) where
+  other : {A : Type 0} {m w n : ℕ} (k : ℕ) → tokenAt s p .major ≡ k → k < 8 → m ≢ k → Right m w n → (r : List ℕ) → drop p s ≡ headBytes m w n ++ r → A
+  other k same low ne right r is = absurd (ne (headed-major s p _ _ _ r right is (omega arith) ∙ same))
 
-    by : (x : Item) → Good x → encode x ++ drop e s ≡ headBytes (t .major) (h .width) (t .arg) ++ drop (t .body) s → IsArray x
-    by (Item.number true w n) good is = other 1 w n _ good is (λ z. omega arith)
-    by (Item.number false w n) good is = other 0 w n _ good is (λ z. omega arith)
-    by (Item.string true w bs) good is = other 3 w (length bs) _ (good .0) (sym (append-assoc (headBytes 3 w (length bs)) bs (drop e s)) ∙ is) (λ z. omega arith)
-    by (Item.string false w bs) good is = other 2 w (length bs) _ (good .0) (sym (append-assoc (headBytes 2 w (length bs)) bs (drop e s)) ∙ is) (λ z. omega arith)
-    by (Item.array w xs) good is = IsArray.array
-    by (Item.map w xs) good is = other 5 w (count xs / 2) _ (good .0) (sym (append-assoc (headBytes 5 w (count xs / 2)) (encodes xs) (drop e s)) ∙ is) (λ z. omega arith)
-    by (Item.tagged w n x) good is = other 6 w n _ (good .0) (sym (append-assoc (headBytes 6 w n) (encode x) (drop e s)) ∙ is) (λ z. omega arith)
-    by (Item.simple w n) good is = other 7 w n _ good is (λ z. omega arith)
+  -- of an array's, an array
+  array-there : (x : Item) → Stands s p e x → tokenAt s p .major ≡ 4 → IsArray x
+  unfolding encode
+  array-there (Item.number true w n) a four = other 4 four (lit< tt) (λ z. omega arith) (a .good) _ (a .is)
+  array-there (Item.number false w n) a four = other 4 four (lit< tt) (λ z. omega arith) (a .good) _ (a .is)
+  array-there (Item.string true w bs) a four = other 4 four (lit< tt) (λ z. omega arith) (a .good .0) _ (a .is ∙ append-assoc (headBytes 3 w (length bs)) bs (drop e s))
+  array-there (Item.string false w bs) a four = other 4 four (lit< tt) (λ z. omega arith) (a .good .0) _ (a .is ∙ append-assoc (headBytes 2 w (length bs)) bs (drop e s))
+  array-there (Item.array w xs) a four = IsArray.array
+  array-there (Item.map w xs) a four = other 4 four (lit< tt) (λ z. omega arith) (a .good .0) _ (a .is ∙ append-assoc (headBytes 5 w (count xs / 2)) (encodes xs) (drop e s))
+  array-there (Item.tagged w n x) a four = other 4 four (lit< tt) (λ z. omega arith) (a .good .0) _ (a .is ∙ append-assoc (headBytes 6 w n) (encode x) (drop e s))
+  array-there (Item.simple w n) a four = other 4 four (lit< tt) (λ z. omega arith) (a .good) _ (a .is)
+
+  -- and of an unsigned number's that is no kind, one that no known kind has first
+  lead-there : (x : Item) {v : ℕ} {xs : Items} → Stands s p e x → tokenAt s p .major ≡ 0 → 9 < tokenAt s p .arg → tokenAt s p .arg ≢ 99 → UnknownKind (Item.array v (Items.more x xs))
+  unfolding encode
+  lead-there (Item.number true w n) a none high ne = other 0 none (lit< tt) (λ z. omega arith) (a .good) _ (a .is)
+  lead-there (Item.number false w n) a none high ne =
+      let same : tokenAt s p .arg ≡ n = ap (λ (t : Token). t .arg) (number-token a) in
+      UnknownKind.unknown {n = n} (omega arith) (λ z. ne (same ∙ z))
+  lead-there (Item.string true w bs) a none high ne = other 0 none (lit< tt) (λ z. omega arith) (a .good .0) _ (a .is ∙ append-assoc (headBytes 3 w (length bs)) bs (drop e s))
+  lead-there (Item.string false w bs) a none high ne = other 0 none (lit< tt) (λ z. omega arith) (a .good .0) _ (a .is ∙ append-assoc (headBytes 2 w (length bs)) bs (drop e s))
+  lead-there (Item.array w xs) a none high ne = other 0 none (lit< tt) (λ z. omega arith) (a .good .0) _ (a .is ∙ append-assoc (headBytes 4 w (count xs)) (encodes xs) (drop e s))
+  lead-there (Item.map w xs) a none high ne = other 0 none (lit< tt) (λ z. omega arith) (a .good .0) _ (a .is ∙ append-assoc (headBytes 5 w (count xs / 2)) (encodes xs) (drop e s))
+  lead-there (Item.tagged w n x) a none high ne = other 0 none (lit< tt) (λ z. omega arith) (a .good .0) _ (a .is ∙ append-assoc (headBytes 6 w n) (encode x) (drop e s))
+  lead-there (Item.simple w n) a none high ne = other 0 none (lit< tt) (λ z. omega arith) (a .good) _ (a .is)
 
 -- an array with items, led by an unsigned number that is no kind, as its heads say
 pub record UnknownLead (s : List ℕ) : Type 0 where
@@ -146,17 +149,16 @@ pub record UnknownLead (s : List ℕ) : Type 0 where
   pub other : tokenAt s (tokenAt s 0 .next) .arg ≢ 99
 
 -- and where an array stands that is so led, it is of no known kind
-unknown-array : {s : List ℕ} {e : ℕ} {x : Item} → Bytes s → Stands s 0 e x → IsArray x → UnknownLead s → UnknownKind x
+unknown-array : {s : List ℕ} {e : ℕ} {x : Item} → Stands s 0 e x → IsArray x → UnknownLead s → UnknownKind x
 unfolding count itemsIn pick
-unknown-array {s} b a (IsArray.array {xs = Items.done}) u =
+unknown-array a (IsArray.array {xs = Items.done}) u =
     let t = array-passed (last a) in
     absurd (u .filled (rw (t .major, t .arg)))
-unknown-array {s} b a (IsArray.array {w} {xs = Items.more y ys}) u =
-    let t = array-passed (last a) in
-    let c = split (t .items) in
-    let i = uint-at b (token-end s 0) (u .number) in
-    let same = stands-once (i .stands) (c .first) in
-    subst (λ (y : Item). UnknownKind (Item.array w (Items.more y ys))) same (UnknownKind.unknown (u .high) (u .other))
+unknown-array {s} a (IsArray.array {xs = Items.more y ys}) u = lead-there s _ _ y (split (array-passed (last a) .items) .first) (u .number) (u .high) (u .other)
+
+-- an item that is so led is of no known kind
+pub unknown-there : {s : List ℕ} {e : ℕ} {x : Item} → Stands s 0 e x → UnknownLead s → UnknownKind x
+unknown-there {s} {e} {x} stands u = unknown-array stands (array-there s 0 e x stands (is-array (tokenAt s 0) (u .filled))) u
 
 -- ---- the answers
 module _ {s : List ℕ} (b : Bytes s) where
@@ -201,10 +203,6 @@ module _ {s : List ℕ} (b : Bytes s) where
       shape : {r : Shape} → ShapeOk s r → P (judged r)
       shape (ShapeOk.bad {place}) = departs place
       shape (ShapeOk.good {m} {end} {bad} {long} i) = reads m end bad long i
-
-  -- an item that is so led is of no known kind
-  pub unknown-there : {e : ℕ} {x : Item} → Stands s 0 e x → UnknownLead s → UnknownKind x
-  unknown-there {x = x} stands u = unknown-array b stands (array-there x stands (heading (u .filled)) (is-array (tokenAt s 0) (u .filled))) u
 
 -- the walk accepts a message that its parts make up, and ends where they end
 pub parts-walked : (s : List ℕ) {m : Message} {end : ℕ} → Bytes s → shaped s ≡ E.Accepted m end → firstItem 0 s ≡ ItemRead.Ends end

@@ -285,6 +285,10 @@ token-numbers p room major arg len w = both by (ltb 1 major) (both by (ltb major
     same : {next : ℕ} → by (record { at = p; major = major; arg = arg; body = p + len; next = next })
     same q h = (sym (ap (λ (v : Token). v .major) q), sym (ap (λ (v : Token). v .arg) q))
 
+-- so it is of the major type of a head that stands there
+pub headed-major : (s : List ℕ) (p major width arg : ℕ) (r : List ℕ) → Right major width arg → drop p s ≡ headBytes major width arg ++ r → tokenAt s p .major < 8 → major ≡ tokenAt s p .major
+headed-major s p major width arg r right is h = token-numbers p (length (drop p s)) major arg (1 + width) (tokenAt s p) (headed s p major width arg r right is) h .0
+
 -- one that was read has its head there, where that is spelt so
 spelt-heading : (s : List ℕ) (p : ℕ) (w : Token) → ((major arg len : ℕ) → headAt (drop p s) ≡ HeadRead.Head major arg len → major ≡ w .major → arg ≡ w .arg → Spelt (drop p s) major arg len)
     → p ≤ length s → w ≡ tokenAt s p → w .major < 8 → Heading s p w
