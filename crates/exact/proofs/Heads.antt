@@ -21,7 +21,7 @@ use Rattle.grammar.specs.Stands.{Stands, StandAll, Before}
 use Rattle.grammar.proofs.Bridge.{Heading, token-heading, split, string-major, number-token, text-token, array-token}
 use Rattle.grammar.proofs.Pieces.{Some, number-at, content-bytes, text-at, number-here, number-is}
 use Rattle.message.specs.Opening.{most, isInitiator}
-use Rattle.message.proofs.Least.{initiated}
+use Rattle.message.proofs.Parts.{initiated}
 use Rattle.exact.specs.Describes.{NumberIs, InitiatorIs}
 
 -- ---- from tokens to items

@@ -1,5 +1,6 @@
--- `Fits`: what is read lies within the message, and the turns of the loops. `Least`: where the parts of a message lie, and how long they are at least.
+-- `Fits`: what is read lies within the message, and the turns of the loops. `Parts`: where the parts of a message that was read lie, and how long they
+-- are at least.
 pub mod Fits
-pub mod Least
+pub mod Parts
 -- For the proofs of this crate.
 mod Led

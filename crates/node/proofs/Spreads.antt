@@ -11,7 +11,7 @@ use Rattle.options.specs.declared.objective.Objective.{Objective}
 use Rattle.message.specs.declared.Message.{Message}
 use Rattle.message.specs.declared.Message.the-variants as M
 use Rattle.message.specs.Read.{mostBytes}
-use Rattle.message.proofs.Least.{SpreadParts, MessageParts, read-parts}
+use Rattle.message.proofs.Parts.{SpreadParts, MessageParts, read-parts}
 use Rattle.roundtrip.specs.Lower.{Lowers}
 use Rattle.node.specs.declared.role.Spread.{Spread}
 use Rattle.node.specs.declared.role.Role.{Role}

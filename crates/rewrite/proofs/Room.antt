@@ -14,7 +14,7 @@ use Rattle.message.specs.declared.Series.{Series}
 use Rattle.message.specs.declared.Targets.{Targets}
 use Rattle.message.specs.declared.Reading.{Reading}
 use Rattle.message.specs.Read.{mostBytes, readOf}
-use Rattle.message.proofs.Least.{Six, MessageParts, read-parts}
+use Rattle.message.proofs.Parts.{Six, MessageParts, read-parts}
 use Rattle.description.specs.Describe.{placeRow, pairRow}
 use Rattle.describe.specs.Rows as R
 use Rattle.rewrite.specs.Lent.{mostNumbers}

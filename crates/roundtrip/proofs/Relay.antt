@@ -29,7 +29,7 @@ use Rattle.message.specs.declared.Message.the-variants as M
 use Rattle.message.specs.declared.Reading.{Reading}
 use Rattle.contents.specs.Fields.{kindOf, sessionOf, initiatorOf, objectiveOf}
 use Rattle.message.specs.Read.{mostBytes, readOf}
-use Rattle.message.proofs.Least.{MessageParts, read-parts}
+use Rattle.message.proofs.Parts.{MessageParts, read-parts}
 use Rattle.exact.specs.Accepted.{Accepted}
 use Rattle.exact.specs.Describes.{InitiatorIs, Describes}
 use Rattle.exact.proofs.Exact.{accepted-exactly, accepted-bytes, accepted-described}
