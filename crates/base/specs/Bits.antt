@@ -5,7 +5,7 @@ use mathlib.Core.List.{List, [], _∷_}
 use lib.Dec.{eqb}
 
 -- bit i of a mask is set
-abbrev pub hasBit : ℕ → ℕ → Bool
+unfoldable pub hasBit : ℕ → ℕ → Bool
 hasBit mask i = eqb (mask / 2 ^ i % 2) 1
 
 -- the mask whose bits these are, each named once

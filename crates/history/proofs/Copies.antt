@@ -14,35 +14,35 @@ use lib.Pow.{pow-pos, mod-pow-add}
 use borrow.Author.Tests.{eqb-true, eqb-false}
 use Rattle.base.specs.Pick.{pick}
 use Rattle.base.specs.Lists.{Every, Distinct}
+use Rattle.base.specs.Bits.{hasBit}
 use Rattle.base.proofs.Picks.{pick-case}
 use Rattle.base.proofs.Lists.{every-imp}
-use Rattle.node_state.specs.Record.{isUp}
 use Rattle.node.specs.History.{interfacesIn}
 
 -- each is below n and up
-pub interfaces-up : (n mask : ℕ) → Every (λ i. (i < n) × (isUp mask i ≡ true)) (interfacesIn n mask)
+pub interfaces-up : (n mask : ℕ) → Every (λ i. (i < n) × (hasBit mask i ≡ true)) (interfacesIn n mask)
 unfolding interfacesIn
 interfaces-up zero mask = tt
 interfaces-up (suc n) mask =
     let rest =
-    every-imp (λ i. (i < n) × (isUp mask i ≡ true)) (λ i. (i < suc n) × (isUp mask i ≡ true)) (λ i k. (le-trans (k .0) (le-suc n), k .1)) (interfacesIn n mask) (interfaces-up n mask)
+    every-imp (λ i. (i < n) × (hasBit mask i ≡ true)) (λ i. (i < suc n) × (hasBit mask i ≡ true)) (λ i k. (le-trans (k .0) (le-suc n), k .1)) (interfacesIn n mask) (interfaces-up n mask)
     in
-    pick-case (Every (λ i. (i < suc n) × (isUp mask i ≡ true))) (isUp mask n) (λ e. ((le-refl (suc n), e), rest)) (λ e. rest)
+    pick-case (Every (λ i. (i < suc n) × (hasBit mask i ≡ true))) (hasBit mask n) (λ e. ((le-refl (suc n), e), rest)) (λ e. rest)
 
 pub interfaces-distinct : (n mask : ℕ) → Distinct (interfacesIn n mask)
 unfolding interfacesIn
 interfaces-distinct zero mask = tt
 interfaces-distinct (suc n) mask =
     let rest = interfaces-distinct n mask in
-    pick-case Distinct (isUp mask n)
-    (λ e. (every-imp (λ i. (i < n) × (isUp mask i ≡ true)) (λ i. n ≢ i) (λ i k. omega arith) (interfacesIn n mask) (interfaces-up n mask), rest))
+    pick-case Distinct (hasBit mask n)
+    (λ e. (every-imp (λ i. (i < n) × (hasBit mask i ≡ true)) (λ i. n ≢ i) (λ i k. omega arith) (interfacesIn n mask) (interfaces-up n mask), rest))
     (λ e. rest)
 
 -- one bit more
-bit-ones : (mask n : ℕ) (xs : List ℕ) → length (pick (isUp mask n) (n ∷ xs) xs) ≡ ones (mask / 2 ^ n % 2) + length xs
-unfolding isUp ones onesIn
+bit-ones : (mask n : ℕ) (xs : List ℕ) → length (pick (hasBit mask n) (n ∷ xs) xs) ≡ ones (mask / 2 ^ n % 2) + length xs
+unfolding hasBit ones onesIn
 bit-ones mask n xs =
-    pick-case (λ (l : List ℕ). length l ≡ ones (mask / 2 ^ n % 2) + length xs) (isUp mask n)
+    pick-case (λ (l : List ℕ). length l ≡ ones (mask / 2 ^ n % 2) + length xs) (hasBit mask n)
     (λ e. let one : mask / 2 ^ n % 2 ≡ 1 = eqb-true (mask / 2 ^ n % 2) 1 e in rw one (omega arith))
     (λ e. let none : mask / 2 ^ n % 2 ≡ 0 = omega (arith, eqb-false (mask / 2 ^ n % 2) 1 e, mod-lt (mask / 2 ^ n) {m = 2} (lit< tt)) in rw none (omega arith))
 

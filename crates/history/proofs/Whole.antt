@@ -14,6 +14,7 @@ use Rattle.options.specs.Text.{held}
 use Rattle.base.specs.Pick.{pick}
 use Rattle.base.specs.Lists.{Every, EachPair, Distinct}
 use Rattle.base.specs.BigEndian.{Bytes}
+use Rattle.base.specs.Bits.{hasBit}
 use Rattle.base.proofs.Picks.{pick-case}
 use Rattle.base.proofs.Bools.{not-both}
 use Rattle.base.proofs.Lists.{every-imp, every-chosen, pairs-chosen}
@@ -22,7 +23,7 @@ use Rattle.negotiation.proofs.Turns.{negotiation-bounded}
 use Rattle.node_state.specs.declared.Record.{Record}
 use Rattle.node_state.specs.declared.Kept.{Kept}
 use Rattle.node.specs.declared.role.Spread.{Spread}
-use Rattle.node_state.specs.Record.{fresh, isUp, others, clocked, tallied, setLinks}
+use Rattle.node_state.specs.Record.{fresh, others, clocked, tallied, setLinks}
 use Rattle.node_state.specs.Table.{freshTable, rowLife, freed, lowestFree, isKnown}
 use Rattle.node.specs.Role.{keyIn}
 use Rattle.roundtrip.specs.Lower.{onward}
@@ -229,13 +230,13 @@ module _ (x : Step) (s : Spread) (facts : Relays (x .node) (x .table) (x .call) 
   unfolding outgoing
   copies-differ =
       let up = arrives (x .node) (x .call .interface) (facts .passes .good) (facts .passes .arrives) .up in
-      every-imp (λ j. (j < 8) × (isUp (outgoing x) j ≡ true)) (λ j. j ≢ x .call .interface)
-      (λ j h e. not-both (isUp (outgoing x) (x .call .interface)) (subst (λ (z : ℕ). isUp (outgoing x) z ≡ true) e (h .1)) (taken-down (x .node .links) (x .call .interface) up))
+      every-imp (λ j. (j < 8) × (hasBit (outgoing x) j ≡ true)) (λ j. j ≢ x .call .interface)
+      (λ j h e. not-both (hasBit (outgoing x) (x .call .interface)) (subst (λ (z : ℕ). hasBit (outgoing x) z ≡ true) e (h .1)) (taken-down (x .node .links) (x .call .interface) up))
       (interfacesIn 8 (outgoing x)) (interfaces-up 8 (outgoing x))
 
   copies-below : Every (λ j. j < x .node .interfaces) (interfacesIn 8 (outgoing x))
   copies-below =
-      every-imp (λ j. (j < 8) × (isUp (outgoing x) j ≡ true)) (λ j. j < x .node .interfaces) (λ j h. up-below (x .node .interfaces) (outgoing x) j small-mask (h .1))
+      every-imp (λ j. (j < 8) × (hasBit (outgoing x) j ≡ true)) (λ j. j < x .node .interfaces) (λ j h. up-below (x .node .interfaces) (outgoing x) j small-mask (h .1))
       (interfacesIn 8 (outgoing x)) (interfaces-up 8 (outgoing x))
 
   went-tally : x .after .called .node .tally ≡ x .node .tally + length (copies x)

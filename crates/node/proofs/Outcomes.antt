@@ -11,6 +11,7 @@ use lib.ListN.{length}
 use borrow.Author.Tests.{eq-eqb, ne-eqb, lt-ltb, le-ltb, le-leb, lt-leb, ltb-false, leb-false, not-false}
 use Rattle.options.specs.Text.{held}
 use Rattle.base.specs.Pick.{pick}
+use Rattle.base.specs.Bits.{hasBit}
 use Rattle.base.proofs.Picks.{pick-case}
 use Rattle.base.proofs.Bools.{or-left, or-right}
 use Rattle.message.specs.declared.Message.{Message}
@@ -25,7 +26,7 @@ use Rattle.node.specs.declared.Verdict.{Verdict}
 use Rattle.node.specs.declared.Verdict.the-variants.{Own, Answer, Duplicate, Last, Nowhere, NoRow, Relay, Noop, Hand}
 use Rattle.node.specs.declared.role.Spread.{Spread}
 use Rattle.node_state.specs.declared.table.Key.{Key}
-use Rattle.node_state.specs.Record.{recordBad, arrivalBad, isUp, others, clocked, tallied}
+use Rattle.node_state.specs.Record.{recordBad, arrivalBad, others, clocked, tallied}
 use Rattle.node_state.specs.Table.{whereSized, freed, lowestFree, filled, isKnown}
 use Rattle.node.specs.Role.{roleOf, keyIn}
 use Rattle.cbor.specs.Put.{written}
@@ -144,16 +145,16 @@ passed r t clock i names room =
 pub record Arrives (r : Record) (i : ℕ) : Type 0 where
   pub below : i < r .interfaces
   pub small : i < 8
-  pub up : isUp (r .links) i ≡ true
+  pub up : hasBit (r .links) i ≡ true
 
 pub arrives : (r : Record) (i : ℕ) → recordBad r ≡ false → arrivalBad r i ≡ false → Arrives r i
 unfolding arrivalBad
 arrives r i good e =
-    let below : i < r .interfaces = leb-false (r .interfaces) i (or-left (leb (r .interfaces) i) (not (isUp (r .links) i)) e) in
+    let below : i < r .interfaces = leb-false (r .interfaces) i (or-left (leb (r .interfaces) i) (not (hasBit (r .links) i)) e) in
     record {
       below = below;
       small = omega (arith, record-links r good .most);
-      up = not-false (isUp (r .links) i) (or-right (leb (r .interfaces) i) (not (isUp (r .links) i)) e);
+      up = not-false (hasBit (r .links) i) (or-right (leb (r .interfaces) i) (not (hasBit (r .links) i)) e);
     }
 
 -- so the verdicts have what they rest on

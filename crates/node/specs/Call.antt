@@ -8,6 +8,7 @@ use lib.Count.{ones}
 use lib.Dec.{ltb, leb, eqb}
 use Rattle.options.specs.Text.{held}
 use Rattle.base.specs.Pick.{pick}
+use Rattle.base.specs.Bits.{hasBit}
 use Rattle.message.specs.declared.Reading.{Reading}
 use Rattle.message.specs.Read.{mostBytes, readOf}
 use Rattle.cbor.specs.Put.{written}
@@ -22,7 +23,7 @@ use Rattle.node.specs.declared.Reply.the-variants.{Refused, Given}
 use Rattle.node.specs.declared.Called.{Called}
 use Rattle.node.specs.declared.role.Spread.{Spread}
 use Rattle.node.specs.declared.role.Role.{Role}
-use Rattle.node_state.specs.Record.{mostInterfaces, mostTally, recordBad, arrivalBad, others, clocked, tallied, isUp}
+use Rattle.node_state.specs.Record.{mostInterfaces, mostTally, recordBad, arrivalBad, others, clocked, tallied}
 use Rattle.node_state.specs.Table.{mostRows, tableNumbers, tableBad, freed, putRow, lowestFree, isKnown}
 use Rattle.node.specs.Role.{roleOf, keyIn}
 
@@ -143,6 +144,6 @@ pub record Passed (r : Record) (t : List ℕ) (clock interface room : ℕ) : Typ
 pub record Ready (r : Record) (t : List ℕ) (interface room : ℕ) : Type 0 where
   pub sized : length t ≡ tableNumbers
   pub small : interface < mostInterfaces
-  pub up : isUp (r .links) interface ≡ true
+  pub up : hasBit (r .links) interface ≡ true
   pub tally : r .tally ≤ mostTally
   pub fits : mostBytes ≤ room

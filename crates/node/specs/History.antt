@@ -10,6 +10,7 @@ use Rattle.options.specs.Text.{held}
 use Rattle.base.specs.Pick.{pick}
 use Rattle.base.specs.Lists.{Every, EachPair, Distinct}
 use Rattle.base.specs.BigEndian.{Bytes}
+use Rattle.base.specs.Bits.{hasBit}
 use Rattle.contents.specs.declared.fields.Session.{Session}
 use Rattle.message.specs.declared.Reading.{Reading}
 use Rattle.contents.specs.Fields.{kindOf, sessionOf, initiatorOf, objectiveOf, countIn}
@@ -19,7 +20,7 @@ use Rattle.node.specs.declared.Verdict.{Verdict}
 use Rattle.node.specs.declared.Verdict.the-variants.{Own, Answer, Duplicate, Last, Nowhere, NoRow, Relay, Noop, Hand}
 use Rattle.node.specs.declared.Reply.{Reply}
 use Rattle.node.specs.declared.Reply.the-variants.{Refused, Given}
-use Rattle.node_state.specs.Record.{setLinks, isUp}
+use Rattle.node_state.specs.Record.{setLinks}
 use Rattle.node.specs.Call.{Call, After, nodeCall}
 
 -- ---- the list
@@ -123,7 +124,7 @@ arrivedOn x = x .call .interface
 -- the interfaces below n that a mask holds
 unfoldable pub interfacesIn : ℕ → ℕ → List ℕ
 interfacesIn zero mask = []
-interfacesIn (suc n) mask = pick (isUp mask n) (n ∷ interfacesIn n mask) (interfacesIn n mask)
+interfacesIn (suc n) mask = pick (hasBit mask n) (n ∷ interfacesIn n mask) (interfacesIn n mask)
 
 -- its copies: the interfaces in its mask, which has 8 bits
 unfoldable pub copies : Step → List ℕ

@@ -2,12 +2,12 @@
 ghost use mathlib.Core.Path.{_≡_};
 ghost use mathlib.Core.Bool.{true};
 ghost use Prim.Native.Nat.{_-_, _^_, _<_};
-ghost use Rattle.node_state.specs.Record.{isUp};
+ghost use Rattle.base.specs.Bits.{hasBit};
 
 // The link of interface i is up.
 pub(crate) fn is_up(mask: u8, i: u8) -> bool
     requires { ⌜ i < 8 ⌝ }
-    ensures { λ r. ⌜ r ≡ isUp mask i ⌝ }
+    ensures { λ r. ⌜ r ≡ hasBit mask i ⌝ }
 {
     (mask >> i) % 2 == 1
 }
@@ -15,7 +15,7 @@ pub(crate) fn is_up(mask: u8, i: u8) -> bool
 // The links up, less that of interface i, which is up.
 pub(crate) fn others(mask: u8, i: u8) -> u8
     requires small { ⌜ i < 8 ⌝ }
-    requires up { ⌜ isUp mask i ≡ true ⌝ }
+    requires up { ⌜ hasBit mask i ≡ true ⌝ }
     ensures { λ r. ⌜ r ≡ mask - 2 ^ i ⌝ }
 {
     mask - (1 << i)

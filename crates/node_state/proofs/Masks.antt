@@ -9,9 +9,10 @@ use native.Mathlib.Omega.{arith}
 use lib.Dec.{ltb, leb, eqb, lit<}
 use lib.Pow.{shl-exact, pow-pos, pow-mono, split, high}
 use borrow.Author.Tests.{ltb-false, leb-false, eqb-true, eqb-false, ne-eqb, le-ltb}
+use Rattle.base.specs.Bits.{hasBit}
 use Rattle.base.proofs.Bools.{or-left, or-right}
 use Rattle.node_state.specs.declared.Record.{Record}
-use Rattle.node_state.specs.Record.{linksBad, recordBad, isUp}
+use Rattle.node_state.specs.Record.{linksBad, recordBad}
 
 -- the count and mask of links that aren't bad
 pub record Fit (interfaces mask : ℕ) : Type 0 where
@@ -52,8 +53,8 @@ pub one-bit : (w i : ℕ) → i < w → 1 * 2 ^ i % 2 ^ w ≡ 2 ^ i
 one-bit w i h = shl-exact {a = 1} 1 i w (lit< tt) (omega arith) ∙ one-mul (2 ^ i)
 
 -- what is up in a mask below 2^n is below n
-pub up-below : (n mask i : ℕ) → mask < 2 ^ n → isUp mask i ≡ true → i < n
-unfolding isUp
+pub up-below : (n mask i : ℕ) → mask < 2 ^ n → hasBit mask i ≡ true → i < n
+unfolding hasBit
 up-below n mask i h e = go (decLt i n)
   where
     go : Dec (i < n) → i < n
@@ -65,8 +66,8 @@ up-below n mask i h e = go (decLt i n)
         omega arith
 
 -- what is up in a mask is part of it
-pub up-le : (mask i : ℕ) → isUp mask i ≡ true → 2 ^ i ≤ mask
-unfolding isUp
+pub up-le : (mask i : ℕ) → hasBit mask i ≡ true → 2 ^ i ≤ mask
+unfolding hasBit
 up-le mask i e = go (decLt mask (2 ^ i))
   where
     go : Dec (mask < 2 ^ i) → 2 ^ i ≤ mask
@@ -77,8 +78,8 @@ up-le mask i e = go (decLt mask (2 ^ i))
         omega arith
 
 -- a link that is taken out is no longer up
-pub taken-down : (mask i : ℕ) → isUp mask i ≡ true → isUp (mask - 2 ^ i) i ≡ false
-unfolding isUp
+pub taken-down : (mask i : ℕ) → hasBit mask i ≡ true → hasBit (mask - 2 ^ i) i ≡ false
+unfolding hasBit
 taken-down mask i e = go (mask / 2 ^ i) refl
   where
     odd : mask / 2 ^ i % 2 ≡ 1

@@ -51,13 +51,9 @@ linked r mask =
 unfoldable pub setLinks : Record → ℕ → Kept
 setLinks r mask = pick (recordBad r) (keeps 12 r) (pick (leb (2 ^ r .interfaces) mask) (keeps 13 r) (keeps 0 (linked r mask)))
 
--- of a mask of links or copies: interface i is in it
-unfoldable pub isUp : ℕ → ℕ → Bool
-isUp mask i = hasBit mask i
-
--- 13 of the node call: the arriving interface isn't below the count, or its link is down
+-- 13 of the node call: the arriving interface isn't below the count, or isn't in the mask of links: its link is down
 unfoldable pub arrivalBad : Record → ℕ → Bool
-arrivalBad r i = leb (r .interfaces) i || not (isUp (r .links) i)
+arrivalBad r i = leb (r .interfaces) i || not (hasBit (r .links) i)
 
 -- the links up, less that of interface i, which is up
 unfoldable pub others : Record → ℕ → ℕ

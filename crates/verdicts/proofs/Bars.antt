@@ -13,11 +13,12 @@ use lib.ListN.{length}
 use lib.Pow.{pow-mono, pow-pos}
 use borrow.Author.Tests.{ltb-true, leb-true, eqb-true, lt-ltb, le-leb, eq-eqb, not-true}
 use Rattle.base.specs.Pick.{pick}
+use Rattle.base.specs.Bits.{hasBit}
 use Rattle.base.proofs.Picks.{pick-case}
 use Rattle.base.proofs.Bools.{true-or-false, or-true, not-both}
 use Rattle.names.specs.Names.{namesBad}
 use Rattle.node_state.specs.declared.Record.{Record}
-use Rattle.node_state.specs.Record.{linksBad, recordBad, arrivalBad, isUp}
+use Rattle.node_state.specs.Record.{linksBad, recordBad, arrivalBad}
 use Rattle.node_state.specs.Table.{tableBad}
 use Rattle.node.specs.Call.{Call, barred}
 use Rattle.node_state.proofs.Masks.{up-le}
@@ -28,12 +29,12 @@ use Rattle.verdicts.proofs.Rows.{table-good}
 
 -- ---- a link bit at or above the count
 
-pub high-bit : (wide n mask : ℕ) → mask < 2 ^ wide → 2 ^ n ≤ mask → (j : ℕ) × (n ≤ j) × (isUp mask j ≡ true)
+pub high-bit : (wide n mask : ℕ) → mask < 2 ^ wide → 2 ^ n ≤ mask → (j : ℕ) × (n ≤ j) × (hasBit mask j ≡ true)
 high-bit zero n mask h l = let some : 0 < 2 ^ n = pow-pos n in absurd (omega arith)
-high-bit (suc wide) n mask h l = go (true-or-false (isUp mask wide)) (decLt wide n) (λ small. high-bit wide n mask small l)
+high-bit (suc wide) n mask h l = go (true-or-false (hasBit mask wide)) (decLt wide n) (λ small. high-bit wide n mask small l)
   where
-    go : (isUp mask wide ≡ true) ⊎ (isUp mask wide ≡ false) → Dec (wide < n) → (mask < 2 ^ wide → (j : ℕ) × (n ≤ j) × (isUp mask j ≡ true))
-        → (j : ℕ) × (n ≤ j) × (isUp mask j ≡ true)
+    go : (hasBit mask wide ≡ true) ⊎ (hasBit mask wide ≡ false) → Dec (wide < n) → (mask < 2 ^ wide → (j : ℕ) × (n ≤ j) × (hasBit mask j ≡ true))
+        → (j : ℕ) × (n ≤ j) × (hasBit mask j ≡ true)
     go (inr off) d rest = rest (top-off wide mask h off)
     go (inl on) (no far) rest = (wide, omega arith, on)
     go (inl on) (yes near) rest = let wider : 2 ^ suc wide ≤ 2 ^ n = pow-mono near in absurd (omega arith)
@@ -78,18 +79,18 @@ record-test r = (λ e. there (or-true (eqb n 0 || ltb 8 n || leb (2 ^ n) mask) (
 
 arrival-test : (r : Record) (c : Call) → arrivalBad r (c .interface) ≡ true ↔ BadArrival r c
 unfolding arrivalBad
-arrival-test r c = (λ e. there (or-true (leb (r .interfaces) i) (not (isUp (r .links) i)) e), back)
+arrival-test r c = (λ e. there (or-true (leb (r .interfaces) i) (not (hasBit (r .links) i)) e), back)
   where
     i : ℕ
     i = c .interface
 
-    there : (leb (r .interfaces) i ≡ true) ⊎ (not (isUp (r .links) i) ≡ true) → BadArrival r c
+    there : (leb (r .interfaces) i ≡ true) ⊎ (not (hasBit (r .links) i) ≡ true) → BadArrival r c
     there (inl e) = inl (leb-true (r .interfaces) i e)
-    there (inr e) = inr (not-true (isUp (r .links) i) e)
+    there (inr e) = inr (not-true (hasBit (r .links) i) e)
 
-    back : BadArrival r c → (leb (r .interfaces) i || not (isUp (r .links) i)) ≡ true
-    back (inl l) = either (leb (r .interfaces) i) (not (isUp (r .links) i)) (inl (le-leb (r .interfaces) i l))
-    back (inr e) = either (leb (r .interfaces) i) (not (isUp (r .links) i)) (inr (ap not e))
+    back : BadArrival r c → (leb (r .interfaces) i || not (hasBit (r .links) i)) ≡ true
+    back (inl l) = either (leb (r .interfaces) i) (not (hasBit (r .links) i)) (inl (le-leb (r .interfaces) i l))
+    back (inr e) = either (leb (r .interfaces) i) (not (hasBit (r .links) i)) (inr (ap not e))
 
 -- a test that fails, and one that holds
 fails : {test : Bool} {P : Type 0} → test ≡ true ↔ P → test ≡ false → P → ⊥

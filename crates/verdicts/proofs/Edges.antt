@@ -8,6 +8,7 @@ use lib.ListN.{replicate}
 use lib.Count.{ones, onesIn}
 use Rattle.base.specs.Pick.{pick}
 use Rattle.base.specs.BigEndian.{bigEndian, bytesOf}
+use Rattle.base.specs.Bits.{hasBit}
 use Rattle.cbor.specs.Head.{widthOf, leastOf, initialOf, argOf, judged as headJudged, headFrom, headBy, headOf, headAt}
 use Rattle.cbor.specs.Item.{opens, stepOf, stepFrom, stepAt, itemsOf, next, run, enough, firstItem}
 use Rattle.cbor.specs.Token.{nothingAt, tokenOf, tokenFrom, tokenAt, sizeFrom, sizeAt, itemsIn, upTo}
@@ -30,7 +31,7 @@ use Rattle.writer.specs.Edges.{initiator, name, discoveryBytes, floodBytes, end
 use Rattle.names.specs.Names.{goodName, goodNames, arrayBad, framedBad, namesBad, sameBytes, ownFrom, isOwn}
 use Rattle.node.specs.declared.Verdict.the-variants.{Duplicate, Relay}
 use Rattle.node.specs.declared.Reply.the-variants.{Given}
-use Rattle.node_state.specs.Record.{linksBad, recordBad, fresh, isUp, arrivalBad, others, clocked, tallied}
+use Rattle.node_state.specs.Record.{linksBad, recordBad, fresh, arrivalBad, others, clocked, tallied}
 use Rattle.node_state.specs.Table.{freshTable, cell, putRow, rowFree, tagIn, initiatorFits, rowKeyed, rowUsed, rowBad, firstFrom, someRow, tableBad, rowLife, rowDead, freeRows, freed, lowestFree, rowMatches, isKnown}
 use Rattle.node_state.specs.Key.{tagOf, keyOf}
 use Rattle.node.specs.Role.{roleOf, keyIn}
@@ -67,5 +68,5 @@ pub starred :
     ∷ [])
     × (outcomes (arrives 1000 (floodBytes 2) ∷ [])
     ≡ afterOf (replies (Given Relay true 6 20) (node 1000 2)) (oneRow (7 + 2 ^ 32 * 3) 0xc0000201 0 1000) (floodBytes 1 ++ replicate 2028 0) ∷ [])
-unfolding pick bigEndian bytesOf widthOf leastOf initialOf argOf headJudged headFrom headBy headOf headAt opens stepOf stepFrom stepAt itemsOf next run enough firstItem nothingAt tokenOf tokenFrom tokenAt sizeFrom sizeAt itemsIn upTo tailsOf leastTail greatestTail goesOn isUtf8 infoOf headBytes shortest head badText firstOf longName objectiveOf objectiveIn objectiveNamed isEmpty pairTagged pairTail pairLed pairIn isInitiator openingAt pairNext pairsFrom noopAt discovered discoveryAt optionAt endAt floodedBy floodedOf floodedAt floodBy floodAt byKind judged shaped framed examined placeless readOf lowered goodName goodNames arrayBad framedBad namesBad sameBytes ownFrom isOwn linksBad recordBad fresh isUp arrivalBad others clocked tallied freshTable cell putRow rowFree tagIn initiatorFits rowKeyed rowUsed rowBad firstFrom someRow tableBad rowLife rowDead freeRows freed lowestFree rowMatches isKnown roleOf tagOf keyOf keyIn barred refuse quiet laterVerdict verdictOn relayed carriedOut taken received nodeCall steps ones onesIn
+unfolding pick bigEndian bytesOf widthOf leastOf initialOf argOf headJudged headFrom headBy headOf headAt opens stepOf stepFrom stepAt itemsOf next run enough firstItem nothingAt tokenOf tokenFrom tokenAt sizeFrom sizeAt itemsIn upTo tailsOf leastTail greatestTail goesOn isUtf8 infoOf headBytes shortest head badText firstOf longName objectiveOf objectiveIn objectiveNamed isEmpty pairTagged pairTail pairLed pairIn isInitiator openingAt pairNext pairsFrom noopAt discovered discoveryAt optionAt endAt floodedBy floodedOf floodedAt floodBy floodAt byKind judged shaped framed examined placeless readOf lowered goodName goodNames arrayBad framedBad namesBad sameBytes ownFrom isOwn linksBad recordBad fresh hasBit arrivalBad others clocked tallied freshTable cell putRow rowFree tagIn initiatorFits rowKeyed rowUsed rowBad firstFrom someRow tableBad rowLife rowDead freeRows freed lowestFree rowMatches isKnown roleOf tagOf keyOf keyIn barred refuse quiet laterVerdict verdictOn relayed carriedOut taken received nodeCall steps ones onesIn
 starred = (refl, refl, refl, refl, refl, refl, refl, refl, refl, refl, refl, refl, refl, refl, refl, refl, refl, refl, refl)

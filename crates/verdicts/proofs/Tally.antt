@@ -11,11 +11,12 @@ use lib.Count.{ones}
 use lib.ListN.{length}
 use lib.Pow.{pow-mono}
 use Rattle.base.specs.Lists.{Every}
+use Rattle.base.specs.Bits.{hasBit}
 use Rattle.base.proofs.Bools.{not-both}
 use Rattle.base.proofs.Lists.{every-imp}
 use Rattle.base.proofs.Pigeonhole.{pigeonhole}
 use Rattle.node_state.specs.declared.Record.{Record}
-use Rattle.node_state.specs.Record.{recordBad, arrivalBad, isUp, others, clocked, tallied, setLinks}
+use Rattle.node_state.specs.Record.{recordBad, arrivalBad, others, clocked, tallied, setLinks}
 use Rattle.node.specs.Call.{Call, After, relayed, nodeCall}
 use Rattle.node.specs.History.{Event, call, links, finally, interfacesIn}
 use Rattle.node_state.proofs.Masks.{record-links, record-tally, up-below, taken-down}
@@ -33,11 +34,11 @@ few-copies r i good arrival =
     let small : mask < 2 ^ r .interfaces = let l = fit .small in omega arith in
     let up = interfaces-up 8 mask in
     let apart : Every (λ j. i ≢ j) (interfacesIn 8 mask) =
-    every-imp (λ j. (j < 8) × (isUp mask j ≡ true)) (λ j. i ≢ j)
-    (λ j h e. not-both (isUp mask i) (subst (λ (z : ℕ). isUp mask z ≡ true) (sym e) (h .1)) (taken-down (r .links) i (a .up))) (interfacesIn 8 mask) up
+    every-imp (λ j. (j < 8) × (hasBit mask j ≡ true)) (λ j. i ≢ j)
+    (λ j h e. not-both (hasBit mask i) (subst (λ (z : ℕ). hasBit mask z ≡ true) (sym e) (h .1)) (taken-down (r .links) i (a .up))) (interfacesIn 8 mask) up
     in
     let below : Every (λ j. j < r .interfaces) (interfacesIn 8 mask) =
-    every-imp (λ j. (j < 8) × (isUp mask j ≡ true)) (λ j. j < r .interfaces) (λ j h. up-below (r .interfaces) mask j small (h .1)) (interfacesIn 8 mask) up
+    every-imp (λ j. (j < 8) × (hasBit mask j ≡ true)) (λ j. j < r .interfaces) (λ j h. up-below (r .interfaces) mask j small (h .1)) (interfacesIn 8 mask) up
     in
     let many : length (interfacesIn 8 mask) ≡ ones mask = length-interfaces 8 mask (le-trans small (pow-mono (fit .most))) in
     let most : length (i ∷ interfacesIn 8 mask) ≤ r .interfaces = pigeonhole (r .interfaces) (i ∷ interfacesIn 8 mask) (apart, interfaces-distinct 8 mask) (a .below, below) in

@@ -5,15 +5,15 @@ use mathlib.Core.List.{List}
 use mathlib.Core.Logic.{_⊎_}
 use mathlib.Core.Path.{_≡_}
 use lib.ListN.{length}
+use Rattle.base.specs.Bits.{hasBit}
 use Rattle.names.specs.Names.{namesBad}
 use Rattle.node_state.specs.declared.Record.{Record}
-use Rattle.node_state.specs.Record.{isUp}
 use Rattle.node.specs.Call.{Call}
 use Rattle.verdicts.specs.Rows.{Free, Used}
 
 -- a bit of the mask is set at or above the count
 abbrev pub HighLink : ℕ → ℕ → Type 0
-HighLink interfaces mask = (j : ℕ) × (interfaces ≤ j) × (isUp mask j ≡ true)
+HighLink interfaces mask = (j : ℕ) × (interfaces ≤ j) × (hasBit mask j ≡ true)
 
 -- the interface count isn't 1 to 8, a link bit is set at or above it, or the tally is above 2^63
 pub data BadRecord (r : Record) : Type 0 where
@@ -22,9 +22,9 @@ pub data BadRecord (r : Record) : Type 0 where
   high-link : HighLink (r .interfaces) (r .links) → BadRecord r
   high-tally : 2 ^ 63 < r .tally → BadRecord r
 
--- the arriving interface isn't below the count, or its link is down
+-- the arriving interface isn't below the count, or isn't in the mask of links: its link is down
 abbrev pub BadArrival : Record → Call → Type 0
-BadArrival r c = (r .interfaces ≤ c .interface) ⊎ (isUp (r .links) (c .interface) ≡ false)
+BadArrival r c = (r .interfaces ≤ c .interface) ⊎ (hasBit (r .links) (c .interface) ≡ false)
 
 -- the clock is earlier than the record's
 abbrev pub Earlier : Record → Call → Type 0

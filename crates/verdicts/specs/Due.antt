@@ -8,6 +8,7 @@ use lib.ListN.{length}
 use lib.Dec.{ltb}
 use Rattle.options.specs.Text.{held, contentIn}
 use Rattle.base.specs.Pick.{pick}
+use Rattle.base.specs.Bits.{hasBit}
 use Rattle.cbor.specs.Token.{tokenAt}
 use Rattle.options.specs.declared.Span.{Span}
 use Rattle.options.specs.declared.objective.Objective.{Objective}
@@ -21,7 +22,7 @@ use Rattle.node_state.specs.declared.Record.{Record}
 use Rattle.node.specs.declared.Verdict.{Verdict}
 use Rattle.node.specs.declared.Verdict.the-variants.{Own, Answer, Duplicate, Last, Nowhere, NoRow, Relay, Noop, Hand}
 use Rattle.node_state.specs.declared.table.Key.{Key}
-use Rattle.node_state.specs.Record.{isUp, clocked}
+use Rattle.node_state.specs.Record.{clocked}
 use Rattle.node_state.specs.Table.{freed}
 use Rattle.node_state.specs.Key.{keyOf}
 use Rattle.node.specs.Role.{spreadOf}
@@ -57,7 +58,7 @@ Spent o = (o .count ≡ 0) ⊎ (o .count ≡ 1)
 
 -- no other link is up
 abbrev pub Alone : Record → Call → Type 0
-Alone r c = (j : ℕ) → j ≢ c .interface → isUp (r .links) j ≡ false
+Alone r c = (j : ℕ) → j ≢ c .interface → hasBit (r .links) j ≡ false
 
 -- no row is free once the dead ones are freed
 abbrev pub Full : List ℕ → Call → Type 0

@@ -6,12 +6,13 @@ use mathlib.Core.Logic.{_≢_, _↔_}
 use mathlib.Core.Path.{_≡_}
 use lib.Count.{ones}
 use lib.ListN.{length}
+use Rattle.base.specs.Bits.{hasBit}
 use Rattle.options.specs.declared.Span.{Span}
 use Rattle.node_state.specs.declared.Record.{Record}
 use Rattle.node.specs.declared.Verdict.the-variants.{Answer}
 use Rattle.node.specs.declared.Reply.the-variants.{Given}
 use Rattle.node.specs.declared.role.Spread.{Spread}
-use Rattle.node_state.specs.Record.{isUp, clocked, tallied}
+use Rattle.node_state.specs.Record.{clocked, tallied}
 use Rattle.node_state.specs.Table.{cell, freed}
 use Rattle.node.specs.Role.{keyIn}
 use Rattle.options.specs.Text.{held}
@@ -32,8 +33,8 @@ pub record Relayed (r : Record) (t : List ℕ) (c : Call) (s : Spread) (mask len
   pub admitted : cell (a .table) row 3 ≡ c .clock
   pub no-other : (i : ℕ) → i ≢ row → SameRow (a .table) (freed (c .clock) t) i
   pub sized : length (a .table) ≡ 256
-  -- it goes out by the links up, less the arriving one
-  pub links : (j : ℕ) → isUp mask j ≡ true ↔ ((isUp (r .links) j ≡ true) × (j ≢ c .interface))
+  -- its mask has the links up, less the arriving one
+  pub links : (j : ℕ) → hasBit mask j ≡ true ↔ ((hasBit (r .links) j ≡ true) × (j ≢ c .interface))
   -- the copies are the ones in that mask
   pub node : a .called .node ≡ tallied (clocked r (c .clock)) (ones mask)
   -- the message with its count one lower is in front of the output

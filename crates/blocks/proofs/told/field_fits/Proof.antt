@@ -2,6 +2,7 @@
 -- Assumes nothing.
 use Rattle.base.proofs.Tests.{tests}
 use Rattle.base.specs.Pick.{pick}
+use Rattle.base.specs.Bits.{hasBit}
 use Rattle.blocks.specs.Told.{fieldFits}
 use borrow.Author.Needs.{needs}
 use Rattle.blocks.proofs.told.field_fits.Statement.{statement}
@@ -26,7 +27,7 @@ shr-result : tie.Need-shr-result
 shr-result c = search needs
 
 returns-2 : tie.Need-returns-2
-unfolding fieldFits pick
+unfolding fieldFits hasBit pick
 returns-2 c = search tests
 
 pub field-fits-spec : {M : Type 1} → statement M

@@ -1,7 +1,7 @@
 -- `node::links::is_up` meets its contract.
 -- Assumes nothing.
 use mathlib.Core.Path.{refl}
-use Rattle.node_state.specs.Record.{isUp}
+use Rattle.base.specs.Bits.{hasBit}
 use borrow.Author.Needs.{needs}
 use Rattle.node.proofs.links.is_up.Statement.{statement}
 use Rattle.node.proofs.links.is_up.Tie as tie
@@ -12,7 +12,7 @@ shr-result : tie.Need-shr-result
 shr-result c = search needs
 
 returns : tie.Need-returns
-unfolding isUp
+unfolding hasBit
 returns c = refl
 
 pub is-up-spec : {M : Type 1} → statement M
