@@ -1,13 +1,13 @@
--- Parts of a slice as lists.
+-- Parts of a slice as lists, and lists stored into one.
 -- Assumes nothing.
 use mathlib.Core.Path.{_≡_, refl, sym, ap, _∙_}
 use mathlib.Core.List.{List, [], _∷_, _++_}
 use Prim.Native.Nat.{ℕ, zero, suc, _+_, _-_, _≤_}
-use native.Mathlib.Nat.{le-of-eq}
+use native.Mathlib.Nat.{add-zero, add-suc, suc-add, le-of-eq}
 use native.Mathlib.Omega.{arith}
 use lib.Dec.{lit<}
-use lib.ListN.{length, take, drop, length-drop}
-use lib.Seq.{take-all, getD-drop, drop-append-seam}
+use lib.ListN.{length, take, drop, set, length-drop}
+use lib.Seq.{sets, take-all, getD-drop, drop-append-seam}
 use Rattle.base.specs.BigEndian.{Bytes}
 
 -- `&s[k..]`
@@ -35,3 +35,9 @@ bytes-take zero s b i = lit< tt
 bytes-take (suc n) [] b i = lit< tt
 bytes-take (suc n) (x ∷ s) b zero = b 0
 bytes-take (suc n) (x ∷ s) b (suc i) = bytes-take n s (λ j. b (suc j)) i
+
+-- two lists stored one after the other
+pub sets-append : (l : List ℕ) (at : ℕ) (a b : List ℕ) → sets (sets l at a) (at + length a) b ≡ sets l at (a ++ b)
+sets-append l at [] b = ap (λ (k : ℕ). sets l k b) (add-zero at)
+sets-append l at (x ∷ a) b =
+    ap (λ (k : ℕ). sets (sets (set l at x) (suc at) a) k b) (add-suc at (length a) ∙ sym (suc-add at (length a))) ∙ sets-append (set l at x) (suc at) a b

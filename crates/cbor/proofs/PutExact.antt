@@ -10,7 +10,7 @@ use lib.Seq.{sets-eq}
 use Rattle.cbor.specs.declared.head.HeadRead.{HeadRead}
 use Rattle.cbor.specs.Head.{headAt}
 use Rattle.cbor.specs.Tree.{headBytes, shortest, Sized}
-use Rattle.cbor.specs.Put.{head, put, headEnd, headPut}
+use Rattle.cbor.specs.Put.{head, headEnd, headPut}
 use Rattle.cbor.proofs.HeadExact.{length-head, head-read, shortest-right, no-shorter}
 use Rattle.cbor.proofs.Stores.{length-shortest, not-stored, stored}
 
@@ -30,7 +30,6 @@ shortest-head major width arg h = simp (length-shortest, length-head) (omega (ar
 pub head-stands : (l : List ℕ) (at major arg : ℕ) → major < 7 → at + length (head major arg) ≤ length l
     → (headEnd l at major arg ≡ at + length (head major arg))
     × (headPut l at major arg ≡ take at l ++ head major arg ++ drop (at + length (head major arg)) l)
-unfolding put
 head-stands l at major arg m h =
     let r = stored l at major arg (omega arith) h in
     (sym (r .0), sym (r .1) ∙ sets-eq (head major arg) l at h)

@@ -17,7 +17,7 @@ use Rattle.base.specs.BigEndian.{bytesOf}
 use Rattle.base.proofs.Picks.{both}
 use Rattle.base.proofs.Digits.{length-bytes}
 use Rattle.cbor.specs.Tree.{headBytes, infoOf, Sized, shortest}
-use Rattle.cbor.specs.Put.{head, put, headFits, headEnd, headPut}
+use Rattle.cbor.specs.Put.{head, headFits, headEnd, headPut}
 use Rattle.cbor.proofs.HeadExact.{length-head, shortest-right}
 
 -- the last element stored first
@@ -27,19 +27,19 @@ sets-last l at (a ∷ vs) v =
     let e : suc at + length vs ≡ at + suc (length vs) = omega arith in
     sets-last (set l at a) (suc at) vs v ∙ rw (e, set-comm l at (at + suc (length vs)) a v (λ q. omega arith))
 
-put-last : (l : List ℕ) (at n v : ℕ) → put l at (bytesOf (suc n) v) ≡ put (set l (at + n) (v % 256)) at (bytesOf n (v / 256))
-unfolding put bytesOf
-put-last l at n v = sets-last l at (bytesOf n (v / 256)) (v % 256) ∙ rw (length-bytes n (v / 256))
+bytes-last : (l : List ℕ) (at n v : ℕ) → sets l at (bytesOf (suc n) v) ≡ sets (set l (at + n) (v % 256)) at (bytesOf n (v / 256))
+unfolding bytesOf
+bytes-last l at n v = sets-last l at (bytesOf n (v / 256)) (v % 256) ∙ rw (length-bytes n (v / 256))
 
 -- a turn of the loop: the lowest byte stored, the others left to be
-pub spell-turn : (l : List ℕ) (at left rest : ℕ) → 0 < left → put (set l (at + (left - 1)) (rest % 256)) at (bytesOf (left - 1) (rest / 256)) ≡ put l at (bytesOf left rest)
+pub spell-turn : (l : List ℕ) (at left rest : ℕ) → 0 < left → sets (set l (at + (left - 1)) (rest % 256)) at (bytesOf (left - 1) (rest / 256)) ≡ sets l at (bytesOf left rest)
 spell-turn l at left rest h =
     let e : suc (left - 1) ≡ left = omega arith in
-    sym (put-last l at (left - 1) rest) ∙ rw e
+    sym (bytes-last l at (left - 1) rest) ∙ rw e
 
 -- and its end: no byte is left to be stored
-pub spell-end : (l : List ℕ) (at left rest : ℕ) → left ≤ 0 → l ≡ put l at (bytesOf left rest)
-unfolding put bytesOf
+pub spell-end : (l : List ℕ) (at left rest : ℕ) → left ≤ 0 → l ≡ sets l at (bytesOf left rest)
+unfolding bytesOf
 spell-end l at left rest h = let e : left ≡ 0 = omega arith in rw e
 
 -- the first byte holds an argument below 24
@@ -55,8 +55,8 @@ pub sized-len : (arg len : ℕ) → len ≡ 1 + shortest arg → arg < 2 ^ 64 �
 sized-len arg len e h = let w : len - 1 ≡ shortest arg = omega arith in rw w (shortest-right 0 arg (lit< tt) h .sized)
 
 -- the first byte stored, and then the argument's
-put-head : (l : List ℕ) (at major arg : ℕ) → put (set l at (major * 32 + infoOf (shortest arg) arg)) (at + 1) (bytesOf (shortest arg) arg) ≡ put l at (head major arg)
-unfolding put head headBytes
+put-head : (l : List ℕ) (at major arg : ℕ) → sets (set l at (major * 32 + infoOf (shortest arg) arg)) (at + 1) (bytesOf (shortest arg) arg) ≡ sets l at (head major arg)
+unfolding head headBytes
 put-head l at major arg = rw (add-one at)
 
 pub length-shortest : (major arg : ℕ) → length (head major arg) ≡ 1 + shortest arg
@@ -75,7 +75,7 @@ module _ (l : List ℕ) (at major arg : ℕ) where
   unfolding headEnd headPut pick
   not-stored h = (rw (no-fit h), rw (no-fit h))
 
-  pub stored : major ≤ 6 → at + length (head major arg) ≤ length l → (at + length (head major arg) ≡ headEnd l at major arg) × (put l at (head major arg) ≡ headPut l at major arg)
+  pub stored : major ≤ 6 → at + length (head major arg) ≤ length l → (at + length (head major arg) ≡ headEnd l at major arg) × (sets l at (head major arg) ≡ headPut l at major arg)
   unfolding headEnd headPut headFits pick
   stored m h = (rw (le-ltb 6 major m, le-leb (at + length (head major arg)) (length l) h), rw (le-ltb 6 major m, le-leb (at + length (head major arg)) (length l) h))
 
@@ -84,7 +84,7 @@ module _ (l : List ℕ) (at major arg : ℕ) where
   head-over len e h = not-stored (inr (rw (length-shortest major arg, ← e) h))
 
   pub head-stored : (l′ : List ℕ) (len info : ℕ) → len ≡ 1 + shortest arg → info ≡ infoOf (len - 1) arg → major ≤ 6 → at + len ≤ length l
-      → l′ ≡ put (set l at (major * 32 + info)) (at + 1) (bytesOf (len - 1) arg) → (at + len ≡ headEnd l at major arg) × (l′ ≡ headPut l at major arg)
+      → l′ ≡ sets (set l at (major * 32 + info)) (at + 1) (bytesOf (len - 1) arg) → (at + len ≡ headEnd l at major arg) × (l′ ≡ headPut l at major arg)
   head-stored l′ len info e i m h p =
       let w : len - 1 ≡ shortest arg = omega arith in
       let n : length (head major arg) ≡ len = length-shortest major arg ∙ sym e in

@@ -12,10 +12,6 @@ use Rattle.cbor.specs.Tree.{headBytes, shortest}
 unfoldable pub head : ℕ → ℕ → List ℕ
 head major arg = headBytes major (shortest arg) arg
 
--- l with bs stored from position `at` on
-unfoldable pub put : List ℕ → ℕ → List ℕ → List ℕ
-put l at bs = sets l at bs
-
 -- bytes at the front of an output, the rest as it was
 abbrev pub written : List ℕ → List ℕ → List ℕ
 written bs out = bs ++ drop (length bs) out
@@ -30,4 +26,4 @@ headEnd l at major arg = pick (headFits (length l) at major arg) (at + length (h
 
 -- the buffer with the head stored, unchanged where it doesn't fit
 unfoldable pub headPut : List ℕ → ℕ → ℕ → ℕ → List ℕ
-headPut l at major arg = pick (headFits (length l) at major arg) (put l at (head major arg)) l
+headPut l at major arg = pick (headFits (length l) at major arg) (sets l at (head major arg)) l

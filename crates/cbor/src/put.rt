@@ -3,9 +3,10 @@
 ghost use mathlib.Core.Path.{_≡_};
 ghost use Prim.Native.Nat.{_+_, _≤_};
 ghost use lib.ListN.{length};
+ghost use lib.Seq.{sets};
 ghost use Rattle.base.specs.BigEndian.{bytesOf};
 ghost use Rattle.cbor.specs.Tree.{infoOf, Sized, shortest};
-ghost use Rattle.cbor.specs.Put.{put, headEnd, headPut};
+ghost use Rattle.cbor.specs.Put.{headEnd, headPut};
 
 // How many bytes the shortest head with this argument has.
 pub fn head_len(arg: u64) -> usize
@@ -72,7 +73,7 @@ fn info(width: usize, arg: u64) -> u8
 // The n bytes that spell `value`, the most significant first, stored from `at` on.
 fn spell(out: &mut [u8], at: usize, n: usize, value: u64)
     requires { ⌜ at + n ≤ length (now out) ⌝ }
-    ensures { λ r. ⌜ now (out .exit) ≡ put (now (out .entry)) at (bytesOf n value) ⌝ }
+    ensures { λ r. ⌜ now (out .exit) ≡ sets (now (out .entry)) at (bytesOf n value) ⌝ }
 {
     let mut left = n;
     let mut rest = value;

@@ -10,7 +10,6 @@ use lib.ListN.{length, take, drop, getD, set, replicate, length-replicate, getD-
 use lib.Seq.{take-all, take-suc, take-suc-set, drop-drop, sets-eq}
 use borrow.Author.Tests.{le-leb, lt-leb}
 use Rattle.base.specs.Pick.{pick}
-use Rattle.cbor.specs.Put.{put}
 use Rattle.encode.specs.Put.{allEnd, allPut}
 
 pub copy-turn : (to s : List ℕ) (i : ℕ) → i < length to → i < length s → take i to ≡ take i s → take (i + 1) (set to i (getD s i 0)) ≡ take (i + 1) s
@@ -37,7 +36,7 @@ module _ (l bs : List ℕ) (at : ℕ) where
   -- bs in the place of a part that was lent
   pub all-stored : {to : List ℕ} → at + length bs ≤ length l → to ≡ bs
       → (at + length bs ≡ allEnd l at bs) × (take at l ++ (to ++ drop (at + length bs - at) (drop at l)) ≡ allPut l at bs)
-  unfolding allEnd allPut put pick
+  unfolding allEnd allPut pick
   all-stored {to} h e =
       rw (le-leb (at + length bs) (length l) h, e, add-sub-cancel-left at (length bs), drop-drop (length bs) at l)
       (refl, sym (append-assoc (take at l) bs (drop (at + length bs) l)) ∙ sym (sets-eq bs l at h))

@@ -1,23 +1,19 @@
 -- Steps of an encoder: a byte, a head, bytes, two steps in a row, no step, and what stands in the buffer at the end.
 -- Assumes nothing.
-use Prim.Native.Nat.{ℕ, suc, _+_, _≤_, _<_}
+use Prim.Native.Nat.{ℕ, _+_, _≤_, _<_}
 use mathlib.Core.Path.{_≡_, refl, sym, ap, ap₂, _∙_}
 use mathlib.Core.Bool.{Bool, true, false}
 use mathlib.Core.List.{List, [], _∷_, _++_}
-use native.Mathlib.Nat.{add-zero, add-suc, suc-add, zero-add}
+use native.Mathlib.Nat.{add-zero, zero-add}
 use native.Mathlib.Omega.{arith}
 use lib.Dec.{ltb, leb}
 use lib.ListN.{length, take, drop, set, replicate, length-append, length-drop, length-set, length-replicate}
 use lib.Seq.{sets, sets-eq, length-sets, take-append-seam}
 use borrow.Author.Tests.{ltb-true, ltb-false, leb-true, le-ltb, le-leb, lt-leb}
 use Rattle.base.specs.Pick.{pick}
-use Rattle.cbor.specs.Put.{head, put, headFits, headEnd, headPut}
+use Rattle.base.proofs.Parts.{sets-append}
+use Rattle.cbor.specs.Put.{head, headFits, headEnd, headPut}
 use Rattle.encode.specs.Put.{allEnd, allPut, frontEnd, frontPut, Wrote}
-
-put-put : (l : List ℕ) (at : ℕ) (a b : List ℕ) → put (put l at a) (at + length a) b ≡ put l at (a ++ b)
-unfolding put
-put-put l at [] b = ap (λ (k : ℕ). sets l k b) (add-zero at)
-put-put l at (x ∷ a) b = ap (λ (k : ℕ). sets (sets (set l at x) (suc at) a) k b) (add-suc at (length a) ∙ sym (suc-add at (length a))) ∙ put-put (set l at x) (suc at) a b
 
 -- two steps in a row
 pub then : {l l′ l″ : List ℕ} {at m r : ℕ} {a b : List ℕ} → Wrote l l′ at a m → Wrote l′ l″ m b r → Wrote l l″ at (a ++ b) r
@@ -28,7 +24,7 @@ then {l} {l′} {l″} {at} {m} {r} {a} {b} v w =
           let e : length (a ++ b) ≡ length a + length b = length-append a b in
           let x = v .fits (omega arith) in
           let y = w .fits (omega (arith, x .0)) in
-          (omega (arith, x .0, y .0), y .1 ∙ ap₂ (λ (t : List ℕ) (k : ℕ). put t k b) (x .1) (x .0) ∙ put-put l at a b);
+          (omega (arith, x .0, y .0), y .1 ∙ ap₂ (λ (t : List ℕ) (k : ℕ). sets t k b) (x .1) (x .0) ∙ sets-append l at a b);
       over = λ h. late (ltb (length l) (at + length a)) refl (rw length-append at h);
     }
   where
@@ -38,7 +34,6 @@ then {l} {l′} {l″} {at} {m} {r} {a} {b} v w =
 
 -- no step
 pub still : (l : List ℕ) (at : ℕ) → Wrote l l at [] at
-unfolding put
 still l at = record { same = refl; fits = λ h. (sym (add-zero at), refl); over = λ h. omega (arith, h) }
 
 -- one byte past the buffer's end, and one in the buffer
@@ -46,29 +41,28 @@ pub byte-over : (l : List ℕ) (at b : ℕ) → length l ≤ at → Wrote l l at
 byte-over l at b g = record { same = refl; fits = λ h. absurd (omega arith); over = λ h. omega arith }
 
 pub byte-in : (l : List ℕ) (at b : ℕ) → at < length l → Wrote l (set l at b) at (b ∷ []) (at + 1)
-unfolding put
 byte-in l at b g = record { same = length-set l at b; fits = λ h. (refl, refl); over = λ h. absurd (omega arith) }
 
 -- the shortest head
 pub head-in : (l l′ : List ℕ) (at major arg r : ℕ) → major < 7 → r ≡ headEnd l at major arg → l′ ≡ headPut l at major arg → Wrote l l′ at (head major arg) r
-unfolding headEnd headPut headFits put pick
+unfolding headEnd headPut headFits pick
 head-in l l′ at major arg r m e p =
     let m6 : major ≤ 6 = omega arith in
     let e′ : r ≡ pick (leb (at + length (head major arg)) (length l)) (at + length (head major arg)) (length l + 1) = rw (le-ltb 6 major m6) at e in
-    let p′ : l′ ≡ pick (leb (at + length (head major arg)) (length l)) (put l at (head major arg)) l = rw (le-ltb 6 major m6) at p in
+    let p′ : l′ ≡ pick (leb (at + length (head major arg)) (length l)) (sets l at (head major arg)) l = rw (le-ltb 6 major m6) at p in
     record {
       same = ap length p′ ∙ kept (leb (at + length (head major arg)) (length l));
       fits = λ h. (rw (le-leb (at + length (head major arg)) (length l) h) at e′, rw (le-leb (at + length (head major arg)) (length l) h) at p′);
       over = λ h. let q : r ≡ length l + 1 = rw (lt-leb (at + length (head major arg)) (length l) h) at e′ in omega arith;
     }
   where
-    kept : (t : Bool) → length (pick t (put l at (head major arg)) l) ≡ length l
+    kept : (t : Bool) → length (pick t (sets l at (head major arg)) l) ≡ length l
     kept true = length-sets l at (head major arg)
     kept false = refl
 
 -- bytes
 pub all-in : {l l′ bs : List ℕ} {at r : ℕ} → r ≡ allEnd l at bs → l′ ≡ allPut l at bs → Wrote l l′ at bs r
-unfolding allEnd allPut put pick
+unfolding allEnd allPut pick
 all-in {l} {l′} {bs} {at} {r} e p =
     record {
       same = ap length p ∙ kept (leb (at + length bs) (length l));
@@ -76,13 +70,12 @@ all-in {l} {l′} {bs} {at} {r} e p =
       over = λ h. let q : r ≡ length l + 1 = rw (lt-leb (at + length bs) (length l) h) at e in omega arith;
     }
   where
-    kept : (t : Bool) → length (pick t (put l at bs) l) ≡ length l
+    kept : (t : Bool) → length (pick t (sets l at bs) l) ≡ length l
     kept true = length-sets l at bs
     kept false = refl
 
 -- bytes put at the front: their number, and what stands in the buffer
 pub finished : {l l′ bs : List ℕ} {r : ℕ} → Wrote l l′ 0 bs r → length bs ≤ length l → (r ≡ length bs) × (l′ ≡ bs ++ drop (length bs) l)
-unfolding put
 finished {l} {l′} {bs} w k =
     let x = w .fits (omega arith) in
     (omega (arith, x .0), x .1 ∙ sets-eq bs l 0 (omega arith) ∙ ap (λ (n : ℕ). bs ++ drop n l) (zero-add (length bs)))
@@ -122,7 +115,7 @@ front-over {l} {l′} {l″} {bs} {r} w h e =
 
 -- and as a step
 pub front-step : {l l′ bs : List ℕ} {r : ℕ} → r ≡ frontEnd l bs → l′ ≡ frontPut l bs → Wrote l l′ 0 bs r
-unfolding frontEnd frontPut put pick
+unfolding frontEnd frontPut pick
 front-step {l} {l′} {bs} {r} e p =
     record {
       same = ap length p ∙ kept (leb (length bs) (length l)) refl;

@@ -3,9 +3,10 @@ use Prim.Native.Nat.{ℕ, _+_, _≤_, _<_}
 use mathlib.Core.Path.{_≡_}
 use mathlib.Core.List.{List}
 use lib.ListN.{length, replicate}
+use lib.Seq.{sets}
 use lib.Dec.{leb}
 use Rattle.base.specs.Pick.{pick}
-use Rattle.cbor.specs.Put.{put, written}
+use Rattle.cbor.specs.Put.{written}
 
 -- where a step that would end at a place of so many bytes ends: there, or one past them
 abbrev pub endWithin : ℕ → ℕ → ℕ
@@ -16,7 +17,7 @@ unfoldable pub allEnd : List ℕ → ℕ → List ℕ → ℕ
 allEnd l at bs = endWithin (length l) (at + length bs)
 
 unfoldable pub allPut : List ℕ → ℕ → List ℕ → List ℕ
-allPut l at bs = pick (leb (at + length bs) (length l)) (put l at bs) l
+allPut l at bs = pick (leb (at + length bs) (length l)) (sets l at bs) l
 
 -- ---- `message`: bs at the front of the buffer, which is cleared where they don't fit
 unfoldable pub frontEnd : List ℕ → List ℕ → ℕ
@@ -28,5 +29,5 @@ frontPut l bs = pick (leb (length bs) (length l)) (written bs l) (replicate (len
 -- ---- a step among several, of which one that doesn't fit promises nothing of the bytes: from l, bs put at `at` gave l′, and ends at r
 pub record Wrote (l l′ : List ℕ) (at : ℕ) (bs : List ℕ) (r : ℕ) : Type 0 where
   pub same : length l′ ≡ length l
-  pub fits : at + length bs ≤ length l → (r ≡ at + length bs) × (l′ ≡ put l at bs)
+  pub fits : at + length bs ≤ length l → (r ≡ at + length bs) × (l′ ≡ sets l at bs)
   pub over : length l < at + length bs → length l < r

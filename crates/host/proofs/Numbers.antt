@@ -7,21 +7,19 @@ use native.Mathlib.Nat.{mul-suc}
 use native.Mathlib.Numerals.{towards-suc}
 use native.Mathlib.Omega.{arith}
 use lib.ListN.{length, getD, set, take, drop, length-append, length-drop}
-use lib.Seq.{sets-eq, take-all, take-add, drop-at, drop-cons, drop-drop}
+use lib.Seq.{sets, sets-eq, take-all, take-add, drop-at, drop-cons, drop-drop}
 use Rattle.base.specs.BigEndian.{Bytes, bigEndian, bytesOf}
 use Rattle.base.specs.Lists.{Every}
 use Rattle.base.proofs.Digits.{length-bytes, read-back, spelled}
 use Rattle.base.proofs.Parts.{bytes-drop, drop-past}
-use Rattle.cbor.specs.Put.{put}
 use Rattle.node_state.specs.Table.{tableNumbers}
 use Rattle.host.specs.Table.{tableBytes, numbersIn, loaded, saved}
 
 -- ---- the loops: what is left of the whole, put from here on, gives the whole
 
 -- at first all of it is left
-put-all : (l vs : List ℕ) → length vs ≡ length l → put l 0 vs ≡ vs
-unfolding put
-put-all l vs e = sets-eq vs l 0 (omega arith) ∙ rw (drop-past l (0 + length vs) (omega arith)) (append-nil vs)
+sets-all : (l vs : List ℕ) → length vs ≡ length l → sets l 0 vs ≡ vs
+sets-all l vs e = sets-eq vs l 0 (omega arith) ∙ rw (drop-past l (0 + length vs) (omega arith)) (append-nil vs)
 
 length-numbers : (n : ℕ) (s : List ℕ) → length (numbersIn n s) ≡ n
 unfolding numbersIn
@@ -30,14 +28,14 @@ length-numbers (suc n) s = ap suc (length-numbers n (drop 8 s))
 
 module _ (b : List ℕ) where
   abbrev pub Loading : ℕ → List ℕ → Type 0
-  Loading i t = put t i (numbersIn (tableNumbers - i) (drop (8 * i) b)) ≡ loaded b
+  Loading i t = sets t i (numbersIn (tableNumbers - i) (drop (8 * i) b)) ≡ loaded b
 
   pub load-begun : (t : List ℕ) → length t ≡ tableNumbers → Loading 0 t
   unfolding loaded
-  load-begun t l = put-all t (numbersIn tableNumbers b) (length-numbers tableNumbers b ∙ sym l)
+  load-begun t l = sets-all t (numbersIn tableNumbers b) (length-numbers tableNumbers b ∙ sym l)
 
   load-step : (i : ℕ) (t : List ℕ) → i < tableNumbers → Loading i t → Loading (suc i) (set t i (bigEndian (drop (8 * i) b) 8))
-  unfolding put numbersIn
+  unfolding numbersIn
   load-step i t h l =
       let e : tableNumbers - i ≡ suc (tableNumbers - suc i) = omega arith in
       rw (mul-suc 8 i) (rw (e, drop-drop 8 (8 * i) b) at l)
@@ -49,7 +47,7 @@ module _ (b : List ℕ) where
       (load-step _ _ (omega arith) (load-step _ _ (omega arith) (load-step _ _ (omega arith) (load-step i t (omega arith) l))))
 
   pub load-done : (t : List ℕ) → Loading tableNumbers t → t ≡ loaded b
-  unfolding put numbersIn
+  unfolding numbersIn
   load-done t l = l
 
 length-saved : (t : List ℕ) → length (saved t) ≡ 8 * length t
@@ -59,24 +57,24 @@ length-saved (x ∷ t) = length-append (bytesOf 8 x) (saved t) ∙ omega (arith,
 
 module _ (t : List ℕ) where
   abbrev pub Saving : ℕ → List ℕ → Type 0
-  Saving i b = put b (8 * i) (saved (drop i t)) ≡ saved t
+  Saving i b = sets b (8 * i) (saved (drop i t)) ≡ saved t
 
   pub save-begun : (b : List ℕ) → length t ≡ tableNumbers → length b ≡ tableBytes → Saving 0 b
-  save-begun b l h = put-all b (saved t) (omega (arith, length-saved t))
+  save-begun b l h = sets-all b (saved t) (omega (arith, length-saved t))
 
-  save-step : (i : ℕ) (b : List ℕ) → i < length t → Saving i b → Saving (suc i) (put b (8 * i) (bytesOf 8 (getD t i 0)))
-  unfolding put saved flatMap bytesOf
+  save-step : (i : ℕ) (b : List ℕ) → i < length t → Saving i b → Saving (suc i) (sets b (8 * i) (bytesOf 8 (getD t i 0)))
+  unfolding saved flatMap bytesOf
   save-step i b h l = simp (mul-suc, towards-suc) (rw (drop-cons t i 0) at l)
 
-  pub save-turn : (i : ℕ) (b b₁ b₂ b₃ b₄ : List ℕ) → i + 4 ≤ length t → Saving i b → b₁ ≡ put b (8 * i) (bytesOf 8 (getD t i 0))
-      → b₂ ≡ put b₁ (8 * (i + 1)) (bytesOf 8 (getD t (i + 1) 0)) → b₃ ≡ put b₂ (8 * (i + 2)) (bytesOf 8 (getD t (i + 2) 0)) → b₄ ≡ put b₃ (8 * (i + 3)) (bytesOf 8 (getD t (i + 3) 0))
+  pub save-turn : (i : ℕ) (b b₁ b₂ b₃ b₄ : List ℕ) → i + 4 ≤ length t → Saving i b → b₁ ≡ sets b (8 * i) (bytesOf 8 (getD t i 0))
+      → b₂ ≡ sets b₁ (8 * (i + 1)) (bytesOf 8 (getD t (i + 1) 0)) → b₃ ≡ sets b₂ (8 * (i + 2)) (bytesOf 8 (getD t (i + 2) 0)) → b₄ ≡ sets b₃ (8 * (i + 3)) (bytesOf 8 (getD t (i + 3) 0))
       → Saving (i + 4) b₄
   save-turn i b b₁ b₂ b₃ b₄ h l q₁ q₂ q₃ q₄ =
       simp (q₄, q₃, q₂, q₁, towards-suc)
-      (save-step _ _ (omega arith) (save-step _ _ (omega arith) (save-step _ _ (omega arith) (save-step i b (omega arith) l))))
+      (save-step (suc (suc (suc i))) _ (omega arith) (save-step (suc (suc i)) _ (omega arith) (save-step (suc i) _ (omega arith) (save-step i b (omega arith) l))))
 
   pub save-done : (b : List ℕ) → length t ≡ tableNumbers → Saving tableNumbers b → b ≡ saved t
-  unfolding put saved flatMap
+  unfolding saved flatMap
   save-done b e l = rw (drop-past t tableNumbers (omega arith)) at l
 
 -- ---- there and back

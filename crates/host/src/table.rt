@@ -2,8 +2,8 @@
 ghost use mathlib.Core.Path.{_≡_};
 ghost use Prim.Native.Nat.{_+_, _*_, _^_, _<_};
 ghost use lib.ListN.{length, drop};
+ghost use lib.Seq.{sets};
 ghost use Rattle.base.specs.BigEndian.{bigEndian, bytesOf};
-ghost use Rattle.cbor.specs.Put.{put};
 ghost use Rattle.node_state.specs.Table.{tableNumbers};
 ghost use Rattle.host.specs.Table.{tableBytes, loaded, saved};
 
@@ -55,7 +55,7 @@ pub(crate) fn load(bytes: &[u8], table: &mut [u64])
 // A number's eight bytes.
 fn put_number(bytes: &mut [u8], i: usize, x: u64)
     requires { ⌜ length (now bytes) ≡ tableBytes ⌝ ∗ ⌜ i < tableNumbers ⌝ }
-    ensures { λ r. ⌜ now (bytes .exit) ≡ put (now (bytes .entry)) (8 * i) (bytesOf 8 x) ⌝ }
+    ensures { λ r. ⌜ now (bytes .exit) ≡ sets (now (bytes .entry)) (8 * i) (bytesOf 8 x) ⌝ }
 {
     let at = 8 * i;
     bytes[at] = (x / 72_057_594_037_927_936 % 256) as u8;

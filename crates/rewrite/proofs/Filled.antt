@@ -4,27 +4,21 @@ use mathlib.Core.Path.{_≡_, refl, sym, ap, ap₂, _∙_, subst}
 use mathlib.Core.List.{List, [], _∷_, _++_}
 use mathlib.Core.Bool.{Bool, true, false}
 use Prim.Native.Nat.{ℕ, zero, suc, _+_, _*_, _/_, _%_, _≤_, _<_}
-use native.Mathlib.Nat.{add-zero, add-suc, suc-add, mul-zero, mul-suc, mul-mod-right, mul-div-cancel-left}
+use native.Mathlib.Nat.{mul-zero, mul-suc, mul-mod-right, mul-div-cancel-left}
 use native.Mathlib.Numerals.{add-one}
 use native.Mathlib.Omega.{arith}
-use lib.ListN.{length, take, drop, set, length-append}
+use lib.ListN.{length, take, drop, length-append}
 use lib.Seq.{sets, sets-eq, take-at}
 use Rattle.base.specs.Pick.{pick}
+use Rattle.base.proofs.Parts.{sets-append}
 use Rattle.describe.specs.Rows.{rowsFrom}
 use Rattle.description.specs.Describe.{listOf}
 use Rattle.roundtrip.specs.Says.{Rows}
 
--- ---- stores
 -- lists one after the other
 unfoldable pub joined : List (List ℕ) → List ℕ
 joined [] = []
 joined (ns ∷ rows) = ns ++ joined rows
-
--- stored one after the other
-sets-append : (l : List ℕ) (at : ℕ) (a b : List ℕ) → sets (sets l at a) (at + length a) b ≡ sets l at (a ++ b)
-sets-append l at [] b = ap (λ (k : ℕ). sets l k b) (add-zero at)
-sets-append l at (x ∷ a) b =
-    ap (λ (k : ℕ). sets (sets (set l at x) (suc at) a) k b) (add-suc at (length a) ∙ sym (suc-add at (length a))) ∙ sets-append (set l at x) (suc at) a b
 
 -- ---- the first of n, and the others
 up-first : {A : Type 0} (f : ℕ → A) (n : ℕ) → listOf f (suc n) ≡ f 0 ∷ listOf (λ i. f (suc i)) n

@@ -5,14 +5,14 @@ use mathlib.Core.Path.{_≡_, _∙_}
 use Prim.Native.Nat.{_≤_}
 use borrow.Author.Needs.{needs}
 use lib.ListN.{length}
+use lib.Seq.{sets}
 use Rattle.base.specs.BigEndian.{bytesOf}
-use Rattle.cbor.specs.Put.{put}
 use Rattle.cbor.proofs.Stores.{spell-turn, spell-end}
 use Rattle.cbor.proofs.put.spell.Statement.{statement}
 use Rattle.cbor.proofs.put.spell.Tie as tie
 
 abbrev Inv-loop : tie.InvT-loop
-Inv-loop out₀ at n value left₀ rest₀ out left rest = (length out ≡ length out₀) × (left ≤ n) × (put out at (bytesOf left rest) ≡ put out₀ at (bytesOf n value))
+Inv-loop out₀ at n value left₀ rest₀ out left rest = (length out ≡ length out₀) × (left ≤ n) × (sets out at (bytesOf left rest) ≡ sets out₀ at (bytesOf n value))
 
 abbrev μ-loop : tie.MeasureT-loop
 μ-loop out₀ at n value left₀ rest₀ out left rest = left

@@ -5,7 +5,6 @@ use lib.ListN.{length-set}
 use native.Mathlib.Nat.{div-div-eq-div-mul}
 use native.Mathlib.Numerals.{towards-suc}
 use Rattle.base.specs.BigEndian.{bytesOf}
-use Rattle.cbor.specs.Put.{put}
 use borrow.Author.Needs.{needs}
 use Rattle.host.proofs.table.put_number.Statement.{statement}
 use Rattle.host.proofs.table.put_number.Tie as tie
@@ -88,7 +87,7 @@ same-length : tie.Need-same-length
 same-length c = simp length-set
 
 returns : tie.Need-returns
-unfolding put bytesOf
+unfolding bytesOf
 returns c = simp (div-div-eq-div-mul, towards-suc)
 
 pub put-number-spec : {M : Type 1} → statement M
