@@ -15,71 +15,82 @@ const NONE: Span = Span { at: 0, len: 0 };
 // The block of a message: kind, session, initiator (place, length), ttl or waiting time; 1 for an objective, its name
 // (place, length), flags, count, the place of the count's head, its value (place, length); 1 for locators, 2 for a divert,
 // 3 for pairs, the place of the first, how many; 1 for accept, 2 for decline, 3 for decline with a reason; the reason or
-// Invalid's item (place, length). What the kind lacks is 0.
-pub fn block_of(m: Message) -> [u64; 19]
-    ensures { λ r. ⌜ r ≡ blockOf m ⌝ }
+// Invalid's item (place, length). What the kind lacks is 0. It is filled in place, so that it isn't copied.
+pub fn fill(b: &mut [u64; 19], m: Message)
+    ensures { λ r. ⌜ now (b .exit) ≡ blockOf m ⌝ }
 {
     match m {
-        Message::Noop => opened(0, 0, NONE, 0),
+        Message::Noop => put_opening(b, 0, 0, NONE, 0),
         Message::Discovery {
             session,
             initiator,
             objective,
-        } => with_objective(opened(1, session, initiator, 0), objective),
+        } => {
+            put_opening(b, 1, session, initiator, 0);
+            put_objective(b, objective);
+        }
         Message::Response {
             session,
             initiator,
             ttl,
             targets,
             extra,
-        } => with_targets(
-            with_extra(opened(2, session, initiator, ttl), extra),
-            targets,
-        ),
-        Message::RequestNegotiation { session, objective } => exchange(3, session, objective),
-        Message::RequestSynchronization { session, objective } => exchange(4, session, objective),
-        Message::Negotiate { session, objective } => exchange(5, session, objective),
-        Message::End { session, outcome } => with_outcome(opened(6, session, NONE, 0), outcome),
-        Message::Wait { session, time } => opened(7, session, NONE, time),
-        Message::Synch { session, objective } => exchange(8, session, objective),
+        } => {
+            put_opening(b, 2, session, initiator, ttl);
+            put_extra(b, extra);
+            put_targets(b, targets);
+        }
+        Message::RequestNegotiation { session, objective } => exchange(b, 3, session, objective),
+        Message::RequestSynchronization { session, objective } => {
+            exchange(b, 4, session, objective)
+        }
+        Message::Negotiate { session, objective } => exchange(b, 5, session, objective),
+        Message::End { session, outcome } => {
+            put_opening(b, 6, session, NONE, 0);
+            put_outcome(b, outcome);
+        }
+        Message::Wait { session, time } => put_opening(b, 7, session, NONE, time),
+        Message::Synch { session, objective } => exchange(b, 8, session, objective),
         Message::Flood {
             session,
             initiator,
             ttl,
             first,
             pairs,
-        } => with_series(
-            with_objective(opened(9, session, initiator, ttl), first),
-            3,
-            pairs,
-        ),
-        Message::Invalid { session, item } => with_span(opened(99, session, NONE, 0), 0, item),
+        } => {
+            put_opening(b, 9, session, initiator, ttl);
+            put_objective(b, first);
+            put_series(b, 3, pairs);
+        }
+        Message::Invalid { session, item } => {
+            put_opening(b, 99, session, NONE, 0);
+            put_span(b, 0, item);
+        }
     }
 }
 
 // The block of a kind that has a session and an objective alone.
-fn exchange(kind: u64, session: u32, o: Objective) -> [u64; 19]
-    ensures { λ r. ⌜ r ≡ exchangeBlock kind session o ⌝ }
+fn exchange(b: &mut [u64; 19], kind: u64, session: u32, o: Objective)
+    ensures { λ r. ⌜ now (b .exit) ≡ exchangeBlock kind session o ⌝ }
 {
-    with_objective(opened(kind, session, NONE, 0), o)
+    put_opening(b, kind, session, NONE, 0);
+    put_objective(b, o);
 }
 
-fn opened(kind: u64, session: u32, initiator: Span, ttl: u32) -> [u64; 19]
-    ensures { λ r. ⌜ r ≡ openedBlock kind session initiator ttl ⌝ }
+fn put_opening(b: &mut [u64; 19], kind: u64, session: u32, initiator: Span, ttl: u32)
+    ensures { λ r. ⌜ now (b .exit) ≡ openedBlock kind session initiator ttl ⌝ }
 {
-    let mut b = [0u64; 19];
+    *b = [0u64; 19];
     b[0] = kind;
     b[1] = session as u64;
     b[2] = initiator.at as u64;
     b[3] = initiator.len as u64;
     b[4] = ttl as u64;
-    b
 }
 
-fn with_objective(block: [u64; 19], o: Objective) -> [u64; 19]
-    ensures { λ r. ⌜ r ≡ withObjective block o ⌝ }
+fn put_objective(b: &mut [u64; 19], o: Objective)
+    ensures { λ r. ⌜ now (b .exit) ≡ withObjective (now (b .entry)) o ⌝ }
 {
-    let mut b = block;
     b[5] = 1;
     b[6] = o.name.at as u64;
     b[7] = o.name.len as u64;
@@ -88,53 +99,48 @@ fn with_objective(block: [u64; 19], o: Objective) -> [u64; 19]
     b[10] = o.count_at as u64;
     b[11] = o.value.at as u64;
     b[12] = o.value.len as u64;
-    b
 }
 
-fn with_extra(block: [u64; 19], extra: Extra) -> [u64; 19]
-    ensures { λ r. ⌜ r ≡ withExtra block extra ⌝ }
+fn put_extra(b: &mut [u64; 19], extra: Extra)
+    ensures { λ r. ⌜ now (b .exit) ≡ withExtra (now (b .entry)) extra ⌝ }
 {
     match extra {
-        Extra::Without => block,
-        Extra::With(objective) => with_objective(block, objective),
+        Extra::Without => {}
+        Extra::With(objective) => put_objective(b, objective),
     }
 }
 
-fn with_series(block: [u64; 19], sort: u64, series: Series) -> [u64; 19]
-    ensures { λ r. ⌜ r ≡ withSeries block sort series ⌝ }
+fn put_series(b: &mut [u64; 19], sort: u64, series: Series)
+    ensures { λ r. ⌜ now (b .exit) ≡ withSeries (now (b .entry)) sort series ⌝ }
 {
-    let mut b = block;
     b[13] = sort;
     b[14] = series.at as u64;
     b[15] = series.many;
-    b
 }
 
-fn with_targets(block: [u64; 19], targets: Targets) -> [u64; 19]
-    ensures { λ r. ⌜ r ≡ targetsBlock block targets ⌝ }
+fn put_targets(b: &mut [u64; 19], targets: Targets)
+    ensures { λ r. ⌜ now (b .exit) ≡ targetsBlock (now (b .entry)) targets ⌝ }
 {
     match targets {
-        Targets::Locators(series) => with_series(block, 1, series),
-        Targets::Divert(series) => with_series(block, 2, series),
+        Targets::Locators(series) => put_series(b, 1, series),
+        Targets::Divert(series) => put_series(b, 2, series),
     }
 }
 
-fn with_span(block: [u64; 19], sort: u64, span: Span) -> [u64; 19]
-    ensures { λ r. ⌜ r ≡ withSpan block sort span ⌝ }
+fn put_span(b: &mut [u64; 19], sort: u64, span: Span)
+    ensures { λ r. ⌜ now (b .exit) ≡ withSpan (now (b .entry)) sort span ⌝ }
 {
-    let mut b = block;
     b[16] = sort;
     b[17] = span.at as u64;
     b[18] = span.len as u64;
-    b
 }
 
-fn with_outcome(block: [u64; 19], outcome: Outcome) -> [u64; 19]
-    ensures { λ r. ⌜ r ≡ outcomeBlock block outcome ⌝ }
+fn put_outcome(b: &mut [u64; 19], outcome: Outcome)
+    ensures { λ r. ⌜ now (b .exit) ≡ outcomeBlock (now (b .entry)) outcome ⌝ }
 {
     match outcome {
-        Outcome::Accept => with_span(block, 1, NONE),
-        Outcome::Decline => with_span(block, 2, NONE),
-        Outcome::Reason(reason) => with_span(block, 3, reason),
+        Outcome::Accept => put_span(b, 1, NONE),
+        Outcome::Decline => put_span(b, 2, NONE),
+        Outcome::Reason(reason) => put_span(b, 3, reason),
     }
 }

@@ -1,4 +1,4 @@
-// What a message's block says is to be written; the block is laid out as `block::block_of` fills it.
+// What a message's block says is to be written; the block is laid out as `block::fill` fills it.
 ghost use mathlib.Core.Path.{_≡_};
 ghost use Prim.Native.Nat.{_<_};
 ghost use Rattle.options.specs.Text.{spanOf};

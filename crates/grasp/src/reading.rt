@@ -16,7 +16,7 @@ pub extern "C" fn grasp_read(bytes: &[u8], fields: &mut [u64; 19]) -> u8
     match reading {
         Reading::Refused(number) => number,
         Reading::Read(m) => {
-            *fields = block::block_of(m);
+            block::fill(fields, m);
             0
         }
     }

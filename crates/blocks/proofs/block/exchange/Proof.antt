@@ -6,19 +6,18 @@ use Rattle.blocks.proofs.block.exchange.Statement.{statement}
 use Rattle.blocks.proofs.block.exchange.Tie as tie
 use Rattle.blocks.proofs.block.exchange.Reads as reads
 use Rattle.blocks.proofs.block.exchange.Lts as lts
-use Rattle.blocks.proofs.block.opened.Reads as opened-reads
-use Rattle.blocks.proofs.block.with_objective.Reads as with-objective-reads
+use Rattle.blocks.proofs.block.put_objective.Reads as put-objective-reads
+use Rattle.blocks.proofs.block.put_opening.Reads as put-opening-reads
 
-opened-requires : tie.Need-opened-requires
-opened-requires c κs = search needs
+put-opening-requires : tie.Need-put-opening-requires
+put-opening-requires c κs = search needs
 
-with-objective-requires : tie.Need-with-objective-requires
-with-objective-requires c κs = search needs
+put-objective-requires : tie.Need-put-objective-requires
+put-objective-requires c κs = search needs
 
 returns : tie.Need-returns
 unfolding exchangeBlock
-returns c =
-    rw (← c .before .opened .ensures, ← c .with-objective .ensures)
+returns c = rw (← c .before .before .put-opening .ensures) (c .put-objective .ensures)
 
 pub exchange-spec : {M : Type 1} → statement M
-exchange-spec = tie.close (tie.spec opened-requires with-objective-requires returns)
+exchange-spec = tie.close (tie.spec put-opening-requires put-objective-requires returns)

@@ -6,7 +6,7 @@ use Rattle.grasp.proofs.reading.grasp_read.Statement.{statement}
 use Rattle.grasp.proofs.reading.grasp_read.Tie as tie
 use Rattle.grasp.proofs.reading.grasp_read.Reads as reads
 use Rattle.grasp.proofs.reading.grasp_read.Lts as lts
-use Rattle.blocks.proofs.block.block_of.Reads as block-of-reads
+use Rattle.blocks.proofs.block.fill.Reads as fill-reads
 use Rattle.reader.proofs.read.Reads as read-reads
 
 read-requires : tie.Need-read-requires
@@ -18,8 +18,8 @@ enum-known-reading c = search needs
 enum-known-reading-2 : tie.Need-enum-known-reading-2
 enum-known-reading-2 c = search needs
 
-block-of-requires : tie.Need-block-of-requires
-block-of-requires c κs = search needs
+fill-requires : tie.Need-fill-requires
+fill-requires c κs = search needs
 
 returns : tie.Need-returns
 unfolding readNumber numberFrom readBlock blockFrom
@@ -27,7 +27,7 @@ returns c = (rw (← c .before .before .before .read .ensures, c .before .readin
 
 returns-2 : tie.Need-returns-2
 unfolding readNumber numberFrom readBlock blockFrom
-returns-2 c = (rw (← c .before .before .before .before .read .ensures, c .before .before .reading2 .given .1), rw (← c .before .before .before .before .read .ensures, c .before .before .reading2 .given .1) (c .block-of .ensures))
+returns-2 c = (rw (← c .before .before .before .before .before .read .ensures, c .before .before .before .reading2 .given .1), rw (← c .before .before .before .before .before .read .ensures, c .before .before .before .reading2 .given .1) (c .fill .ensures))
 
 pub grasp-read-spec : {M : Type 1} → statement M
 grasp-read-spec =
@@ -36,6 +36,6 @@ grasp-read-spec =
     read-requires
     enum-known-reading
     enum-known-reading-2
-    block-of-requires
+    fill-requires
     returns
     returns-2)
