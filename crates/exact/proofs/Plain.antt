@@ -86,7 +86,7 @@ invalid-sound {s} {n} {at} k =
     (λ full. Describes.invalid (kind-is k) (number-is-here i) (ValueIs.absent refl) (omega arith)) (clean tt) (clean tt))
     (λ more. past-case _
     (λ some-len.
-    let v = sized-item 1 s p (k .bytes) (i .stands .within) (eqb-false (sizeAt 1 s p) 0 some-len) in
+    let v = sized-item 1 s p (k .bytes) (eqb-false (sizeAt 1 s p) 0 some-len) in
     built k _ _ (Msg.invalid _ (some (v .item))) (omega (arith, eqb-false n 2 more)) (join (i .stands) (last (v .stands))) (omega (arith, v .is))
     (λ w v. MessageItem.invalid-with (Number.number (i .low))) (λ full. Describes.invalid (kind-is k) (number-is-here i) (ValueIs.present (v .stands)) full) (clean tt) (clean tt))))))
 

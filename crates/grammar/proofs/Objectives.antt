@@ -74,7 +74,7 @@ sound levels m base low by =
     (λ t₇. made 0 (c .next) none Items.done (omega arith) (eqb-true (a .arg) 3 t₇) refl (omega arith) (no-more (token-end s (f .next))) (ValueIs.absent refl) (λ w u v k. ObjectiveItem.bare few byte))
     (λ t₇. pick-case P (eqb len 0) (λ _. tt)
     (λ t₈.
-    let value = sized-item levels s (c .next) bytes (token-end s (f .next)) (eqb-false len 0 t₈) in
+    let value = sized-item levels s (c .next) bytes (eqb-false len 0 t₈) in
     made len (c .next + len) (some (value .item)) (Items.more (value .item) Items.done) refl (omega (arith, ltb-false (a .arg) 3 t₃, ltb-false 4 (a .arg) t₄, eqb-false (a .arg) 3 t₇)) refl (omega (arith, value .is)) (last (value .stands))
     (ValueIs.present (subst (λ (e : ℕ). Stands m (base + c .next) e (value .item)) (sym (add-assoc base (c .next) len)) (lift low (value .stands))))
     (λ w u v k. ObjectiveItem.valued few byte))))))))

@@ -24,9 +24,9 @@ size-ends (ItemRead.Refused number place) some = absurd (some refl)
 size-ends (ItemRead.Ends end) some = refl
 
 -- where a size is read, an item stands
-pub sized-item : (levels : ℕ) (s : List ℕ) (p : ℕ) → Bytes s → p ≤ length s → (sizeAt levels s p ≡ 0 → ⊥) → Is s p (p + sizeAt levels s p) (λ x. depth x ≤ leftUnder levels)
+pub sized-item : (levels : ℕ) (s : List ℕ) (p : ℕ) → Bytes s → (sizeAt levels s p ≡ 0 → ⊥) → Is s p (p + sizeAt levels s p) (λ x. depth x ≤ leftUnder levels)
 unfolding sizeAt
-sized-item levels s p b low some =
+sized-item levels s p b some =
     let n : ℕ = sizeFrom (firstItem levels (drop p s)) in
     let i = item-exact levels (drop p s) n (bytes-drop p s b) (size-ends (firstItem levels (drop p s)) some) in
     let long : length (encode (i .item)) ≡ n = ap length (sym (i .bytes)) ∙ length-take-le n (drop p s) (i .within) in

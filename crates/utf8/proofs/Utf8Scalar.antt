@@ -130,8 +130,8 @@ spells-two b t bl bh tl th =
     let et : 0x80 + c % 2 ^ 6 ≡ t = omega arith in
     (c, inl (omega arith), rw (le-ltb c 0x80 l1, lt-ltb c 0x800 l2) (cc))
 
-scalar-three : (b t u : ℕ) → 0xE0 ≤ b → b < 0xF0 → 0x80 ≤ t → t ≤ greatestTail b → 0x80 ≤ u → u ≤ 0xBF → Scalar (value-three b t u)
-scalar-three b t u bl bh tl th ul uh =
+scalar-three : (b t u : ℕ) → b < 0xF0 → 0x80 ≤ t → t ≤ greatestTail b → 0x80 ≤ u → u ≤ 0xBF → Scalar (value-three b t u)
+scalar-three b t u bh tl th ul uh =
     greatest-case b (λ x. t ≤ x → Scalar (value-three b t u)) (λ e h. inl (omega arith)) (λ e h. inl (omega arith))
     (λ n _ h. elim (decLt b 0xED) [ yes k ↦ inl (omega arith) | no k ↦ inr (omega arith) ])
     th
@@ -147,7 +147,7 @@ spells-three b t u bl bh tl th ul uh =
     let eb : 0xE0 + c / 2 ^ 12 ≡ b = omega arith in
     let et : 0x80 + c / 2 ^ 6 % 2 ^ 6 ≡ t = omega arith in
     let eu : 0x80 + c % 2 ^ 6 ≡ u = omega arith in
-    (c, scalar-three b t u bl bh (range .0) th ul uh, rw (le-ltb c 0x80 l1, le-ltb c 0x800 l2, lt-ltb c 0x10000 l3) (cc))
+    (c, scalar-three b t u bh (range .0) th ul uh, rw (le-ltb c 0x80 l1, le-ltb c 0x800 l2, lt-ltb c 0x10000 l3) (cc))
 
 pub spells-four : (b t u v : ℕ) → 0xF0 ≤ b → b < 0xF5 → leastTail b ≤ t → t ≤ greatestTail b → 0x80 ≤ u → u ≤ 0xBF → 0x80 ≤ v → v ≤ 0xBF
     → Spells (b ∷ t ∷ u ∷ v ∷ [])
