@@ -207,10 +207,10 @@ module _ (base : ℕ) (s : List ℕ) where
   abbrev Ok : PairRead → Type 0
   Ok = PairOk base (length s)
 
-  tagged-ok : (at : ℕ) (o : Objective) (bad long : ℕ) (x : LocatorRead) → ObjectiveParts (base + length s) o → at ≤ length s → LocatorOk (length s - at) x → Ok (pairTagged at o bad long x)
+  tagged-ok : (at : ℕ) (o : Objective) (bad long : ℕ) (x : LocatorRead) → ObjectiveParts (base + length s) o → LocatorOk (length s - at) x → Ok (pairTagged at o bad long x)
   unfolding pairTagged
-  tagged-ok at o bad long (LocatorRead.Bad place) parts low h = tt
-  tagged-ok at o bad long (LocatorRead.Got l size b) parts low h = (parts, omega arith, omega arith)
+  tagged-ok at o bad long (LocatorRead.Bad place) parts h = tt
+  tagged-ok at o bad long (LocatorRead.Got l size b) parts h = (parts, omega arith, omega arith)
 
   led-ok : (n at : ℕ) (x : ObjectiveRead) → 1 ≤ at → at ≤ length s → ObjectiveOk (base + at) (length s - at) x → Ok (pairLed base s n at x)
   unfolding pairLed pairTail isEmpty
@@ -220,7 +220,7 @@ module _ (base : ℕ) (s : List ℕ) where
       let parts = subst (λ (e : ℕ). ObjectiveParts e o) end (h .0) in
       both Ok (eqb n 2)
       (pick-case Ok _ (λ e. (parts, omega (arith, empty e), token-end s (at + size)))
-      (λ _. tagged-ok (at + size) o bad long _ parts (omega arith) (locator-within s (base + (at + size)) (at + size) _ _ refl refl)))
+      (λ _. tagged-ok (at + size) o bad long _ parts (locator-within s (base + (at + size)) (at + size) _ _ refl refl)))
       tt
     where
       w : Token

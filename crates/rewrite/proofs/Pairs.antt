@@ -14,7 +14,6 @@ use Rattle.base.specs.Pick.{pick}
 use Rattle.base.proofs.Picks.{both}
 use Rattle.cbor.specs.Tree.{Item, Items, depth, depths}
 use Rattle.cbor.specs.Token.{tokenAt}
-use Rattle.cbor.proofs.Tokens.{token-end}
 use Rattle.options.specs.declared.locator.Locator.{Locator}
 use Rattle.options.specs.declared.locator.Locator.the-variants as L
 use Rattle.options.specs.declared.locator.LocatorRead.{LocatorRead}
@@ -63,17 +62,17 @@ unfolding pairTail
 tail-ok m base s at o bad long h k =
     both (TagOk m) _ tt (tagged-ok m at o bad long (locatorIn (base + at) (drop at s)) (text-ok m (base + at) (drop at s) (omega (arith, length-drop at s))))
 
-led-ok : (m : List ℕ) (base : ℕ) (s : List ℕ) (n at : ℕ) (x : ObjectiveRead) → at ≤ length s → base + length s ≤ length m → ObjectiveOk (base + at) (length s - at) x → TagOk m (pairLed base s n at x)
+led-ok : (m : List ℕ) (base : ℕ) (s : List ℕ) (n at : ℕ) (x : ObjectiveRead) → base + length s ≤ length m → ObjectiveOk (base + at) (length s - at) x → TagOk m (pairLed base s n at x)
 unfolding pairLed
-led-ok m base s n at (ObjectiveRead.Bad place) h k f = tt
-led-ok m base s n at (ObjectiveRead.Got o size bad long) h k f = both (TagOk m) _ (tail-ok m base s (at + size) o bad long (omega arith) k) tt
+led-ok m base s n at (ObjectiveRead.Bad place) k f = tt
+led-ok m base s n at (ObjectiveRead.Got o size bad long) k f = both (TagOk m) _ (tail-ok m base s (at + size) o bad long (omega arith) k) tt
 
 -- what is read at a place
 tag-ok : (m : List ℕ) (base : ℕ) (s : List ℕ) → base + length s ≤ length m → TagOk m (pairIn base s)
 unfolding pairIn
 tag-ok m base s k =
     both (TagOk m) _ tt
-    (led-ok m base s _ _ (objectiveIn 3 _ (drop (tokenAt s 0 .next) s)) (token-end s 0) k (objective-within 3 s _ (tokenAt s 0 .next) _ _ refl refl))
+    (led-ok m base s _ _ (objectiveIn 3 _ (drop (tokenAt s 0 .next) s)) k (objective-within 3 s _ (tokenAt s 0 .next) _ _ refl refl))
 
 -- ---- a row
 -- a tag has five numbers
