@@ -43,37 +43,21 @@ use Rattle.roundtrip.proofs.Read.{read-encoded}
 use Rattle.roundtrip.proofs.Counts.{Hole, hole}
 
 -- ---- texts and names
--- a lowered message has the same texts
-texts-stay : (msg : Msg Value) → textsOf (lowerMsg msg) ≡ textsOf msg
-unfolding textsOf lowerMsg lowerObj withCount flatMap pairTexts
-texts-stay Msg.noop = refl
-texts-stay (Msg.discovery s i o) = refl
-texts-stay (Msg.response s i t aim o) = refl
-texts-stay (Msg.request-negotiation s o) = refl
-texts-stay (Msg.request-synchronization s o) = refl
-texts-stay (Msg.negotiate s o) = refl
-texts-stay (Msg.end s e) = refl
-texts-stay (Msg.wait s t) = refl
-texts-stay (Msg.synch s o) = refl
-texts-stay (Msg.flood s i t []) = refl
-texts-stay (Msg.flood s i t (p ∷ ps)) = refl
-texts-stay (Msg.invalid s item) = refl
-
--- and the same names
-names-stay : (msg : Msg Value) → namesOf (lowerMsg msg) ≡ namesOf msg
-unfolding namesOf lowerMsg lowerObj withCount
-names-stay Msg.noop = refl
-names-stay (Msg.discovery s i o) = refl
-names-stay (Msg.response s i t aim o) = refl
-names-stay (Msg.request-negotiation s o) = refl
-names-stay (Msg.request-synchronization s o) = refl
-names-stay (Msg.negotiate s o) = refl
-names-stay (Msg.end s e) = refl
-names-stay (Msg.wait s t) = refl
-names-stay (Msg.synch s o) = refl
-names-stay (Msg.flood s i t []) = refl
-names-stay (Msg.flood s i t (p ∷ ps)) = refl
-names-stay (Msg.invalid s item) = refl
+-- a lowered message has the same texts and names
+texts-stay : (msg : Msg Value) → (textsOf (lowerMsg msg) ≡ textsOf msg) × (namesOf (lowerMsg msg) ≡ namesOf msg)
+unfolding textsOf namesOf lowerMsg lowerObj withCount flatMap pairTexts
+texts-stay Msg.noop = (refl, refl)
+texts-stay (Msg.discovery s i o) = (refl, refl)
+texts-stay (Msg.response s i t aim o) = (refl, refl)
+texts-stay (Msg.request-negotiation s o) = (refl, refl)
+texts-stay (Msg.request-synchronization s o) = (refl, refl)
+texts-stay (Msg.negotiate s o) = (refl, refl)
+texts-stay (Msg.end s e) = (refl, refl)
+texts-stay (Msg.wait s t) = (refl, refl)
+texts-stay (Msg.synch s o) = (refl, refl)
+texts-stay (Msg.flood s i t []) = (refl, refl)
+texts-stay (Msg.flood s i t (p ∷ ps)) = (refl, refl)
+texts-stay (Msg.invalid s item) = (refl, refl)
 
 -- ---- the head replaced
 -- the objective's parts lie in the message
@@ -136,8 +120,8 @@ module _ {s : List ℕ} {at end n : ℕ} {msg : Msg Value} (h : Hole s at end n 
             msg = lowerMsg msg;
             is = h .is (shortest (n - 1));
           };
-      texts = rw (texts-stay msg) texts;
-      names = rw (names-stay msg) names;
+      texts = rw (texts-stay msg .0) texts;
+      names = rw (texts-stay msg .1) names;
     },
     refl,
   )
