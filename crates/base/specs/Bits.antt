@@ -9,6 +9,6 @@ unfoldable pub hasBit : ℕ → ℕ → Bool
 hasBit mask i = eqb (mask / 2 ^ i % 2) 1
 
 -- the mask whose bits these are, each named once
-abbrev pub maskOf : List ℕ → ℕ
-maskOf [] = 0
-maskOf (i ∷ rest) = 2 ^ i + maskOf rest
+abbrev pub maskWith : List ℕ → ℕ
+maskWith [] = 0
+maskWith (i ∷ rest) = 2 ^ i + maskWith rest

@@ -5,7 +5,7 @@ use mathlib.Core.List.{List, [], _∷_, _++_}
 use lib.ListN.{getD}
 use lib.Dec.{ltb, eqb}
 use Rattle.base.specs.Pick.{pick}
-use Rattle.base.specs.Bits.{hasBit, maskOf}
+use Rattle.base.specs.Bits.{hasBit, maskWith}
 use Rattle.options.specs.declared.Span.{Span}
 use Rattle.options.specs.Text.{unless, spanOf}
 use Rattle.message.specs.Opening.{most}
@@ -46,13 +46,13 @@ itemPlaces = 17 ∷ 18 ∷ []
 -- the places that may hold other numbers than 0, as the bits of a mask, by the kind
 unfoldable pub allowedIn : ℕ → ℕ
 allowedIn kind =
-    pick (eqb kind 0) (maskOf (0 ∷ []))
-    (pick (eqb kind 1) (maskOf (sessionPlaces ++ initiatorPlaces ++ objectivePlaces))
-    (pick (eqb kind 2) (maskOf (sessionPlaces ++ initiatorPlaces ++ ttlPlace ++ objectivePlaces ++ rowsPlaces))
-    (pick (eqb kind 6) (maskOf (sessionPlaces ++ outcomePlace ++ itemPlaces))
-    (pick (eqb kind 7) (maskOf (sessionPlaces ++ ttlPlace))
-    (pick (eqb kind 9) (maskOf (sessionPlaces ++ initiatorPlaces ++ ttlPlace ++ rowsPlaces))
-    (pick (eqb kind 99) (maskOf (sessionPlaces ++ itemPlaces)) (maskOf (sessionPlaces ++ objectivePlaces))))))))
+    pick (eqb kind 0) (maskWith (0 ∷ []))
+    (pick (eqb kind 1) (maskWith (sessionPlaces ++ initiatorPlaces ++ objectivePlaces))
+    (pick (eqb kind 2) (maskWith (sessionPlaces ++ initiatorPlaces ++ ttlPlace ++ objectivePlaces ++ rowsPlaces))
+    (pick (eqb kind 6) (maskWith (sessionPlaces ++ outcomePlace ++ itemPlaces))
+    (pick (eqb kind 7) (maskWith (sessionPlaces ++ ttlPlace))
+    (pick (eqb kind 9) (maskWith (sessionPlaces ++ initiatorPlaces ++ ttlPlace ++ rowsPlaces))
+    (pick (eqb kind 99) (maskWith (sessionPlaces ++ itemPlaces)) (maskWith (sessionPlaces ++ objectivePlaces))))))))
 
 -- the number at place i is 0, or the mask has the place
 unfoldable pub fieldFits : List ℕ → ℕ → ℕ → Bool
@@ -64,7 +64,7 @@ allFit f mask = allFrom (fieldFits f mask) mostPlaces 0
 
 -- the places of an objective that isn't there, 5 to 12, hold 0
 unfoldable pub isBlank : List ℕ → Bool
-isBlank f = allFit f (maskOf (sessionPlaces ++ initiatorPlaces ++ ttlPlace ++ 13 ∷ 14 ∷ 15 ∷ outcomePlace ++ itemPlaces))
+isBlank f = allFit f (maskWith (sessionPlaces ++ initiatorPlaces ++ ttlPlace ++ 13 ∷ 14 ∷ 15 ∷ outcomePlace ++ itemPlaces))
 
 unfoldable pub toldGoal : List ℕ → Narrow → Goal
 toldGoal f n = record { name = spanOf (getD f 6 0) (getD f 7 0); flags = n .flags; count = n .count; value = spanOf (getD f 11 0) (getD f 12 0) }

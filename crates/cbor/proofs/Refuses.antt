@@ -20,7 +20,7 @@ use Rattle.cbor.specs.declared.item.ItemRead.{ItemRead}
 use Rattle.cbor.specs.Head.{headAt}
 use Rattle.cbor.specs.Item.{opens, stepOf, stepFrom, stepAt, itemsOf, leftUnder, next, run, enough, firstItem}
 use Rattle.cbor.specs.Tree.{Item, Items, headBytes, count, encode, encodes, depth, Good}
-use Rattle.cbor.specs.Fault.{Fault, Begun, held, encodeBegun, Unfinished, placeOf, FirstFault}
+use Rattle.cbor.specs.Fault.{Fault, Begun, itemsHeld, encodeBegun, Unfinished, placeOf, FirstFault}
 use Rattle.cbor.proofs.Bounds.{StepOk, step-ok}
 use Rattle.cbor.proofs.Runs.{runs, runs-step}
 use Rattle.cbor.proofs.HeadExact.{head-read}
@@ -195,11 +195,11 @@ fault-step left s number (Fault.short major width arg rest e right lo hi less) =
 record Opens (left major arg : ℕ) : Type 0 where
   n : ℕ
   pairs : Bool
-  holds : itemsOf n pairs ≡ held major arg
+  holds : itemsOf n pairs ≡ itemsHeld major arg
   step : (room len : ℕ) → stepOf left room major arg len ≡ Step.Opened len n pairs
 
 opens-of : (left major arg : ℕ) → 4 ≤ major → major < 7 → 1 ≤ left → Opens left major arg
-unfolding stepOf opens itemsOf held pick
+unfolding stepOf opens itemsOf itemsHeld pick
 opens-of left major arg lo hi some = by (eqb major 4) (eqb major 5) refl refl
   where
     tests : (room len : ℕ) → stepOf left room major arg len ≡ opens major arg len
@@ -224,7 +224,7 @@ module _ (most number : ℕ) where
       let inner = encodes (b .items) in
       let tail = encodeBegun bs ++ rest in
       let o = opens-of (most - length st) (b .major) (b .arg) (u .low) (u .high) (omega (arith, u .shallow)) in
-      let m = held (b .major) (b .arg) - suc (count (b .items)) in
+      let m = itemsHeld (b .major) (b .arg) - suc (count (b .items)) in
       let lacks : itemsOf (o .n) (o .pairs) ≡ count (b .items) + suc m = omega (arith, o .holds, u .fewer) in
       let one : most - length st - 1 ≡ most - length (k ∷ st) = omega arith in
       let levels : most - length st - length (b ∷ bs) ≡ most - length (k ∷ st) - length bs = omega arith in

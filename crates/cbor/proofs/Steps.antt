@@ -18,7 +18,7 @@ use Rattle.cbor.specs.declared.head.HeadRead.{HeadRead}
 use Rattle.cbor.specs.Head.{headAt}
 use Rattle.cbor.specs.Item.{opens, stepOf, stepFrom, stepAt, itemsOf}
 use Rattle.cbor.specs.Tree.{Item, Items, headBytes, Right, count, encode, encodes, depth, depths, Good, Goods}
-use Rattle.cbor.specs.Fault.{Fault, placeOf, held}
+use Rattle.cbor.specs.Fault.{Fault, placeOf, itemsHeld}
 use Rattle.cbor.proofs.Bounds.{HeadOk, head-ok}
 use Rattle.cbor.proofs.HeadExact.{Spelt, HeadIs, head-is}
 use Rattle.cbor.proofs.HeadFault.{head-fault}
@@ -46,7 +46,7 @@ pub record OpeningIs (s : List ℕ) (len n : ℕ) : Type 0 where
   pub right : Right major width arg
   pub low : 4 ≤ major
   pub high : major < 7
-  pub holds : held major arg ≡ n
+  pub holds : itemsHeld major arg ≡ n
   pub node : (ys : Items) → Goods ys → count ys ≡ n → NodeIs s len ys
 
 -- a fault of the head at the start of s, and its place
@@ -101,7 +101,7 @@ module _ (left : ℕ) (s : List ℕ) (b : Bytes s) (major arg len : ℕ) (h : Sp
         bytes = rw (long, ← k .bytes) (sym (take-add len arg s));
       }
 
-  opening : (n : ℕ) → 4 ≤ major → major < 7 → held major arg ≡ n → ((ys : Items) → Goods ys → count ys ≡ n → NodeIs s len ys) → OpeningIs s len n
+  opening : (n : ℕ) → 4 ≤ major → major < 7 → itemsHeld major arg ≡ n → ((ys : Items) → Goods ys → count ys ≡ n → NodeIs s len ys) → OpeningIs s len n
   opening n lo hi holds node =
       record { major = major; width = h .width; arg = arg; bytes = h .bytes; right = h .right; low = lo; high = hi; holds = holds; node = node }
 
@@ -128,7 +128,7 @@ module _ (left : ℕ) (s : List ℕ) (b : Bytes s) (major arg len : ℕ) (h : Sp
 
   -- an array, a map or a tag
   opens-is : 4 ≤ major → major < 7 → StepIs left s (opens major arg len)
-  unfolding opens itemsOf held pick
+  unfolding opens itemsOf itemsHeld pick
   opens-is lo hi = by (eqb major 4) (eqb major 5) refl refl
     where
       by : (p q : Bool) → eqb major 4 ≡ p → eqb major 5 ≡ q

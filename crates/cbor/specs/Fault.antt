@@ -27,8 +27,8 @@ pub record Begun : Type 0 where
   pub items : Items
 
 -- how many items an array, a map or a tag holds
-unfoldable pub held : ℕ → ℕ → ℕ
-held major arg = pick (eqb major 4) arg (pick (eqb major 5) (2 * arg) 1)
+unfoldable pub itemsHeld : ℕ → ℕ → ℕ
+itemsHeld major arg = pick (eqb major 4) arg (pick (eqb major 5) (2 * arg) 1)
 
 -- begun arrays, maps and tags, each inside the one before it, after the items there
 unfoldable pub encodeBegun : List Begun → List ℕ
@@ -41,7 +41,7 @@ pub record Lacking (left : ℕ) (b : Begun) : Type 0 where
   pub low : 4 ≤ b .major
   pub high : b .major < 7
   pub good : Goods (b .items)
-  pub fewer : count (b .items) < held (b .major) (b .arg)
+  pub fewer : count (b .items) < itemsHeld (b .major) (b .arg)
   pub shallow : depths (b .items) + 1 ≤ left
 
 -- each lacks an item, one level deeper than the one before it

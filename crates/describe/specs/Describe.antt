@@ -14,9 +14,9 @@ use Rattle.description.specs.declared.Description.the-variants as D
 unfoldable pub goalOf : Objective → Goal
 goalOf o = record { name = o .name; flags = o .flags; count = o .count; value = o .value }
 
-unfoldable pub extraOf : Extra → Said
-extraOf Extra.Without = X.Without
-extraOf (Extra.With o) = X.With (goalOf o)
+unfoldable pub saidExtra : Extra → Said
+saidExtra Extra.Without = X.Without
+saidExtra (Extra.With o) = X.With (goalOf o)
 
 unfoldable pub isDivert : Targets → Bool
 isDivert (Targets.Locators series) = false
@@ -25,7 +25,7 @@ isDivert (Targets.Divert series) = true
 unfoldable pub descriptionOf : Message → Description
 descriptionOf M.Noop = D.Noop
 descriptionOf (M.Discovery session initiator o) = D.Discovery session initiator (goalOf o)
-descriptionOf (M.Response session initiator ttl targets extra) = D.Response session initiator ttl (isDivert targets) (extraOf extra)
+descriptionOf (M.Response session initiator ttl targets extra) = D.Response session initiator ttl (isDivert targets) (saidExtra extra)
 descriptionOf (M.RequestNegotiation session o) = D.RequestNegotiation session (goalOf o)
 descriptionOf (M.RequestSynchronization session o) = D.RequestSynchronization session (goalOf o)
 descriptionOf (M.Negotiate session o) = D.Negotiate session (goalOf o)

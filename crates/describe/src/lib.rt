@@ -2,7 +2,7 @@
 ghost use mathlib.Core.Path.{_≡_};
 ghost use Rattle.message.specs.Shape.{exchangeOf};
 ghost use Rattle.message.specs.declared.Message.{Message};
-ghost use Rattle.describe.specs.Describe.{goalOf, extraOf, isDivert, descriptionOf};
+ghost use Rattle.describe.specs.Describe.{goalOf, saidExtra, isDivert, descriptionOf};
 use description::Description;
 use description::Extra;
 use description::Goal;
@@ -104,7 +104,7 @@ fn goal_of(o: Objective) -> Goal
 }
 
 fn extra_of(extra: message::Extra) -> Extra
-    ensures { λ r. ⌜ r ≡ extraOf extra ⌝ }
+    ensures { λ r. ⌜ r ≡ saidExtra extra ⌝ }
 {
     match extra {
         message::Extra::Without => Extra::Without,

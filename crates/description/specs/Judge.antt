@@ -44,12 +44,12 @@ unfoldable pub okPlace : List ℕ → Place → Bool
 okPlace source p = pick (ltb (p .kind) 103) false (pick (ltb 106 (p .kind)) false (inside source (p .content)))
 
 -- the four numbers after a kind of 0 are 0 too
-unfoldable pub blank : Place → Bool
-blank p =
+unfoldable pub blankPlace : Place → Bool
+blankPlace p =
     pick (eqb (p .content .at) 0) (pick (eqb (p .content .len) 0) (pick (eqb (p .protocol) 0) (eqb (p .port) 0) false) false) false
 
 unfoldable pub okNoneOr : List ℕ → Place → Bool
-okNoneOr source p = pick (eqb (p .kind) 0) (blank p) (okPlace source p)
+okNoneOr source p = pick (eqb (p .kind) 0) (blankPlace p) (okPlace source p)
 
 -- n numbers from i on, each of which passes
 unfoldable pub allFrom : (ℕ → Bool) → ℕ → ℕ → Bool

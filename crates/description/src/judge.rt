@@ -4,7 +4,7 @@ ghost use Prim.Native.Nat.{_+_, _*_, _≤_};
 ghost use lib.ListN.{length};
 ghost use Rattle.options.specs.Text.{held};
 ghost use Rattle.description.specs.Describe.{placeRow, pairRow, entryOf};
-ghost use Rattle.description.specs.Judge.{whole, inside, okValue, okItem, okEntry, okPlace, blank, okNoneOr, okRow, okRows, okPair, okPairs, okExtra, okOutcome, okDiscovery, okResponse, okFlood, okParts, hasList, okList, okDescribed};
+ghost use Rattle.description.specs.Judge.{whole, inside, okValue, okItem, okEntry, okPlace, blankPlace, okNoneOr, okRow, okRows, okPair, okPairs, okExtra, okOutcome, okDiscovery, okResponse, okFlood, okParts, hasList, okList, okDescribed};
 use crate::Description;
 use crate::Extra;
 use crate::Goal;
@@ -201,7 +201,7 @@ fn ok_none_or(source: &[u8], p: Place) -> bool
 }
 
 fn is_blank(p: Place) -> bool
-    ensures { λ r. ⌜ r ≡ blank p ⌝ }
+    ensures { λ r. ⌜ r ≡ blankPlace p ⌝ }
 {
     if p.content.at != 0 {
         return false;

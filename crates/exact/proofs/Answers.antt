@@ -30,7 +30,7 @@ use Rattle.message.specs.declared.Message.{Message}
 use Rattle.message.specs.declared.shape.Shape.the-variants as S
 use Rattle.message.specs.declared.Examined.{Examined}
 use Rattle.message.specs.declared.Examined.the-variants as E
-use Rattle.message.specs.Read.{mostBytes, judged, shaped, framed, examined}
+use Rattle.message.specs.Read.{mostBytes, judgedShape, shaped, framed, examined}
 use Rattle.exact.specs.Describes.{Describes}
 use Rattle.exact.specs.Accepted.{OneItem, IsMessage, Accepted}
 use Rattle.exact.specs.Rows.{Fits, UnknownKind}
@@ -75,14 +75,14 @@ pub record MessageShape (s : List ℕ) (msg : Msg Value) : Type 0 where
   pub end : ℕ
   pub bad : ℕ
   pub long : ℕ
-  pub is : examined s ≡ judged (S.Good message end bad long)
+  pub is : examined s ≡ judgedShape (S.Good message end bad long)
   pub describes : Describes s message msg
   pub texts : bad ≡ 0 ↔ TextsGood msg
   pub names : long ≡ 0 ↔ NamesGood msg
 
 -- a message's refusals are 11 and 10
-pub judged-number : (m : Message) (end bad long : ℕ) {number place : ℕ} → judged (S.Good m end bad long) ≡ E.Refused number place → 10 ≤ number
-unfolding judged
+pub judged-number : (m : Message) (end bad long : ℕ) {number place : ℕ} → judgedShape (S.Good m end bad long) ≡ E.Refused number place → 10 ≤ number
+unfolding judgedShape
 judged-number m end bad long {number} {place} =
     pick-case P (eqb bad 0) (λ _. pick-case P (eqb long 0) (λ _ q. absurd (let z : _≡_ {A = ℕ} 0 1 = cc in omega arith)) (λ _ q. let e : 10 ≡ number = cc in omega arith))
     (λ _ q. let e : 11 ≡ number = cc in omega arith)
@@ -127,8 +127,8 @@ pub data Answer (s : List ℕ) : Examined → Type 0 where
   read : {m : Message} {end : ℕ} (a : Accepted s) → Describes s m (a .message .msg) → Answer s (E.Accepted m end)
 
 -- the answer by what was noted
-judged-answer : {s : List ℕ} (m : Message) (end bad long : ℕ) → length s ≤ mostBytes → WholeIs s m bad long → Answer s (judged (S.Good m end bad long))
-unfolding judged
+judged-answer : {s : List ℕ} (m : Message) (end bad long : ℕ) → length s ≤ mostBytes → WholeIs s m bad long → Answer s (judgedShape (S.Good m end bad long))
+unfolding judgedShape
 judged-answer {s} m end bad long most h =
     let one : OneItem s = record { item = h .item; bytes = h .bytes; most = most; good = h .good; shallow = h .shallow } in
     let i : IsMessage s = record { one = one; msg = h .msg; is = h .is } in

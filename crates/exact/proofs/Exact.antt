@@ -14,7 +14,7 @@ use Rattle.message.specs.declared.Examined.{Examined}
 use Rattle.message.specs.declared.Examined.the-variants as E
 use Rattle.message.specs.declared.shape.Shape.the-variants as S
 use Rattle.message.specs.declared.Reading.{Reading}
-use Rattle.message.specs.Read.{judged, examined, placeless, readOf}
+use Rattle.message.specs.Read.{judgedShape, examined, placeless, readOf}
 use Rattle.exact.specs.Describes.{Describes}
 use Rattle.exact.specs.Accepted.{IsMessage, Accepted}
 use Rattle.exact.proofs.Bytes.{bytes-encode}
@@ -29,8 +29,8 @@ read-answer {s} {m} (E.Accepted m′ end) (Answer.read a d) q = let same : m′ 
 read-answer (E.Refused number place) a q = absurd (let z : _≡_ {A = ℕ} 0 1 = cc in omega arith)
 
 -- nothing noted
-judged-good : {m : Message} {end bad long : ℕ} → bad ≡ 0 → long ≡ 0 → judged (S.Good m end bad long) ≡ E.Accepted m end
-unfolding judged pick
+judged-good : {m : Message} {end bad long : ℕ} → bad ≡ 0 → long ≡ 0 → judgedShape (S.Good m end bad long) ≡ E.Accepted m end
+unfolding judgedShape pick
 judged-good e e′ = rw (e, e′)
 
 -- for readers

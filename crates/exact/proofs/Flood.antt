@@ -24,7 +24,7 @@ use Rattle.grammar.proofs.Pairs.{PairStands, pair-sound, pair-read}
 use Rattle.message.specs.declared.opening.Opening.{Opening}
 use Rattle.message.specs.declared.opening.OpeningRead.{OpeningRead}
 use Rattle.message.specs.declared.sequence.PairsRead.{PairsRead}
-use Rattle.message.specs.Sequence.{pairNext, pairsFrom}
+use Rattle.message.specs.Sequence.{pairThen, pairsFrom}
 use Rattle.message.specs.Flood.{floodedBy, floodedOf, floodedAt, floodBy, floodAt}
 use Rattle.exact.specs.Describes.{Describes}
 use Rattle.exact.proofs.Noted.{single, none-noted, then-noted, more-noted}
@@ -70,8 +70,8 @@ one-more i (PairsOk.ran h) =
 module _ {s : List ℕ} (b : Bytes s) where
   -- the next pair, and then others
   next-sound : {p n bad long : ℕ} → p ≤ length s → ((p′ bad′ long′ : ℕ) → p′ ≤ length s → PairsOk s p′ n bad′ long′ (pairsFrom s n p′ bad′ long′))
-      → (x : PairRead) → pairAt s p ≡ x → PairsOk s p (suc n) bad long (pairNext (pairsFrom s n) p bad long x)
-  unfolding pairNext
+      → (x : PairRead) → pairAt s p ≡ x → PairsOk s p (suc n) bad long (pairThen (pairsFrom s n) p bad long x)
+  unfolding pairThen
   next-sound low go (PairRead.Bad place) e = PairsOk.refused
   next-sound {p} {bad = bad} {long} low go (PairRead.Got o t size bad′ long′) e =
       let i = pair-sound s p o t size bad′ long′ low b e in
@@ -128,7 +128,7 @@ Run s n p bad long = (end : ℕ) × (bad′ : ℕ) × (long′ : ℕ) × (pairsF
 -- one pair is passed, and then others
 passed : (s : List ℕ) (p n bad long : ℕ) {size m bad′ long′ : ℕ} {o : Objective} {t : Tag} → pairAt s p ≡ PairRead.Got o t size bad′ long′ → p + size ≡ m
     → Run s n m (firstOf bad bad′) (firstOf long long′) → Run s (suc n) p bad long
-unfolding pairsFrom pairNext
+unfolding pairsFrom pairThen
 passed s p n bad long e step (end, bad″, long″, rest) = (end, bad″, long″, rw (e, step) rest)
 
 -- pairs that stand one after the other are read

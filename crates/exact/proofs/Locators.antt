@@ -28,7 +28,7 @@ use Rattle.grammar.proofs.Bridge.{join, none, none-end, split}
 use Rattle.grammar.proofs.Pieces.{array-items}
 use Rattle.grammar.proofs.Locators.{LocatorStands, locator-sound, locator-read}
 use Rattle.message.specs.declared.sequence.LocatorsRead.{LocatorsRead}
-use Rattle.message.specs.Sequence.{textLed, locatorNext, locatorsFrom}
+use Rattle.message.specs.Sequence.{textLed, locatorThen, locatorsFrom}
 use Rattle.exact.proofs.Noted.{none-noted, more-noted}
 use Rattle.exact.proofs.Heads.{uint-passed, string-passed, array-passed}
 
@@ -72,8 +72,8 @@ one-more i (LocatorsOk.ran {left = left} h) =
 module _ {s : List ℕ} (b : Bytes s) where
   -- the next locator, and then others
   next-sound : {p n bad : ℕ} → p ≤ length s → ((p′ bad′ : ℕ) → p′ ≤ length s → LocatorsOk s p′ n bad′ (locatorsFrom s n p′ bad′))
-      → (x : LocatorRead) → locatorAt s p ≡ x → LocatorsOk s p (suc n) bad (locatorNext (locatorsFrom s n) p bad x)
-  unfolding locatorNext
+      → (x : LocatorRead) → locatorAt s p ≡ x → LocatorsOk s p (suc n) bad (locatorThen (locatorsFrom s n) p bad x)
+  unfolding locatorThen
   next-sound low go (LocatorRead.Bad place) e = LocatorsOk.refused
   next-sound {p} {bad = bad} low go (LocatorRead.Got l size bad′) e =
       let i = locator-sound s p l size bad′ low b e in
@@ -121,7 +121,7 @@ objective-led a (ObjectiveItem.valued i j) = array-text-led a
 -- one locator is passed
 passed : (s : List ℕ) (p n bad : ℕ) {size bad′ : ℕ} {l : Locator} → textLed s p ≡ false → locatorAt s p ≡ LocatorRead.Got l size bad′
     → locatorsFrom s (suc n) p bad ≡ locatorsFrom s n (p + size) (firstOf bad bad′)
-unfolding locatorsFrom locatorNext pick
+unfolding locatorsFrom locatorThen pick
 passed s p n bad t e = rw (t, e)
 
 -- locators that stand one after the other are passed, whatever follows them

@@ -19,7 +19,7 @@ use Rattle.message.specs.declared.Examined.{Examined}
 use Rattle.message.specs.declared.Examined.the-variants as E
 use Rattle.message.specs.declared.shape.Shape.the-variants as S
 use Rattle.message.specs.declared.Reading.{Reading}
-use Rattle.message.specs.Read.{mostBytes, judged, framed, examined, placeless, readOf}
+use Rattle.message.specs.Read.{mostBytes, judgedShape, framed, examined, placeless, readOf}
 use Rattle.exact.specs.Accepted.{Accepted}
 use Rattle.exact.specs.Rows.{Fits, Row}
 use Rattle.exact.proofs.Whole.{fills}
@@ -29,13 +29,13 @@ use Rattle.exact.proofs.Exact.{accepted-exactly, accepted-bytes}
 
 -- ---- the row's refusal is given
 -- a bad text
-judged-bad : (m : Message) (end bad long : ℕ) → (bad ≡ 0 → ⊥) → placeless (judged (S.Good m end bad long)) ≡ Reading.Refused 11
-unfolding judged placeless pick
+judged-bad : (m : Message) (end bad long : ℕ) → (bad ≡ 0 → ⊥) → placeless (judgedShape (S.Good m end bad long)) ≡ Reading.Refused 11
+unfolding judgedShape placeless pick
 judged-bad m end bad long e = rw (ne-eqb bad 0 e)
 
 -- a long name
-judged-long : (m : Message) (end bad long : ℕ) → bad ≡ 0 → (long ≡ 0 → ⊥) → placeless (judged (S.Good m end bad long)) ≡ Reading.Refused 10
-unfolding judged placeless pick
+judged-long : (m : Message) (end bad long : ℕ) → bad ≡ 0 → (long ≡ 0 → ⊥) → placeless (judgedShape (S.Good m end bad long)) ≡ Reading.Refused 10
+unfolding judgedShape placeless pick
 judged-long m end bad long e e′ = rw (e, ne-eqb long 0 e′)
 
 -- neither too short nor too long

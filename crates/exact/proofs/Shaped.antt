@@ -32,7 +32,7 @@ use Rattle.message.specs.declared.shape.Shape.the-variants as S
 use Rattle.message.specs.declared.Examined.{Examined}
 use Rattle.message.specs.declared.Examined.the-variants as E
 use Rattle.message.specs.Shape.{exchangeAt}
-use Rattle.message.specs.Read.{byKind, judged, shaped}
+use Rattle.message.specs.Read.{byKind, judgedShape, shaped}
 use Rattle.exact.specs.Rows.{UnknownKind}
 use Rattle.exact.proofs.Whole.{ShapeIs, ShapeOk, Reads, Kinded}
 use Rattle.exact.proofs.Heads.{uint-at, uint-passed, array-passed}
@@ -97,8 +97,8 @@ refused-accepted : {number place end : ℕ} {m : Message} → E.Refused number p
 refused-accepted e = let z : _≡_ {A = ℕ} 0 1 = cc in omega arith
 
 -- a message keeps the place where its parts end
-judged-end : (m : Message) (end bad long : ℕ) {m′ : Message} {end′ : ℕ} → judged (S.Good m end bad long) ≡ E.Accepted m′ end′ → end ≡ end′
-unfolding judged
+judged-end : (m : Message) (end bad long : ℕ) {m′ : Message} {end′ : ℕ} → judgedShape (S.Good m end bad long) ≡ E.Accepted m′ end′ → end ≡ end′
+unfolding judgedShape
 judged-end m end bad long {m′} {end′} =
     pick-case P _ (λ _. pick-case P _ (λ _ q. cc) (λ _ q. absurd (refused-accepted q))) (λ _ q. absurd (refused-accepted q))
   where
@@ -183,8 +183,8 @@ module _ {s : List ℕ} (b : Bytes s) where
 
   -- an unknown kind that leads, a departure, or a message that is described
   pub shaped-case : (P : Examined → Type 0) → ((place : ℕ) → UnknownLead s → P (E.Refused 8 place)) → ((place : ℕ) → P (E.Refused 9 place))
-      → ((m : Message) (end bad long : ℕ) → ShapeIs s m end bad long → P (judged (S.Good m end bad long))) → P (shaped s)
-  unfolding shaped judged
+      → ((m : Message) (end bad long : ℕ) → ShapeIs s m end bad long → P (judgedShape (S.Good m end bad long))) → P (shaped s)
+  unfolding shaped judgedShape
   shaped-case P unknown departs reads =
       let a = tokenAt s 0 in
       let k = tokenAt s (a .next) in
@@ -200,7 +200,7 @@ module _ {s : List ℕ} (b : Bytes s) where
       (λ e₃. shape (shape-sound at-kind (inl (ltb-false 9 (k .arg) e₃)))))
       (λ _. departs _))
     where
-      shape : {r : Shape} → ShapeOk s r → P (judged r)
+      shape : {r : Shape} → ShapeOk s r → P (judgedShape r)
       shape (ShapeOk.bad {place}) = departs place
       shape (ShapeOk.good {m} {end} {bad} {long} i) = reads m end bad long i
 
@@ -218,7 +218,7 @@ record Led (s : List ℕ) (kind : ℕ) (xs : Items) : Type 0 where
   place : ℕ
   end : ℕ
   stand : StandAll s at end xs
-  is : let read = judged (byKind s kind (suc (count xs)) at) in shaped s ≡ pick (ltb 9 kind) (pick (eqb kind 99) read (E.Refused 8 place)) read
+  is : let read = judgedShape (byKind s kind (suc (count xs)) at) in shaped s ≡ pick (ltb 9 kind) (pick (eqb kind 99) read (E.Refused 8 place)) read
 
 -- such an array is so read
 led : {s : List ℕ} {w v kind : ℕ} {xs : Items} → Stands s 0 (length s) (Item.array w (Items.more (uint v kind) xs)) → Led s kind xs
@@ -245,10 +245,10 @@ pub record MessageReads (s : List ℕ) : Type 0 where
   pub end : ℕ
   pub bad : ℕ
   pub long : ℕ
-  pub is : shaped s ≡ judged (S.Good message end bad long)
+  pub is : shaped s ≡ judgedShape (S.Good message end bad long)
 
 -- as its shape is read
-reads-of : {s : List ℕ} (r : Shape) → shaped s ≡ judged r → Reads r → MessageReads s
+reads-of : {s : List ℕ} (r : Shape) → shaped s ≡ judgedShape r → Reads r → MessageReads s
 reads-of _ e (Reads.reads {m} {end} {bad} {long}) = record { message = m; end = end; bad = bad; long = long; is = e }
 
 -- each message is read

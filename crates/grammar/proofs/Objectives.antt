@@ -25,7 +25,7 @@ use Rattle.cbor.proofs.Tokens.{token-is, token-end, is-array}
 use Rattle.options.specs.declared.objective.Objective.{Objective}
 use Rattle.options.specs.declared.objective.ObjectiveRead.{ObjectiveRead}
 use Rattle.options.specs.Text.{spanOf, contentIn, badText}
-use Rattle.options.specs.Objective.{longName, objectiveOf, objectiveIn, objectiveNamed, objectiveAt}
+use Rattle.options.specs.Objective.{longName, objectiveFrom, objectiveIn, objectiveNamed, objectiveAt}
 use Rattle.syntax.specs.Message.{Obj}
 use Rattle.grammar.specs.Cddl.{uint, text, ObjectiveItem, Value}
 use Rattle.grammar.specs.Limits.{Utf8, Short}
@@ -50,7 +50,7 @@ pub record ObjectiveStands (levels : ℕ) (m : List ℕ) (p e : ℕ) (o : Object
 -- what is answered by the tokens of name, flags and count, with a value of so many bytes
 abbrev answer : ℕ → List ℕ → Token → Token → Token → ℕ → ℕ → ObjectiveRead
 answer base s n f c len size =
-    ObjectiveRead.Got (objectiveOf base n (upTo 15 f) c (upTo 255 c) len) size (badText (contentIn s n) (base + n .at)) (longName n (base + n .at))
+    ObjectiveRead.Got (objectiveFrom base n (upTo 15 f) c (upTo 255 c) len) size (badText (contentIn s n) (base + n .at)) (longName n (base + n .at))
 
 -- ---- sound
 abbrev Sound : ℕ → List ℕ → ℕ → ObjectiveRead → Type 0
@@ -58,7 +58,7 @@ Sound levels m base (ObjectiveRead.Bad place) = Unit {0}
 Sound levels m base (ObjectiveRead.Got o size bad long) = ObjectiveStands levels m base (base + size) o bad long
 
 sound : (levels : ℕ) (m : List ℕ) (base : ℕ) → base ≤ length m → Bytes m → Sound levels m base (objectiveAt levels m base)
-unfolding objectiveIn objectiveNamed objectiveOf count depth
+unfolding objectiveIn objectiveNamed objectiveFrom count depth
 sound levels m base low by =
     pick-case P (eqb (itemsIn a) 0) (λ _. tt)
     (λ t₁. pick-case P (eqb (n .major) 3)
@@ -175,14 +175,14 @@ record Begun (levels : ℕ) (m : List ℕ) (base e : ℕ) (name : List ℕ) (fla
   read : objectiveAt levels m base ≡ ending levels base (drop base m) (suc (suc (suc (count rest)))) n f c
   left : StandAll (drop base m) (c .next) (e - base) rest
   described : (len : ℕ) (v : Value) → suc (suc (suc (count rest))) ≡ itemsWith v → ValueIs m (spanOf (base + c .next) len) v → e ≡ base + c .next + len
-      → ObjectiveIs m base e (objectiveOf base n (upTo 15 f) c (upTo 255 c) len) (record { name = name; flags = flags; count = number; value = v })
+      → ObjectiveIs m base e (objectiveFrom base n (upTo 15 f) c (upTo 255 c) len) (record { name = name; flags = flags; count = number; value = v })
   texts : badText (contentIn (drop base m) n) (base + n .at) ≡ 0 ↔ Utf8 name
   names : longName n (base + n .at) ≡ 0 ↔ Short name
 
 begun : (levels : ℕ) {m : List ℕ} {base e w u i j flags number : ℕ} {name : List ℕ} {rest : Items}
     → Stands m base e (Item.array w (Items.more (text u name) (Items.more (uint i flags) (Items.more (uint j number) rest))))
     → flags ≤ 15 → number ≤ 255 → count rest ≤ 1 → Begun levels m base e name flags number rest
-unfolding count objectiveOf
+unfolding count objectiveFrom
 begun levels {m} {base} {e} {u = u} {i} {j} {flags} {number} {name} {rest} st few byte short =
     let s : List ℕ = drop base m in
     let low : base ≤ length m = omega (arith, st .within, advances st) in

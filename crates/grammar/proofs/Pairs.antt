@@ -35,7 +35,7 @@ use Rattle.options.specs.Pair.{isEmpty, pairTagged, pairTail, pairLed, pairIn, 
 use Rattle.syntax.specs.Message.{Loc, Obj, Pair}
 use Rattle.grammar.specs.Cddl.{array, LocatorItem, ObjectiveItem, PairItem, Value}
 use Rattle.grammar.specs.Limits.{Utf8, Short, tagTexts, pairTexts}
-use Rattle.grammar.specs.Stands.{Stands, ArrayHead, tagOf, ObjectiveIs}
+use Rattle.grammar.specs.Stands.{Stands, ArrayHead, tagLoc, ObjectiveIs}
 use Rattle.grammar.proofs.Bridge.{split, join, none as no-more, none-end, only, last, lift, lift-first, sink-sized, sink-first, advances, Heading, token-heading, array-token}
 use Rattle.grammar.proofs.Pieces.{both-hold, array-items, array-at, array-head, lift-head}
 use Rattle.grammar.proofs.Texts.{first-zero}
@@ -61,7 +61,7 @@ pub record PairStands (m : List ℕ) (p e : ℕ) (o : Objective) (t : Tag) (bad 
   pub mid : ℕ
   pub opened : ArrayHead m p at 2
   pub objective : ObjectiveIs m at mid o (pair .0)
-  pub tag : tagOf m t ≡ pair .1
+  pub tag : tagLoc m t ≡ pair .1
   pub texts : bad ≡ 0 ↔ Every Utf8 (pairTexts pair)
   pub names : long ≡ 0 ↔ Short (pair .0 .name)
 
@@ -88,7 +88,7 @@ module _ (m : List ℕ) (base : ℕ) (low : base ≤ length m) (by : Bytes m) (a
     abbrev at : ℕ
     at = a .next + n
 
-    made : (size : ℕ) (y : Item) (t : Tag) (l : Option Loc) (bad′ : ℕ) → Stands s at size y → depth y ≤ 1 → ((w : ℕ) → PairItem (array w (i .item ∷ y ∷ [])) (i .obj, l)) → tagOf m t ≡ l
+    made : (size : ℕ) (y : Item) (t : Tag) (l : Option Loc) (bad′ : ℕ) → Stands s at size y → depth y ≤ 1 → ((w : ℕ) → PairItem (array w (i .item ∷ y ∷ [])) (i .obj, l)) → tagLoc m t ≡ l
         → bad′ ≡ 0 ↔ (bad ≡ 0) × Every Utf8 (tagTexts l) → P (PairRead.Got o t size bad′ long)
     unfolding count depth pairTexts
     made size y t l bad′ second flat is tag texts =
@@ -109,7 +109,7 @@ module _ (m : List ℕ) (base : ℕ) (low : base ≤ length m) (by : Bytes m) (a
         }
 
     tagged : (r : LocatorRead) → locatorAt m (base + at) ≡ r → P (pairTagged at o bad long r)
-    unfolding pairTagged tagOf tagTexts
+    unfolding pairTagged tagLoc tagTexts
     tagged (LocatorRead.Bad place) q = tt
     tagged (LocatorRead.Got l size bad′) q =
         let j = locator-sound m (base + at) l size bad′ (omega (arith, i .stands .within)) by q in
@@ -119,7 +119,7 @@ module _ (m : List ℕ) (base : ℕ) (low : base ≤ length m) (by : Bytes m) (a
         (λ z. let (x, y) = there z in (x, j .texts .0 y), λ h. back (h .0, j .texts .1 (h .1)))
 
     tailed : P (pairTail base s at o bad long)
-    unfolding pairTail tagOf tagTexts count depth
+    unfolding pairTail tagLoc tagTexts count depth
     tailed =
         pick-case P (isEmpty w)
         (λ e. let (four, zero) = empty-is w e in
@@ -228,11 +228,11 @@ begun {m} {base} {e} st d is =
 abbrev Read : List ℕ → ℕ → ℕ → Pair Value → Type 0
 Read m base e pair =
     (o : Objective) × (t : Tag) × (bad : ℕ) × (long : ℕ) × (pairAt m base ≡ PairRead.Got o t (e - base) bad long)
-    × (at : ℕ) × (mid : ℕ) × ArrayHead m base at 2 × ObjectiveIs m at mid o (pair .0) × (tagOf m t ≡ pair .1)
+    × (at : ℕ) × (mid : ℕ) × ArrayHead m base at 2 × ObjectiveIs m at mid o (pair .0) × (tagLoc m t ≡ pair .1)
     × (bad ≡ 0 ↔ Every Utf8 (pairTexts pair)) × (long ≡ 0 ↔ Short (pair .0 .name))
 
 untagged-read : {m : List ℕ} {base e v : ℕ} {obj : Obj Value} → Begun m base e obj (array v []) → Read m base e (obj, none)
-unfolding count tagOf tagTexts pairTexts
+unfolding count tagLoc tagTexts pairTexts
 untagged-read {m} {base} b =
     let empty = array-token (b .second) in
     let (there, back) = b .texts in
@@ -240,7 +240,7 @@ untagged-read {m} {base} b =
     (b .objective, Tag.Empty, b .bad, b .long, read, b .at, base + b .mid, b .opened, b .described, refl, (λ z. (there z, tt), λ h. back (h .0)), b .names)
 
 tagged-read : {m : List ℕ} {base e : ℕ} {y : Item} {obj : Obj Value} {loc : Loc} → base ≤ length m → Begun m base e obj y → LocatorItem y loc → Read m base e (obj, some loc)
-unfolding tagOf tagTexts pairTexts
+unfolding tagLoc tagTexts pairTexts
 tagged-read {m} {base} {e} low b is =
     let (l, bad′, got, located, texts) = locator-read (lift low (b .second)) is in
     let n : ℕ = base + (e - base) - (base + b .mid) in
@@ -266,7 +266,7 @@ tagged-read {m} {base} {e} low b is =
 -- an item that is a pair is read, and as the pair that it is
 pub pair-read : {m : List ℕ} {base e : ℕ} {x : Item} {pair : Pair Value} → Stands m base e x → depth x ≤ pairLevels → PairItem x pair
     → (o : Objective) × (t : Tag) × (bad : ℕ) × (long : ℕ) × (pairAt m base ≡ PairRead.Got o t (e - base) bad long)
-    × (at : ℕ) × (mid : ℕ) × ArrayHead m base at 2 × ObjectiveIs m at mid o (pair .0) × (tagOf m t ≡ pair .1)
+    × (at : ℕ) × (mid : ℕ) × ArrayHead m base at 2 × ObjectiveIs m at mid o (pair .0) × (tagLoc m t ≡ pair .1)
     × (bad ≡ 0 ↔ Every Utf8 (pairTexts pair)) × (long ≡ 0 ↔ Short (pair .0 .name))
 unfolding depth
 pair-read st d (PairItem.untagged is) = untagged-read (begun st (omega arith) is)

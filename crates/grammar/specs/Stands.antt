@@ -46,9 +46,9 @@ locOf s (L.V4 at protocol port) = Loc.v4 (take 4 (drop at s)) protocol port
 locOf s (L.Domain name protocol port) = Loc.domain (held s name) protocol port
 locOf s (L.Uri uri protocol port) = Loc.uri (held s uri) (orNull nullProtocol protocol) (orNull nullPort port)
 
-unfoldable pub tagOf : List ℕ → Tag → Option Loc
-tagOf s Tag.Empty = none
-tagOf s (Tag.At l) = some (locOf s l)
+unfoldable pub tagLoc : List ℕ → Tag → Option Loc
+tagLoc s Tag.Empty = none
+tagLoc s (Tag.At l) = some (locOf s l)
 
 -- the item that a span holds: none where it has no bytes
 pub data ValueIs (s : List ℕ) (span : Span) : Value → Type 0 where

@@ -6,9 +6,9 @@ use Rattle.negotiation.specs.declared.Stepped.the-variants.{Refused, Moved}
 use Rattle.negotiation.specs.Step.{step}
 use Rattle.host.specs.States.{sideOf, stateOf, stateNumbers}
 
-unfoldable pub numberFrom : Stepped → ℕ
-numberFrom (Refused number) = number
-numberFrom (Moved state) = 0
+unfoldable pub steppedNumber : Stepped → ℕ
+steppedNumber (Refused number) = number
+steppedNumber (Moved state) = 0
 
 -- a refusal leaves the numbers as they were
 unfoldable pub numbersFrom : Stepped → List ℕ → List ℕ
@@ -16,7 +16,7 @@ numbersFrom (Refused number) f = f
 numbersFrom (Moved state) f = stateNumbers state
 
 unfoldable pub stepNumber : List ℕ → List ℕ → ℕ → ℕ
-stepNumber f message side = numberFrom (step (stateOf f side) message (sideOf side))
+stepNumber f message side = steppedNumber (step (stateOf f side) message (sideOf side))
 
 unfoldable pub stateAfter : List ℕ → List ℕ → ℕ → List ℕ
 stateAfter f message side = numbersFrom (step (stateOf f side) message (sideOf side)) f

@@ -12,9 +12,9 @@ unfoldable pub numberOf : Written → ℕ
 numberOf (Written.Refused number) = number
 numberOf (Written.Length n) = 0
 
-unfoldable pub lengthOf : Written → ℕ → ℕ
-lengthOf (Written.Refused number) before = before
-lengthOf (Written.Length n) before = n
+unfoldable pub lengthAfter : Written → ℕ → ℕ
+lengthAfter (Written.Refused number) before = before
+lengthAfter (Written.Length n) before = n
 
 unfoldable pub numberBy : List ℕ → List ℕ → List ℕ → Told → ℕ
 numberBy source list out Nothing = 18
@@ -26,7 +26,7 @@ bytesBy source list out (Says d) = writeOut source list d out
 
 unfoldable pub lengthBy : List ℕ → List ℕ → List ℕ → ℕ → Told → ℕ
 lengthBy source list out before Nothing = before
-lengthBy source list out before (Says d) = lengthOf (writeAnswer source list d out) before
+lengthBy source list out before (Says d) = lengthAfter (writeAnswer source list d out) before
 
 unfoldable pub writeNumber : List ℕ → List ℕ → List ℕ → List ℕ → ℕ
 writeNumber source list fields out = numberBy source list out (toldBy fields (length list))

@@ -19,7 +19,7 @@ use Rattle.node.specs.declared.role.Spread.{Spread}
 use Rattle.node.specs.declared.role.Role.{Role}
 use Rattle.node.specs.Role.{spreadOf, roleOf, RoleIn}
 use Rattle.roundtrip.specs.Lower.{onward}
-use Rattle.node.specs.History.{Told, numberIn, toldBy, told}
+use Rattle.node.specs.History.{Told, numberIn, toldReading, told}
 use Rattle.node.proofs.Spreads.{role-spreading}
 
 -- what is told of it
@@ -28,8 +28,8 @@ spread-told message s =
     record { kind = pick (s .flood) 9 1; session = s .session; initiator = held message (s .initiator); count = s .objective .count }
 
 -- by the message that was read
-told-by : (message : List ℕ) (m : Message) (s : Spread) → roleOf m ≡ Role.Spreads s → toldBy message (Reading.Read m) ≡ spread-told message s
-unfolding roleOf toldBy numberIn countIn sessionOf initiatorOf objectiveOf pick
+told-by : (message : List ℕ) (m : Message) (s : Spread) → roleOf m ≡ Role.Spreads s → toldReading message (Reading.Read m) ≡ spread-told message s
+unfolding roleOf toldReading numberIn countIn sessionOf initiatorOf objectiveOf pick
 told-by message (M.Discovery session i o) s e = let same : spreadOf false session i o ≡ s = cc in rw (← same) refl
 told-by message (M.Flood session i ttl o series) s e = let same : spreadOf true session i o ≡ s = cc in rw (← same) refl
 told-by message M.Noop s e = absurd (let z : _≡_ {A = ℕ} 0 1 = cc in omega arith)
@@ -44,7 +44,7 @@ told-by message (M.Invalid session item) s e = absurd (let z : _≡_ {A = ℕ} 0
 
 pub told-spread : (message : List ℕ) (s : Spread) → RoleIn message (Role.Spreads s) → told message ≡ spread-told message s
 unfolding told
-told-spread message s r = ap (toldBy message) (r .read) ∙ told-by message (r .is) s (r .plays)
+told-spread message s r = ap (toldReading message) (r .read) ∙ told-by message (r .is) s (r .plays)
 
 -- the count that a relay lowers
 count-of : (m : Message) (o : Objective) → Lowers m o → countIn (objectiveOf m) ≡ o .count
@@ -54,7 +54,7 @@ count-of m o Lowers.flood = refl
 
 -- the message that goes out has it one lower
 pub onward-count : (message : List ℕ) (s : Spread) → Bytes message → RoleIn message (Role.Spreads s) → told (onward message (s .objective)) .count ≡ s .objective .count - 1
-unfolding told toldBy
+unfolding told toldReading
 onward-count message s b r =
     let (m′, read, relays) = lowered-reads message (r .is) (s .objective) b (r .read) (role-spreading message s r .lowers) in
-    ap (λ (x : Reading). toldBy (onward message (s .objective)) x .count) read ∙ count-of m′ (relays .objective) (relays .lowers) ∙ relays .lower
+    ap (λ (x : Reading). toldReading (onward message (s .objective)) x .count) read ∙ count-of m′ (relays .objective) (relays .lowers) ∙ relays .lower

@@ -28,7 +28,7 @@ use Rattle.node_state.specs.Table.{freshTable, rowLife, freed, lowestFree, isKn
 use Rattle.node.specs.Role.{keyIn}
 use Rattle.roundtrip.specs.Lower.{onward}
 use Rattle.node.specs.Call.{Call, After, relayed, nodeCall}
-use Rattle.node.specs.History.{Event, call, links, Step, steps, finally, Fits, isRelay, saysRelay, maskOf, lengthOf, Told, told, relaysOf, given, sent, clockOf, arrivedOn, interfacesIn, copies, copiesOf, SameKey, apartBy, Apart, GoesOut, Near, Few, WholeList}
+use Rattle.node.specs.History.{Event, call, links, Step, steps, finally, InBytes, isRelay, saysRelay, maskOf, lengthOf, Told, told, relaysOf, given, sent, clockOf, arrivedOn, interfacesIn, copies, copiesOf, SameKey, apartBy, Apart, GoesOut, Near, Few, WholeList}
 use Rattle.node.specs.Demand.{Demand3}
 use Rattle.node_state.proofs.Masks.{record-links, up-below, taken-down}
 use Rattle.node_state.proofs.Rows.{put-holds, length-free, table-sized}
@@ -167,7 +167,7 @@ listed r t c b P rest fits (stayed nb tb e) f g = rw e f
 listed r t c b P rest fits (ended p nb tb e) f g = rw e f
 listed r t c b P rest fits (went s k e) f g = rw (says-relay r t c s b e) (g s (record { bytes = fits; facts = k; is = e }))
 
-future : (x : Step) (s : Spread) → Known x s → (es : List Event) → Every Fits es → (r : Record) (t : List ℕ) → There x s (r .clock) t → Every (Behind x) (relaysOf (steps r t es))
+future : (x : Step) (s : Spread) → Known x s → (es : List Event) → Every InBytes es → (r : Record) (t : List ℕ) → There x s (r .clock) t → Every (Behind x) (relaysOf (steps r t es))
 unfolding steps relaysOf rowOf clockOf
 future x s k [] fits r t there = tt
 future x s k (call c ∷ es) fits r t there =
@@ -189,7 +189,7 @@ own-row r t c b s k =
     let e = k .is in
     rw e (inr (put-holds (freed (c .clock) t) (lowestFree (freed (c .clock) t)) (keyIn (c .message) s) (c .clock) (length-free (c .clock) t 64 ∙ table-sized (c .clock) t (k .facts .passes .table)) (k .facts .room)))
 
-pairs : (es : List Event) → Every Fits es → (r : Record) (t : List ℕ) → EachPair Behind (relaysOf (steps r t es))
+pairs : (es : List Event) → Every InBytes es → (r : Record) (t : List ℕ) → EachPair Behind (relaysOf (steps r t es))
 unfolding steps relaysOf
 pairs [] fits r t = tt
 pairs (call c ∷ es) fits r t =
@@ -274,7 +274,7 @@ module _ (x : Step) (s : Spread) (k : Known x s) where
             rw same (omega (arith, pigeonhole (x .node .interfaces) (x .call .interface ∷ interfacesIn 8 (outgoing x)) (others-differ, interfaces-distinct 8 (outgoing x)) (below, copies-below x s (k .facts) (k .is))));
       }
 
-sound : (n : ℕ) (es : List Event) → Every Fits es → (r : Record) (t : List ℕ) → r .interfaces ≡ n → Every (Sound n) (relaysOf (steps r t es))
+sound : (n : ℕ) (es : List Event) → Every InBytes es → (r : Record) (t : List ℕ) → r .interfaces ≡ n → Every (Sound n) (relaysOf (steps r t es))
 unfolding steps relaysOf
 sound n [] fits r t e = tt
 sound n (call c ∷ es) fits r t e =
@@ -345,7 +345,7 @@ fresh-tally address port ttl interfaces mask = pick-case (λ (k : Kept). k .node
 -- for readers
 
 -- Demand 3 for one list, from any table and a record that has tallied nothing.
-pub whole : (r : Record) (t : List ℕ) (events : List Event) → r .tally ≡ 0 → Every Fits events → WholeList r t events
+pub whole : (r : Record) (t : List ℕ) (events : List Event) → r .tally ≡ 0 → Every InBytes events → WholeList r t events
 whole r t events none fits =
     let p = pairs events fits r t in
     let h = sound (r .interfaces) events fits r t refl in

@@ -24,7 +24,7 @@ use Rattle.message.specs.declared.sequence.LocatorsRead.{LocatorsRead}
 use Rattle.message.specs.declared.sequence.PairsRead.{PairsRead}
 use Rattle.message.specs.Opening.{openingAt, OpeningOk, OpeningIs}
 use Rattle.message.proofs.Led.{never-led}
-use Rattle.message.specs.Sequence.{textLed, locatorNext, locatorsFrom, LocatorsOk, LocatorsAre, pairNext, pairsFrom}
+use Rattle.message.specs.Sequence.{textLed, locatorThen, locatorsFrom, LocatorsOk, LocatorsAre, pairThen, pairsFrom}
 
 opening-ok : (s : List ℕ) (at : ℕ) → OpeningOk (length s) (openingAt s at)
 unfolding openingAt
@@ -47,13 +47,13 @@ module _ (s : List ℕ) where
   locators-more n at size (LocatorsRead.Ran end left bad) six h = (omega arith, omega arith, h .2)
 
   pub locators-ran : (n at bad : ℕ) → at ≤ length s → LocatorsRan n at (locatorsFrom s n at bad)
-  unfolding locatorsFrom locatorNext
+  unfolding locatorsFrom locatorThen
   locators-ran zero at bad low = (omega arith, le-refl 0, low)
   locators-ran (suc n) at bad low =
       both (LocatorsRan (suc n) at) _ (omega arith, le-refl (suc n), low) (next (locators-ran n) (locatorAt s at) (locator-within s at at _ _ refl refl))
     where
       next : ((at′ bad′ : ℕ) → at′ ≤ length s → LocatorsRan n at′ (locatorsFrom s n at′ bad′)) → (x : LocatorRead) → LocatorOk (length s - at) x
-          → LocatorsRan (suc n) at (locatorNext (locatorsFrom s n) at bad x)
+          → LocatorsRan (suc n) at (locatorThen (locatorsFrom s n) at bad x)
       next go (LocatorRead.Bad place) h = tt
       next go (LocatorRead.Got l size b) h = locators-more n at size (locatorsFrom s n (at + size) (firstOf bad b)) (h .0) (go (at + size) (firstOf bad b) (omega arith))
 
@@ -66,12 +66,12 @@ module _ (s : List ℕ) where
   pairs-more n at size (PairsRead.Ran end bad long) six h = (omega arith, h .1)
 
   pub pairs-ran : (n at bad long : ℕ) → at ≤ length s → PairsRan n at (pairsFrom s n at bad long)
-  unfolding pairsFrom pairNext
+  unfolding pairsFrom pairThen
   pairs-ran zero at bad long low = (omega arith, low)
   pairs-ran (suc n) at bad long low = next (pairs-ran n) (pairAt s at) (pair-within s at at _ _ refl refl)
     where
       next : ((at′ bad′ long′ : ℕ) → at′ ≤ length s → PairsRan n at′ (pairsFrom s n at′ bad′ long′)) → (x : PairRead) → PairOk at (length s - at) x
-          → PairsRan (suc n) at (pairNext (pairsFrom s n) at bad long x)
+          → PairsRan (suc n) at (pairThen (pairsFrom s n) at bad long x)
       next go (PairRead.Bad place) h = tt
       next go (PairRead.Got o t size b l) h =
           pairs-more n at size (pairsFrom s n (at + size) (firstOf bad b) (firstOf long l)) (h .1) (go (at + size) (firstOf bad b) (firstOf long l) (omega arith))
@@ -103,19 +103,19 @@ module _ (s : List ℕ) (n from : ℕ) where
   located-stop (suc m) at bad b h e t i = rw (sym e ∙ t) at (i .same)
 
   next : (m at bad : ℕ) (b : Bool) (r x : LocatorRead) → b ≡ textLed s at → b ≡ false → r ≡ locatorAt s at → r ≡ x → Located s n from (suc m) at bad
-      → locatorNext (locatorsFrom s m) at bad x ≡ locatorsFrom s n from 0
+      → locatorThen (locatorsFrom s m) at bad x ≡ locatorsFrom s n from 0
   unfolding locatorsFrom pick
   next m at bad b r x e f g q i = rw (sym e ∙ f, sym g ∙ q) at (i .same)
 
   pub located-bad : (left at bad place : ℕ) (b : Bool) (r : LocatorRead) → 0 < left → b ≡ textLed s at → b ≡ false → r ≡ locatorAt s at → r ≡ LocatorRead.Bad place
       → Located s n from left at bad → LocatorsRead.Bad place ≡ locatorsFrom s n from 0
-  unfolding locatorNext
+  unfolding locatorThen
   located-bad zero at bad place b r h e f g q i = absurd (omega arith)
   located-bad (suc m) at bad place b r h e f g q i = next m at bad b r (LocatorRead.Bad place) e f g q i
 
   pub located-next : (left at bad : ℕ) (l : Locator) (size bad′ new : ℕ) (r : LocatorRead) → 0 < left → r ≡ locatorAt s at → r ≡ LocatorRead.Got l size bad′
       → new ≡ firstOf bad bad′ → Located s n from left at bad → Located s n from (left - 1) (at + size) new
-  unfolding locatorNext
+  unfolding locatorThen
   located-next zero at bad l size bad′ new r h g q k i = absurd (omega arith)
   located-next (suc m) at bad l size bad′ new r h g q k i =
       let apart = sym (never-led s at l size bad′ (sym g ∙ q)) in
@@ -135,20 +135,20 @@ module _ (s : List ℕ) (n from bad₀ long₀ : ℕ) where
   paired-end left at bad long e i = rw e at (i .same)
 
   after : (m at bad long : ℕ) (r x : PairRead) → r ≡ pairAt s at → r ≡ x → Paired s n from bad₀ long₀ (suc m) at bad long
-      → pairNext (pairsFrom s m) at bad long x ≡ pairsFrom s n from bad₀ long₀
+      → pairThen (pairsFrom s m) at bad long x ≡ pairsFrom s n from bad₀ long₀
   unfolding pairsFrom
   after m at bad long r x g q i = rw (sym g ∙ q) at (i .same)
 
   pub paired-bad : (left at bad long place : ℕ) (r : PairRead) → 0 < left → r ≡ pairAt s at → r ≡ PairRead.Bad place
       → Paired s n from bad₀ long₀ left at bad long → PairsRead.Bad place ≡ pairsFrom s n from bad₀ long₀
-  unfolding pairNext
+  unfolding pairThen
   paired-bad zero at bad long place r h g q i = absurd (omega arith)
   paired-bad (suc m) at bad long place r h g q i = after m at bad long r (PairRead.Bad place) g q i
 
   pub paired-next : (left at bad long : ℕ) (o : Objective) (t : Tag) (size bad′ long′ new newer : ℕ) (r : PairRead) → 0 < left
       → r ≡ pairAt s at → r ≡ PairRead.Got o t size bad′ long′ → new ≡ firstOf bad bad′ → newer ≡ firstOf long long′
       → Paired s n from bad₀ long₀ left at bad long → Paired s n from bad₀ long₀ (left - 1) (at + size) new newer
-  unfolding pairNext
+  unfolding pairThen
   paired-next zero at bad long o t size bad′ long′ new newer r h g q k l i = absurd (omega arith)
   paired-next (suc m) at bad long o t size bad′ long′ new newer r h g q k l i =
       record {

@@ -40,7 +40,7 @@ use Rattle.message.specs.Shape.{noopAt, discovered, discoveryAt, exchang
 use Rattle.message.specs.Response.{restOf, restAt, divertOf, divertAt, locatedOf, locatedAt, targetsAt, responseBy, responseAt}
 use Rattle.message.specs.Flood.{floodedBy, floodedOf, floodedAt, floodBy, floodAt}
 use Rattle.message.proofs.Fits.{LocatorsRan, locators-ran, PairsRan, pairs-ran}
-use Rattle.message.specs.Read.{mostBytes, byKind, judged, shaped, framed, examined, placeless, readOf}
+use Rattle.message.specs.Read.{mostBytes, byKind, judgedShape, shaped, framed, examined, placeless, readOf}
 
 -- a session of 32 bits, an initiator of 4 or 16 bytes in the message, and an objective in it
 pub record SpreadParts (s : List ℕ) (number : ℕ) (i : Span) (o : Objective) : Type 0 where
@@ -224,8 +224,8 @@ module _ (s : List ℕ) where
   ExaminedParts (Examined.Refused number place) = Unit {0}
   ExaminedParts (Examined.Accepted m end) = MessageParts s m
 
-  judged-parts : (x : Shape) → ShapeParts x → ExaminedParts (judged x)
-  unfolding judged
+  judged-parts : (x : Shape) → ShapeParts x → ExaminedParts (judgedShape x)
+  unfolding judgedShape
   judged-parts (Shape.Bad place) h = tt
   judged-parts (Shape.Good m end bad long) h = both ExaminedParts _ (both ExaminedParts _ h tt) tt
 

@@ -33,9 +33,9 @@ byKind s kind n at =
     (exchangeAt s kind n at)))))))
 
 -- 9, then 11, then 10
-unfoldable pub judged : Shape → Examined
-judged (Shape.Bad place) = Refused 9 place
-judged (Shape.Good m end bad long) = unless (eqb bad 0) (Refused 11 bad) (unless (eqb long 0) (Refused 10 long) (Accepted m end))
+unfoldable pub judgedShape : Shape → Examined
+judgedShape (Shape.Bad place) = Refused 9 place
+judgedShape (Shape.Good m end bad long) = unless (eqb bad 0) (Refused 11 bad) (unless (eqb long 0) (Refused 10 long) (Accepted m end))
 
 -- by the message's parts alone: 9 for what is no array or has no number first, 8 for an unknown kind, then by the kind
 unfoldable pub shaped : List ℕ → Examined
@@ -44,8 +44,8 @@ shaped s =
     let k = tokenAt s (a .next) in
     pick (eqb (itemsIn a) 0) (Refused 9 0)
     (unless (eqb (k .major) 0) (Refused 9 (k .at))
-    (pick (ltb 9 (k .arg)) (unless (eqb (k .arg) 99) (Refused 8 (k .at)) (judged (byKind s (k .arg) (a .arg) (k .next))))
-    (judged (byKind s (k .arg) (a .arg) (k .next)))))
+    (pick (ltb 9 (k .arg)) (unless (eqb (k .arg) 99) (Refused 8 (k .at)) (judgedShape (byKind s (k .arg) (a .arg) (k .next))))
+    (judgedShape (byKind s (k .arg) (a .arg) (k .next)))))
 
 -- by the walk: 2 to 6, and 7 where bytes follow the item; else by the parts
 unfoldable pub framed : List ℕ → ItemRead → Examined

@@ -23,15 +23,15 @@ textLed s at =
     pick (eqb (itemsIn o) 0) false (eqb (x .major) 3)
 
 -- what follows a locator that was read
-unfoldable pub locatorNext : (ℕ → ℕ → LocatorsRead) → ℕ → ℕ → LocatorRead → LocatorsRead
-locatorNext go at bad (LocatorRead.Bad place) = LocatorsRead.Bad place
-locatorNext go at bad (LocatorRead.Got l size bad′) = go (at + size) (firstOf bad bad′)
+unfoldable pub locatorThen : (ℕ → ℕ → LocatorsRead) → ℕ → ℕ → LocatorRead → LocatorsRead
+locatorThen go at bad (LocatorRead.Bad place) = LocatorsRead.Bad place
+locatorThen go at bad (LocatorRead.Got l size bad′) = go (at + size) (firstOf bad bad′)
 
 -- locators, n at most, up to an array that a text leads
 unfoldable pub locatorsFrom : List ℕ → ℕ → ℕ → ℕ → LocatorsRead
 locatorsFrom s zero at bad = LocatorsRead.Ran at 0 bad
 locatorsFrom s (suc n) at bad =
-    let rest = locatorNext (locatorsFrom s n) at bad (locatorAt s at) in
+    let rest = locatorThen (locatorsFrom s n) at bad (locatorAt s at) in
     pick (textLed s at) (LocatorsRead.Ran at (suc n) bad) rest
 
 -- where the locators end lies within the message, and no more items are left than there were
@@ -44,11 +44,11 @@ pub record LocatorsAre (s : List ℕ) (n from : ℕ) (r : LocatorsRead) : Type 0
   pub within : LocatorsOk (length s) n r
 
 -- what follows a pair that was read
-unfoldable pub pairNext : (ℕ → ℕ → ℕ → PairsRead) → ℕ → ℕ → ℕ → PairRead → PairsRead
-pairNext go at bad long (PairRead.Bad place) = PairsRead.Bad place
-pairNext go at bad long (PairRead.Got o t size bad′ long′) = go (at + size) (firstOf bad bad′) (firstOf long long′)
+unfoldable pub pairThen : (ℕ → ℕ → ℕ → PairsRead) → ℕ → ℕ → ℕ → PairRead → PairsRead
+pairThen go at bad long (PairRead.Bad place) = PairsRead.Bad place
+pairThen go at bad long (PairRead.Got o t size bad′ long′) = go (at + size) (firstOf bad bad′) (firstOf long long′)
 
 -- n pairs
 unfoldable pub pairsFrom : List ℕ → ℕ → ℕ → ℕ → ℕ → PairsRead
 pairsFrom s zero at bad long = PairsRead.Ran at bad long
-pairsFrom s (suc n) at bad long = pairNext (pairsFrom s n) at bad long (pairAt s at)
+pairsFrom s (suc n) at bad long = pairThen (pairsFrom s n) at bad long (pairAt s at)

@@ -1,6 +1,6 @@
 // GRASP messages (RFC 8990): the eleven kinds and their shapes. What a message holds is told by numbers and by places in its bytes.
 ghost use mathlib.Core.Path.{_≡_};
-ghost use Rattle.message.specs.Read.{judged, shaped};
+ghost use Rattle.message.specs.Read.{judgedShape, shaped};
 use cbor::token;
 use options::Outcome;
 use options::Span;
@@ -130,7 +130,7 @@ pub fn examine(s: &[u8]) -> Examined
 
 // 9, then 11, then 10.
 fn judge(shape: Shape) -> Examined
-    ensures { λ r. ⌜ r ≡ judged shape ⌝ }
+    ensures { λ r. ⌜ r ≡ judgedShape shape ⌝ }
 {
     match shape {
         Shape::Bad(place) => {

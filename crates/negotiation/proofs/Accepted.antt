@@ -15,7 +15,7 @@ use Rattle.negotiation.specs.declared.State.{State}
 use Rattle.negotiation.specs.declared.State.the-variants.{Closed}
 use Rattle.negotiation.specs.declared.Stepped.{Stepped}
 use Rattle.negotiation.specs.declared.Stepped.the-variants.{Refused, Moved}
-use Rattle.negotiation.specs.Step.{moveOf, stateStep, stepFrom, step}
+use Rattle.negotiation.specs.Step.{moveOf, stateStep, readingStep, step}
 use Rattle.negotiation.specs.Allowed.{Allowed, Opened}
 use Rattle.negotiation.specs.Turns.{Sent, after, answered}
 use Rattle.negotiation.proofs.Ways.{Judged, state-judged, allowed-moves}
@@ -28,13 +28,13 @@ refused-or-moved e f = let z : _≡_ {A = ℕ} 0 1 = cc in omega arith
 module _ (state : State) (message : List ℕ) (sender : Side) where
   -- the step on a message that was read
   read-step : {m : Message} → readOf message ≡ Reading.Read m → step state message sender ≡ stateStep state (moveOf m) sender
-  unfolding step stepFrom
-  read-step e = ap (λ (r : Reading). stepFrom state r sender) e
+  unfolding step readingStep
+  read-step e = ap (λ (r : Reading). readingStep state r sender) e
 
   -- the step on one that was refused
   unread-step : {number : ℕ} → readOf message ≡ Reading.Refused number → step state message sender ≡ Refused number
-  unfolding step stepFrom
-  unread-step e = ap (λ (r : Reading). stepFrom state r sender) e
+  unfolding step readingStep
+  unread-step e = ap (λ (r : Reading). readingStep state r sender) e
 
   -- an answer's reasons
   judged : {m : Message} {x : Stepped} → readOf message ≡ Reading.Read m → step state message sender ≡ x → Judged sender m state x

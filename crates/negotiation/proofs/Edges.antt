@@ -5,21 +5,21 @@ use mathlib.Core.List.{List, [], _∷_}
 use Prim.Native.Nat.{ℕ}
 use Rattle.base.specs.Pick.{pick}
 use Rattle.base.specs.BigEndian.{bigEndian}
-use Rattle.cbor.specs.Head.{widthOf, leastOf, initialOf, argOf, judged as headJudged, headFrom, headBy, headOf, headAt}
-use Rattle.cbor.specs.Item.{opens, stepOf, stepFrom as itemFrom, stepAt, itemsOf, next, run, enough, firstItem}
+use Rattle.cbor.specs.Head.{widthOf, leastOf, initialOf, argOf, judged, headFrom, headBy, headOf, headAt}
+use Rattle.cbor.specs.Item.{opens, stepOf, stepFrom, stepAt, itemsOf, next, run, enough, firstItem}
 use Rattle.cbor.specs.Token.{nothingAt, tokenOf, tokenFrom, tokenAt, itemsIn, upTo}
 use Rattle.utf8.specs.Utf8.{tailsOf, leastTail, greatestTail, goesOn, isUtf8}
 use Rattle.options.specs.Text.{badText}
-use Rattle.options.specs.Objective.{longName, objectiveOf, objectiveIn, objectiveNamed}
+use Rattle.options.specs.Objective.{longName, objectiveFrom, objectiveIn, objectiveNamed}
 use Rattle.message.specs.Shape.{exchangeOf, exchanged, exchangeAt, waitAt, optionAt, endAt}
-use Rattle.message.specs.Read.{byKind, judged, shaped, framed, examined, placeless, readOf}
+use Rattle.message.specs.Read.{byKind, judgedShape, shaped, framed, examined, placeless, readOf}
 use Rattle.negotiation.specs.declared.Side.the-variants.{Us, Them}
 use Rattle.negotiation.specs.declared.State.the-variants.{Fresh, Open, Closed}
 use Rattle.negotiation.specs.declared.Stepped.{Stepped}
 use Rattle.negotiation.specs.declared.Stepped.the-variants.{Refused, Moved}
 use Rattle.negotiation.specs.declared.Side.{Side}
-use Rattle.negotiation.specs.Step.{moveOf, freshStep, lowerStep, turnStep, stateStep, stepFrom, step}
-use Rattle.negotiation.specs.Turns.{Sent, Answered, after, answered, isKind, tookNegotiate, negotiated}
+use Rattle.negotiation.specs.Step.{moveOf, freshStep, lowerStep, turnStep, stateStep, readingStep, step}
+use Rattle.negotiation.specs.Turns.{Sent, StepTaken, after, answered, isKind, tookNegotiate, negotiated}
 
 -- session 7: kind 3 or 5 with the objective "EX1", flags 1 and a count; an End with accept; a Wait of 1,000 ms
 abbrev pub exchange : ℕ → ℕ → List ℕ
@@ -41,7 +41,7 @@ messages =
     ∷ from Them (exchange 5 1) ∷ from Us (exchange 3 3) ∷ from Us (exchange 5 1) ∷ from Them waiting ∷ from Them (exchange 5 0) ∷ from Us ending ∷ from Them ending
     ∷ from Us (exchange 3 3) ∷ from Us [] ∷ []
 
-abbrev pub answersOf : List Answered → List Stepped
+abbrev pub answersOf : List StepTaken → List Stepped
 answersOf [] = []
 answersOf (x ∷ xs) = x .answer ∷ answersOf xs
 
@@ -55,5 +55,5 @@ pub session :
     ∷ Refused 20 ∷ Refused 1 ∷ [])
     × (negotiated (answered Fresh messages) ≡ 2)
     × (step (Open 7 0 Us) ending Us ≡ Refused 20)
-unfolding pick bigEndian widthOf leastOf initialOf argOf headJudged headFrom headBy headOf headAt opens stepOf itemFrom stepAt itemsOf next run enough firstItem nothingAt tokenOf tokenFrom tokenAt itemsIn upTo tailsOf leastTail greatestTail goesOn isUtf8 badText longName objectiveOf objectiveIn objectiveNamed exchangeOf exchanged exchangeAt waitAt optionAt endAt byKind judged shaped framed examined placeless readOf moveOf freshStep lowerStep turnStep stateStep stepFrom step after answered isKind tookNegotiate negotiated
+unfolding pick bigEndian widthOf leastOf initialOf argOf judged headFrom headBy headOf headAt opens stepOf stepFrom stepAt itemsOf next run enough firstItem nothingAt tokenOf tokenFrom tokenAt itemsIn upTo tailsOf leastTail greatestTail goesOn isUtf8 badText longName objectiveFrom objectiveIn objectiveNamed exchangeOf exchanged exchangeAt waitAt optionAt endAt byKind judgedShape shaped framed examined placeless readOf moveOf freshStep lowerStep turnStep stateStep readingStep step after answered isKind tookNegotiate negotiated
 session = (refl, refl, refl)

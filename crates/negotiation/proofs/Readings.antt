@@ -17,7 +17,7 @@ use Rattle.options.specs.declared.Span.{Span}
 use Rattle.options.specs.declared.objective.Objective.{Objective}
 use Rattle.options.specs.declared.objective.ObjectiveRead.{ObjectiveRead}
 use Rattle.options.specs.declared.pair.PairRead.{PairRead}
-use Rattle.options.specs.Objective.{objectiveOf, objectiveIn, objectiveNamed, objectiveAt}
+use Rattle.options.specs.Objective.{objectiveFrom, objectiveIn, objectiveNamed, objectiveAt}
 use Rattle.options.specs.Pair.{pairAt}
 use Rattle.message.specs.declared.Message.{Message}
 use Rattle.message.specs.declared.Series.{Series}
@@ -34,11 +34,11 @@ use Rattle.message.specs.Sequence.{locatorsFrom, pairsFrom}
 use Rattle.message.specs.Shape.{noopAt, discovered, discoveryAt, exchangeOf, exchanged, exchangeAt, waitAt, invalidAt, optionAt, endAt}
 use Rattle.message.specs.Response.{restOf, restAt, divertOf, divertAt, locatedOf, locatedAt, targetsAt, responseBy, responseAt}
 use Rattle.message.specs.Flood.{floodedBy, floodedOf, floodedAt, floodBy, floodAt}
-use Rattle.message.specs.Read.{byKind, judged, shaped, framed, examined, placeless, readOf}
+use Rattle.message.specs.Read.{byKind, judgedShape, shaped, framed, examined, placeless, readOf}
 use Rattle.negotiation.specs.declared.Move.{Move}
 use Rattle.negotiation.specs.declared.Move.the-variants.{Request, Negotiate, Wait, End, Other}
 use Rattle.negotiation.specs.Step.{moveOf}
-use Rattle.negotiation.specs.Allowed.{Names, Counts}
+use Rattle.negotiation.specs.Allowed.{Names, HasCount}
 use Rattle.negotiation.proofs.Ways.{request-move}
 
 -- ---- a Request's count
@@ -54,7 +54,7 @@ SmallObjective (ObjectiveRead.Bad place) = Unit {0}
 SmallObjective (ObjectiveRead.Got o size bad long) = o .count ≤ 255
 
 objective-small : (levels base : ℕ) (s : List ℕ) → SmallObjective (objectiveIn levels base s)
-unfolding objectiveIn objectiveNamed objectiveOf
+unfolding objectiveIn objectiveNamed objectiveFrom
 objective-small levels base s =
     both Ok _ tt (both Ok _ (both Ok _ tt (both Ok _ tt (both Ok _ tt
     (pick-case Ok (ltb 255 (upTo 255 _)) (λ _. tt) (λ e. both Ok _ (ltb-false 255 (upTo 255 _) e) (both Ok _ tt (ltb-false 255 (upTo 255 _) e))))))) tt)
@@ -164,8 +164,8 @@ abbrev Sound : Examined → Type 0
 Sound (Examined.Refused number place) = number ≤ 11
 Sound (Examined.Accepted m end) = SmallMove (moveOf m)
 
-judged-sound : (x : Shape) → Small x → Sound (judged x)
-unfolding judged
+judged-sound : (x : Shape) → Small x → Sound (judgedShape x)
+unfolding judgedShape
 judged-sound (Shape.Bad place) h = lit≤ tt
 judged-sound (Shape.Good m end bad long) h = both Sound _ (both Sound _ h (lit≤ tt)) (lit≤ tt)
 
@@ -173,7 +173,7 @@ framed-sound : (s : List ℕ) (x : ItemRead) → firstItem 0 s ≡ x → Sound (
 unfolding framed shaped
 framed-sound s (ItemRead.Refused number place) e = omega (arith, refused-numbers 0 s number place e .1)
 framed-sound s (ItemRead.Ends end) e =
-    let by-kind : (kind n at : ℕ) → Sound (judged (byKind s kind n at)) = (λ kind n at. judged-sound (byKind s kind n at) (kind-small s kind n at)) in
+    let by-kind : (kind n at : ℕ) → Sound (judgedShape (byKind s kind n at)) = (λ kind n at. judged-sound (byKind s kind n at) (kind-small s kind n at)) in
     both Sound _ (both Sound _ (lit≤ tt) (both Sound _ (both Sound _ (both Sound _ (by-kind _ _ _) (lit≤ tt)) (by-kind _ _ _)) (lit≤ tt))) (lit≤ tt)
 
 abbrev SoundReading : Reading → Type 0
@@ -193,5 +193,5 @@ pub reading-number : (s : List ℕ) {number : ℕ} → readOf s ≡ Reading.Refu
 reading-number s e = subst SoundReading e (read-sound s)
 
 -- No Request is read with a count over 255.
-pub request-count : (s : List ℕ) {m : Message} {session count : ℕ} → readOf s ≡ Reading.Read m → Names m 3 session → Counts m count → count ≤ 255
+pub request-count : (s : List ℕ) {m : Message} {session count : ℕ} → readOf s ≡ Reading.Read m → Names m 3 session → HasCount m count → count ≤ 255
 request-count s e n c = subst SmallMove (request-move n c) (subst SoundReading e (read-sound s))

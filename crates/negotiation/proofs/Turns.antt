@@ -20,8 +20,8 @@ use Rattle.negotiation.specs.declared.State.the-variants.{Fresh, Open, C
 use Rattle.negotiation.specs.declared.Stepped.{Stepped}
 use Rattle.negotiation.specs.declared.Stepped.the-variants.{Refused, Moved}
 use Rattle.negotiation.specs.Step.{step}
-use Rattle.negotiation.specs.Allowed.{Counts, Allowed}
-use Rattle.negotiation.specs.Turns.{Sent, Answered, after, answered, isKind, tookNegotiate, negotiated, Opens, BoundedIn, Bounded}
+use Rattle.negotiation.specs.Allowed.{HasCount, Allowed}
+use Rattle.negotiation.specs.Turns.{Sent, StepTaken, after, answered, isKind, tookNegotiate, negotiated, Opens, BoundedIn, Bounded}
 use Rattle.negotiation.proofs.Accepted.{moved-exactly}
 
 -- how many Negotiates a state that isn't fresh may still accept
@@ -44,12 +44,12 @@ message-once : {r : Reading} {m m′ : Message} → r ≡ Reading.Read m → r �
 unfolding messageIn
 message-once e f = ap messageIn (sym e ∙ f)
 
-count-once : {m m′ : Message} {count count′ : ℕ} → m ≡ m′ → Counts m count → Counts m′ count′ → count ≡ count′
+count-once : {m m′ : Message} {count count′ : ℕ} → m ≡ m′ → HasCount m count → HasCount m′ count′ → count ≡ count′
 unfolding countIn
 count-once e c c′ = sym (c .is) ∙ ap countIn (sym (c .has) ∙ ap objectiveOf e ∙ c′ .has) ∙ c′ .is
 
 -- ---- one step
-abbrev stepOf : List ℕ → Stepped → Answered
+abbrev stepOf : List ℕ → Stepped → StepTaken
 stepOf bytes answer = record { bytes = bytes; answer = answer }
 
 -- a refused step opens nothing

@@ -17,15 +17,15 @@ pub record Names (m : Message) (kind session : ℕ) : Type 0 where
   pub ofSession : sessionOf m ≡ Session.Number session
 
 -- a message with this count in its objective
-pub record Counts (m : Message) (count : ℕ) : Type 0 where
+pub record HasCount (m : Message) (count : ℕ) : Type 0 where
   pub objective : Objective
   pub has : objectiveOf m ≡ Extra.With objective
   pub is : objective .count ≡ count
 
 -- from which state to which state a message of this sender leads
 pub data Allowed (sender : Side) (m : Message) : State → State → Type 0 where
-  request : {session count : ℕ} → Names m 3 session → Counts m count → 1 ≤ count → Allowed sender m Fresh (Open session count (otherSide sender))
-  negotiate : {session count lower : ℕ} → Names m 5 session → Counts m lower → 1 ≤ lower → lower + 1 ≡ count
+  request : {session count : ℕ} → Names m 3 session → HasCount m count → 1 ≤ count → Allowed sender m Fresh (Open session count (otherSide sender))
+  negotiate : {session count lower : ℕ} → Names m 5 session → HasCount m lower → 1 ≤ lower → lower + 1 ≡ count
       → Allowed sender m (Open session count sender) (Open session lower (otherSide sender))
   wait : {session count : ℕ} → Names m 7 session → 1 ≤ count → Allowed sender m (Open session count sender) (Open session count sender)
   end : {session count : ℕ} → Names m 6 session → 1 ≤ count → Allowed sender m (Open session count sender) Closed
@@ -35,7 +35,7 @@ pub record Opened (sender : Side) (m : Message) (state next : State) : Type 0 wh
   pub session : ℕ
   pub count : ℕ
   pub names : Names m 3 session
-  pub counts : Counts m count
+  pub counts : HasCount m count
   pub least : 1 ≤ count
   pub most : count ≤ 255
   pub before : state ≡ Fresh

@@ -74,10 +74,10 @@ stateStep (Open session count turn) move sender =
 stateStep Closed move sender = Refused 20
 
 -- the number of a refused reading, else what the message that was read does to the state
-unfoldable pub stepFrom : State → Reading → Side → Stepped
-stepFrom state (Reading.Refused number) sender = Refused number
-stepFrom state (Reading.Read m) sender = stateStep state (moveOf m) sender
+unfoldable pub readingStep : State → Reading → Side → Stepped
+readingStep state (Reading.Refused number) sender = Refused number
+readingStep state (Reading.Read m) sender = stateStep state (moveOf m) sender
 
 -- the answer to a message's bytes from this sender
 unfoldable pub step : State → List ℕ → Side → Stepped
-step state message sender = stepFrom state (readOf message) sender
+step state message sender = readingStep state (readOf message) sender

@@ -16,7 +16,7 @@ use Rattle.negotiation.specs.declared.State.the-variants.{Fresh}
 use Rattle.negotiation.specs.declared.Stepped.{Stepped}
 use Rattle.negotiation.specs.declared.Stepped.the-variants.{Refused, Moved}
 use Rattle.negotiation.specs.Step.{step}
-use Rattle.negotiation.specs.Allowed.{Counts}
+use Rattle.negotiation.specs.Allowed.{HasCount}
 
 -- the bytes of a message and the side that sent it
 pub record Sent : Type 0 where
@@ -24,7 +24,7 @@ pub record Sent : Type 0 where
   pub bytes : List ℕ
 
 -- a step of a list: the bytes that it was given, and what it answered
-pub record Answered : Type 0 where
+pub record StepTaken : Type 0 where
   pub bytes : List ℕ
   pub answer : Stepped
 
@@ -34,7 +34,7 @@ after state (Refused number) = state
 after state (Moved next) = next
 
 -- the steps of a list, each given the state that the step before it returned or left
-unfoldable pub answered : State → List Sent → List Answered
+unfoldable pub answered : State → List Sent → List StepTaken
 answered state [] = []
 answered state (m ∷ ms) =
     let answer = step state (m .bytes) (m .sender) in
@@ -51,21 +51,21 @@ tookNegotiate bytes (Refused number) = false
 tookNegotiate bytes (Moved next) = isKind 5 (readOf bytes)
 
 -- how many Negotiates are accepted
-unfoldable pub negotiated : List Answered → ℕ
+unfoldable pub negotiated : List StepTaken → ℕ
 negotiated [] = 0
 negotiated (x ∷ xs) = pick (tookNegotiate (x .bytes) (x .answer)) (suc (negotiated xs)) (negotiated xs)
 
 -- a step opened the state at a count: a Request (kind 3) with that count was accepted
-pub record Opens (x : Answered) (count : ℕ) : Type 0 where
+pub record Opens (x : StepTaken) (count : ℕ) : Type 0 where
   pub m : Message
   pub read : readOf (x .bytes) ≡ Reading.Read m
   pub request : kindOf m ≡ 3
-  pub counts : Counts m count
+  pub counts : HasCount m count
   pub next : State
   pub accepted : x .answer ≡ Moved next
 
 -- where a step opened the state at count c, at most c - 1 Negotiates are accepted; where none did, none is accepted
-pub record BoundedIn (steps : List Answered) : Type 0 where
+pub record BoundedIn (steps : List StepTaken) : Type 0 where
   pub opened : Every (λ x. (c : ℕ) → Opens x c → negotiated steps + 1 ≤ c) steps
   pub unopened : Every (λ x. (c : ℕ) → Opens x c → ⊥) steps → negotiated steps ≡ 0
 

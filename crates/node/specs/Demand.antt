@@ -5,10 +5,10 @@ use Rattle.base.specs.Lists.{Every}
 use Rattle.negotiation.specs.Turns.{Sent, Bounded}
 use Rattle.node_state.specs.Record.{fresh}
 use Rattle.node_state.specs.Table.{freshTable}
-use Rattle.node.specs.History.{Event, Fits, WholeList}
+use Rattle.node.specs.History.{Event, InBytes, WholeList}
 
 pub record Demand3 : Type 0 where
   -- also where the fresh record was refused: it is all zeros then, and every call is refused
   pub node : (address : List ℕ) (port ttl interfaces mask : ℕ) (events : List Event)
-      → Every Fits events → WholeList (fresh address port ttl interfaces mask .node) freshTable events
+      → Every InBytes events → WholeList (fresh address port ttl interfaces mask .node) freshTable events
   pub negotiation : (messages : List Sent) → Bounded messages

@@ -50,9 +50,9 @@ finally r t (call c ∷ es) = finally (nodeCall r t c .called .node) (nodeCall r
 finally r t (links mask ∷ es) = finally (setLinks r mask .node) t es
 
 -- a call's message is made of bytes, as every `&[u8]` is
-abbrev pub Fits : Event → Type 0
-Fits (call c) = Bytes (c .message)
-Fits (links mask) = Unit {0}
+abbrev pub InBytes : Event → Type 0
+InBytes (call c) = Bytes (c .message)
+InBytes (links mask) = Unit {0}
 
 -- ---- what an answer says
 
@@ -92,13 +92,13 @@ unfoldable pub numberIn : Session → ℕ
 numberIn Session.Without = 0
 numberIn (Session.Number n) = n
 
-unfoldable pub toldBy : List ℕ → Reading → Told
-toldBy s (Reading.Refused number) = record { kind = 0; session = 0; initiator = []; count = 0 }
-toldBy s (Reading.Read m) =
+unfoldable pub toldReading : List ℕ → Reading → Told
+toldReading s (Reading.Refused number) = record { kind = 0; session = 0; initiator = []; count = 0 }
+toldReading s (Reading.Read m) =
     record { kind = kindOf m; session = numberIn (sessionOf m); initiator = held s (initiatorOf m); count = countIn (objectiveOf m) }
 
 unfoldable pub told : List ℕ → Told
-told s = toldBy s (readOf s)
+told s = toldReading s (readOf s)
 
 -- ---- the relays
 

@@ -20,7 +20,7 @@ use Rattle.options.specs.declared.objective.Objective.{Objective}
 use Rattle.options.specs.declared.objective.ObjectiveRead.{ObjectiveRead}
 use Rattle.options.specs.declared.pair.PairRead.{PairRead}
 use Rattle.options.specs.Locator.{isNull, addressFits, noProtocol, nullPort, protocolOf, portOf, locatorIn, locatorReached}
-use Rattle.options.specs.Objective.{objectiveOf, objectiveIn, objectiveNamed}
+use Rattle.options.specs.Objective.{objectiveFrom, objectiveIn, objectiveNamed}
 use Rattle.options.specs.Pair.{isEmpty, pairLevels, pairTagged, pairTail, pairLed, pairIn}
 
 -- ---- locators
@@ -120,7 +120,7 @@ ObjectiveOk base room (ObjectiveRead.Got o size bad long) = ObjectiveParts (base
 
 -- it has four bytes at least: one for its own head, its name, its flags and its count
 pub objective-ok : (levels base : ℕ) (s : List ℕ) → ObjectiveOk base (length s) (objectiveIn levels base s)
-unfolding objectiveIn objectiveNamed objectiveOf
+unfolding objectiveIn objectiveNamed objectiveFrom
 objective-ok levels base s =
     pick-case P (eqb (itemsIn a) 0) (λ _. tt)
     (λ t₁. pick-case P (eqb (n .major) 3)
@@ -148,7 +148,7 @@ objective-ok levels base s =
     P : ObjectiveRead → Type 0
     P = ObjectiveOk base (length s)
 
-    got : a .major ≡ 4 → n .major ≡ 3 → upTo 15 f ≤ 15 → upTo 255 c ≤ 255 → (len : ℕ) → ObjectiveParts (base + length s) (objectiveOf base n (upTo 15 f) c (upTo 255 c) len) × (4 ≤ c .next) × (c .next ≤ length s)
+    got : a .major ≡ 4 → n .major ≡ 3 → upTo 15 f ≤ 15 → upTo 255 c ≤ 255 → (len : ℕ) → ObjectiveParts (base + length s) (objectiveFrom base n (upTo 15 f) c (upTo 255 c) len) × (4 ≤ c .next) × (c .next ≤ length s)
     got array is-text few byte len =
         let (flags, _) = is-number 15 f few in
         let (number, same) = is-number 255 c byte in

@@ -20,8 +20,8 @@ unfoldable pub longName : Token → ℕ → ℕ
 longName w place = pick (ltb mostName (w .arg)) place 0
 
 -- the objective whose name and count these tokens head, with a value of so many bytes after the count
-unfoldable pub objectiveOf : ℕ → Token → ℕ → Token → ℕ → ℕ → Objective
-objectiveOf base n flags c count len =
+unfoldable pub objectiveFrom : ℕ → Token → ℕ → Token → ℕ → ℕ → Objective
+objectiveFrom base n flags c count len =
     record {
       name = spanOf (base + n .body) (n .next - n .body);
       flags = flags;
@@ -41,9 +41,9 @@ objectiveNamed levels base s items n =
     let long = longName n (base + n .at) in
     pick (ltb 15 (upTo 15 f)) (OR.Bad (base + f .at))
     (pick (ltb 255 (upTo 255 c)) (OR.Bad (base + c .at))
-    (pick (eqb items 3) (OR.Got (objectiveOf base n (upTo 15 f) c (upTo 255 c) 0) (c .next) bad long)
+    (pick (eqb items 3) (OR.Got (objectiveFrom base n (upTo 15 f) c (upTo 255 c) 0) (c .next) bad long)
     (pick (eqb len 0) (OR.Bad (base + c .next))
-    (OR.Got (objectiveOf base n (upTo 15 f) c (upTo 255 c) len) (c .next + len) bad long))))
+    (OR.Got (objectiveFrom base n (upTo 15 f) c (upTo 255 c) len) (c .next + len) bad long))))
 
 -- an objective: an array of three or four items, the first a name
 unfoldable pub objectiveIn : ℕ → ℕ → List ℕ → ObjectiveRead

@@ -2,7 +2,7 @@
 ghost use mathlib.Core.Path.{_≡_};
 ghost use Prim.Native.Nat.{_+_, _≤_, _<_, _^_};
 ghost use lib.ListN.{length};
-ghost use Rattle.options.specs.Objective.{longName, objectiveOf, objectiveNamed, objectiveIn, objectiveAt};
+ghost use Rattle.options.specs.Objective.{longName, objectiveFrom, objectiveNamed, objectiveIn, objectiveAt};
 use crate::Span;
 use cbor::token;
 use cbor::token::Token;
@@ -108,7 +108,7 @@ fn read_named(levels: usize, s: &[u8], base: usize, items: u64, n: Token) -> Obj
 // The objective whose name and count these tokens head, with a value of so many bytes after the count.
 fn objective_of(base: usize, n: Token, flags: u8, c: Token, count: u8, len: usize) -> Objective
     requires { ⌜ (n .body ≤ n .next) × (base + n .next < 2 ^ 63) × (base + c .at < 2 ^ 63) × (base + c .next < 2 ^ 63) ⌝ }
-    ensures { λ r. ⌜ r ≡ objectiveOf base n flags c count len ⌝ }
+    ensures { λ r. ⌜ r ≡ objectiveFrom base n flags c count len ⌝ }
 {
     Objective {
         name: Span {

@@ -89,8 +89,8 @@ module _ (s : List ℕ) where
   aim-lent list (AimIs.divert {ls = ls} head lead i) room = (ls, locators-lent list i room, λ l e. ap Aim.divert e)
 
   -- an objective that may be left out
-  extra-says : {p : ℕ} {extra : Extra} {obj : Option (Obj Value)} → ExtraIs s p extra obj → ExtraSays s (D.extraOf extra) × (extraOf s (D.extraOf extra) ≡ Option·map (valuedObj valueBytes) obj)
-  unfolding D.extraOf extraOf
+  extra-says : {p : ℕ} {extra : Extra} {obj : Option (Obj Value)} → ExtraIs s p extra obj → ExtraSays s (D.saidExtra extra) × (extraOf s (D.saidExtra extra) ≡ Option·map (valuedObj valueBytes) obj)
+  unfolding D.saidExtra extraOf
   extra-says (ExtraIs.without e) = (tt, refl)
   extra-says (ExtraIs.with-one o) = let goal = objective-goals o in (goal .says, ap some (goal .is))
 

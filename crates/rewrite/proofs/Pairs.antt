@@ -28,7 +28,7 @@ use Rattle.options.proofs.Fits.{ObjectiveOk, objective-within}
 use Rattle.syntax.specs.Message.{Loc, Obj, Pair, valuedPair}
 use Rattle.grammar.specs.Cddl.{LocatorItem, Value, PairItem, PairItems}
 use Rattle.grammar.specs.Stands as S
-use Rattle.grammar.specs.Stands.{StandAll, tagOf}
+use Rattle.grammar.specs.Stands.{StandAll, tagLoc}
 use Rattle.grammar.proofs.Bridge.{split, advances}
 use Rattle.grammar.proofs.Pairs.{pairLevels, pair-read}
 use Rattle.description.specs.declared.rows.Entry.{Entry}
@@ -129,9 +129,9 @@ unfolding tagNumbers
 tag-locator l t i rest = let told = placed l t i rest in record { is = known (told .says) ∙ ap some (told .is); says = inr (told .says) }
 
 -- of what was read
-tag-tells : {m : List ℕ} {x : Item} {pair : Pair Value} (tag : Tag) → TagIn m tag → PairItem x pair → tagOf m tag ≡ pair .1 → (rest : List ℕ)
+tag-tells : {m : List ℕ} {x : Item} {pair : Pair Value} (tag : Tag) → TagIn m tag → PairItem x pair → tagLoc m tag ≡ pair .1 → (rest : List ℕ)
     → TagIs m (placeAt (tagNumbers tag ++ rest) 0) (pair .1)
-unfolding tagOf
+unfolding tagLoc
 tag-tells Tag.Empty t (PairItem.untagged o) e rest = tag-empty _ rest
 tag-tells Tag.Empty t (PairItem.tagged o l) e rest = absurd (let z : _≡_ {A = ℕ} 0 1 = cc in omega arith)
 tag-tells (Tag.At l) t (PairItem.untagged o) e rest = absurd (let z : _≡_ {A = ℕ} 0 1 = cc in omega arith)

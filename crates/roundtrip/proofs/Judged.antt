@@ -34,7 +34,7 @@ use Rattle.options.specs.declared.Outcome.the-variants as E
 use Rattle.description.specs.declared.Description.{Description}
 use Rattle.description.specs.declared.Description.the-variants as D
 use Rattle.description.specs.Describe.{placeRow, pairRow, entryRow, listOf, entryOf, objOf, placeAt, entryAt, rowPair, pairsOf, extraOf, msgOf}
-use Rattle.description.specs.Judge.{okDiscovery, okResponse, okFlood, okParts, okList, okDescribed, alone, whole, inside, okValue, okItem, okEntry, okPlace, blank, okNoneOr, allFrom, okEach, okRow, okRows, okPair, okPairs, okExtra, okOutcome}
+use Rattle.description.specs.Judge.{okDiscovery, okResponse, okFlood, okParts, okList, okDescribed, alone, whole, inside, okValue, okItem, okEntry, okPlace, blankPlace, okNoneOr, allFrom, okEach, okRow, okRows, okPair, okPairs, okExtra, okOutcome}
 use Rattle.roundtrip.specs.Says.{Inside, EntrySays, PlaceSays, Blank, PairSays, Rows, ExtraSays, OutcomeSays, PartsSay}
 use Rattle.roundtrip.proofs.Script.{Each, Valued}
 use Rattle.roundtrip.proofs.Once.{ValuedObj, ValuedPair, ValuedMsg}
@@ -170,8 +170,8 @@ up-to-exactly P f (suc n) =
     last h i e = rw e (h .1 .0)
 
 -- five zeros
-blank-exactly : {G : Type 0} (p : Place) → Tells G (blank p ≡ true) ((p .content .at ≡ 0) × ((p .content .len ≡ 0) × ((p .protocol ≡ 0) × (p .port ≡ 0))))
-unfolding blank
+blank-exactly : {G : Type 0} (p : Place) → Tells G (blankPlace p ≡ true) ((p .content .at ≡ 0) × ((p .content .len ≡ 0) × ((p .protocol ≡ 0) × (p .port ≡ 0))))
+unfolding blankPlace
 blank-exactly p =
     and-exactly (equal-exactly (p .content .at) 0)
     (and-exactly (equal-exactly (p .content .len) 0) (and-exactly (equal-exactly (p .protocol) 0) (equal-exactly (p .port) 0)))
@@ -217,7 +217,7 @@ module _ (source : List ℕ) where
     back,
   )
     where
-      back : Blank p ⊎ PlaceSays source p → pick (eqb (p .kind) 0) (blank p) (okPlace source p) ≡ true
+      back : Blank p ⊎ PlaceSays source p → pick (eqb (p .kind) 0) (blankPlace p) (okPlace source p) ≡ true
       back (inl h) =
           pick-case (λ r. r ≡ true) (eqb (p .kind) 0) (λ e. blank-exactly {G = Bytes source} p .1 (h .at, (h .len, (h .protocol, h .port)))) (λ e. absurd (eqb-false (p .kind) 0 e (h .kind)))
       back (inr h) =

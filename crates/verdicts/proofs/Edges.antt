@@ -9,23 +9,23 @@ use lib.Count.{ones, onesIn}
 use Rattle.base.specs.Pick.{pick}
 use Rattle.base.specs.BigEndian.{bigEndian, bytesOf}
 use Rattle.base.specs.Bits.{hasBit}
-use Rattle.cbor.specs.Head.{widthOf, leastOf, initialOf, argOf, judged as headJudged, headFrom, headBy, headOf, headAt}
+use Rattle.cbor.specs.Head.{widthOf, leastOf, initialOf, argOf, judged, headFrom, headBy, headOf, headAt}
 use Rattle.cbor.specs.Item.{opens, stepOf, stepFrom, stepAt, itemsOf, next, run, enough, firstItem}
 use Rattle.cbor.specs.Token.{nothingAt, tokenOf, tokenFrom, tokenAt, sizeFrom, sizeAt, itemsIn, upTo}
 use Rattle.utf8.specs.Utf8.{tailsOf, leastTail, greatestTail, goesOn, isUtf8}
 use Rattle.cbor.specs.Tree.{infoOf, headBytes, shortest}
 use Rattle.cbor.specs.Put.{head}
 use Rattle.options.specs.Text.{spanOf, badText, firstOf, held}
-use Rattle.options.specs.Objective.{longName, objectiveOf, objectiveIn, objectiveNamed}
+use Rattle.options.specs.Objective.{longName, objectiveFrom, objectiveIn, objectiveNamed}
 use Rattle.options.specs.Pair.{isEmpty, pairTagged, pairTail, pairLed, pairIn}
 use Rattle.message.specs.declared.Message.the-variants as M
 use Rattle.options.specs.declared.Outcome.{Outcome}
 use Rattle.message.specs.declared.Reading.{Reading}
 use Rattle.message.specs.Opening.{isInitiator, openingAt}
-use Rattle.message.specs.Sequence.{pairNext, pairsFrom}
+use Rattle.message.specs.Sequence.{pairThen, pairsFrom}
 use Rattle.message.specs.Shape.{noopAt, discovered, discoveryAt, optionAt, endAt}
 use Rattle.message.specs.Flood.{floodedBy, floodedOf, floodedAt, floodBy, floodAt}
-use Rattle.message.specs.Read.{byKind, judged, shaped, framed, examined, placeless, readOf}
+use Rattle.message.specs.Read.{byKind, judgedShape, shaped, framed, examined, placeless, readOf}
 use Rattle.writer.specs.Write.{lowered}
 use Rattle.writer.specs.Edges.{initiator, name, discoveryBytes, floodBytes, endBytes}
 use Rattle.names.specs.Names.{goodName, goodNames, arrayBad, framedBad, namesBad, sameBytes, ownFrom, isOwn}
@@ -68,5 +68,5 @@ pub starred :
     ∷ [])
     × (outcomes (arrives 1000 (floodBytes 2) ∷ [])
     ≡ afterOf (replies (Given Relay true 6 20) (node 1000 2)) (oneRow (7 + 2 ^ 32 * 3) 0xc0000201 0 1000) (floodBytes 1 ++ replicate 2028 0) ∷ [])
-unfolding pick bigEndian bytesOf widthOf leastOf initialOf argOf headJudged headFrom headBy headOf headAt opens stepOf stepFrom stepAt itemsOf next run enough firstItem nothingAt tokenOf tokenFrom tokenAt sizeFrom sizeAt itemsIn upTo tailsOf leastTail greatestTail goesOn isUtf8 infoOf headBytes shortest head badText firstOf longName objectiveOf objectiveIn objectiveNamed isEmpty pairTagged pairTail pairLed pairIn isInitiator openingAt pairNext pairsFrom noopAt discovered discoveryAt optionAt endAt floodedBy floodedOf floodedAt floodBy floodAt byKind judged shaped framed examined placeless readOf lowered goodName goodNames arrayBad framedBad namesBad sameBytes ownFrom isOwn linksBad recordBad fresh hasBit arrivalBad others clocked tallied freshTable cell putRow rowFree tagIn initiatorFits rowKeyed rowUsed rowBad firstFrom someRow tableBad rowLife rowDead freeRows freed lowestFree rowMatches isKnown roleOf tagOf keyOf keyIn barred refuse quiet laterVerdict verdictOn relayed carriedOut taken received nodeCall steps ones onesIn
+unfolding pick bigEndian bytesOf widthOf leastOf initialOf argOf judged headFrom headBy headOf headAt opens stepOf stepFrom stepAt itemsOf next run enough firstItem nothingAt tokenOf tokenFrom tokenAt sizeFrom sizeAt itemsIn upTo tailsOf leastTail greatestTail goesOn isUtf8 infoOf headBytes shortest head badText firstOf longName objectiveFrom objectiveIn objectiveNamed isEmpty pairTagged pairTail pairLed pairIn isInitiator openingAt pairThen pairsFrom noopAt discovered discoveryAt optionAt endAt floodedBy floodedOf floodedAt floodBy floodAt byKind judgedShape shaped framed examined placeless readOf lowered goodName goodNames arrayBad framedBad namesBad sameBytes ownFrom isOwn linksBad recordBad fresh hasBit arrivalBad others clocked tallied freshTable cell putRow rowFree tagIn initiatorFits rowKeyed rowUsed rowBad firstFrom someRow tableBad rowLife rowDead freeRows freed lowestFree rowMatches isKnown roleOf tagOf keyOf keyIn barred refuse quiet laterVerdict verdictOn relayed carriedOut taken received nodeCall steps ones onesIn
 starred = (refl, refl, refl, refl, refl, refl, refl, refl, refl, refl, refl, refl, refl, refl, refl, refl, refl, refl, refl)

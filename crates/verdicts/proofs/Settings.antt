@@ -16,7 +16,7 @@ use Rattle.node_state.specs.declared.Record.{Record}
 use Rattle.node_state.specs.Record.{linksBad, recordBad, begun, fresh, setLinks}
 use Rattle.node_state.proofs.Masks.{up-le}
 use Rattle.verdicts.specs.Bars.{HighLink, BadRecord}
-use Rattle.verdicts.specs.Settings.{Begun, LinksSet}
+use Rattle.verdicts.specs.Settings.{FreshIs, LinksSet}
 use Rattle.verdicts.proofs.Links.{below-power}
 use Rattle.verdicts.proofs.Bars.{high-bit, either, record-test}
 
@@ -43,11 +43,11 @@ begun-test address port ttl interfaces mask =
 -- for readers
 
 -- A fresh record is given, or refused.
-pub fresh-exactly : (address : List ℕ) (port ttl interfaces mask : ℕ) → Begun address port ttl interfaces mask (fresh address port ttl interfaces mask)
+pub fresh-exactly : (address : List ℕ) (port ttl interfaces mask : ℕ) → FreshIs address port ttl interfaces mask (fresh address port ttl interfaces mask)
 unfolding fresh
 fresh-exactly address port ttl interfaces mask =
     let (there, back) = begun-test address port ttl interfaces mask in
-    pick-case (Begun address port ttl interfaces mask) (linksBad interfaces mask) (λ e. Begun.refused (there e)) (λ e. Begun.made (λ b. not-both (linksBad interfaces mask) (back b) e))
+    pick-case (FreshIs address port ttl interfaces mask) (linksBad interfaces mask) (λ e. FreshIs.refused (there e)) (λ e. FreshIs.made (λ b. not-both (linksBad interfaces mask) (back b) e))
 
 -- Links are set, or the setting is refused.
 pub set-exactly : (r : Record) (mask : ℕ) → LinksSet r mask (setLinks r mask)

@@ -7,9 +7,9 @@ use Rattle.node_state.specs.Record.{keeps, begun, blank, linked}
 use Rattle.verdicts.specs.Bars.{HighLink, BadRecord}
 
 -- 12, beside a blank record, where the record would be bad; else the record, with clock and tally 0
-pub data Begun (address : List ℕ) (port ttl interfaces mask : ℕ) : Kept → Type 0 where
-  refused : BadRecord (begun address port ttl interfaces mask) → Begun address port ttl interfaces mask (keeps 12 blank)
-  made : (BadRecord (begun address port ttl interfaces mask) → ⊥) → Begun address port ttl interfaces mask (keeps 0 (begun address port ttl interfaces mask))
+pub data FreshIs (address : List ℕ) (port ttl interfaces mask : ℕ) : Kept → Type 0 where
+  refused : BadRecord (begun address port ttl interfaces mask) → FreshIs address port ttl interfaces mask (keeps 12 blank)
+  made : (BadRecord (begun address port ttl interfaces mask) → ⊥) → FreshIs address port ttl interfaces mask (keeps 0 (begun address port ttl interfaces mask))
 
 -- 12 for a bad record; 13 for a mask with a bit at or above the count; else the mask in the old one's place, and nothing else changed
 pub data LinksSet (r : Record) (mask : ℕ) : Kept → Type 0 where

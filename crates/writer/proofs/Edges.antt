@@ -7,7 +7,7 @@ use mathlib.Core.List.{[], _∷_, flatMap}
 use lib.ListN.{replicate}
 use Rattle.base.specs.Pick.{pick}
 use Rattle.base.specs.BigEndian.{bigEndian, bytesOf}
-use Rattle.cbor.specs.Head.{widthOf, leastOf, initialOf, argOf, judged as headJudged, headFrom, headBy, headOf, headAt}
+use Rattle.cbor.specs.Head.{widthOf, leastOf, initialOf, argOf, judged, headFrom, headBy, headOf, headAt}
 use Rattle.cbor.specs.Item.{opens, stepOf, stepFrom, stepAt, itemsOf, next, run, enough, firstItem}
 use Rattle.cbor.specs.Token.{nothingAt, tokenOf, tokenFrom, tokenAt, sizeFrom, sizeAt, itemsIn, upTo}
 use Rattle.utf8.specs.Utf8.{tailsOf, leastTail, greatestTail, goesOn, isUtf8}
@@ -15,18 +15,18 @@ use Rattle.cbor.specs.Tree.{infoOf, headBytes, shortest}
 use Rattle.cbor.specs.Put.{head}
 use Rattle.options.specs.Text.{badText, firstOf}
 use Rattle.options.specs.Locator.{isNull, addressFits, protocolOf, portOf, locatorOf, textOf, locatorIn, locatorReached}
-use Rattle.options.specs.Objective.{longName, objectiveOf, objectiveIn, objectiveNamed}
+use Rattle.options.specs.Objective.{longName, objectiveFrom, objectiveIn, objectiveNamed}
 use Rattle.options.specs.Pair.{isEmpty, pairTagged, pairTail, pairLed, pairIn}
 use Rattle.message.specs.Opening.{isInitiator, openingAt}
-use Rattle.message.specs.Sequence.{textLed, locatorNext, locatorsFrom, pairNext, pairsFrom}
+use Rattle.message.specs.Sequence.{textLed, locatorThen, locatorsFrom, pairThen, pairsFrom}
 use Rattle.message.specs.Shape.{noopAt, discovered, discoveryAt, exchangeOf, exchanged, exchangeAt, waitAt, invalidAt, optionAt, endAt}
 use Rattle.message.specs.Response.{responseBy, responseAt, targetsAt, locatedAt, locatedOf, restAt}
 use Rattle.message.specs.Flood.{floodedBy, floodedOf, floodedAt, floodBy, floodAt}
-use Rattle.message.specs.Read.{byKind, judged, shaped, framed, examined, placeless, readOf}
+use Rattle.message.specs.Read.{byKind, judgedShape, shaped, framed, examined, placeless, readOf}
 use Rattle.syntax.specs.Message.{orNull}
 use Rattle.description.specs.Encoding.{string, numberOrNull, reached, fixed, encodeLoc, oneMore, encodeObj, maybeObj, howMany, locOrEmpty, encodePair, targetItems, encodeTargets, encodeEnding, opening, exchange, encodeMsg}
 use Rattle.description.specs.Describe.{listOf, entryOf, objOf, placeLoc, placeAt, rowLoc, locsOf, targetsOf, extraOf, entryAt, locOrNone, rowPair, pairsOf, endOf, msgOf}
-use Rattle.description.specs.Judge.{alone, whole, inside, okValue, okItem, okEntry, okPlace, blank, okNoneOr, allFrom, okEach, okRow, okRows, okPair, okPairs, okExtra, okOutcome, okDiscovery, okResponse, okFlood, okParts, okList, okDescribed}
+use Rattle.description.specs.Judge.{alone, whole, inside, okValue, okItem, okEntry, okPlace, blankPlace, okNoneOr, allFrom, okEach, okRow, okRows, okPair, okPairs, okExtra, okOutcome, okDiscovery, okResponse, okFlood, okParts, okList, okDescribed}
 use Rattle.writer.specs.Write.{accepts, handAnswer, handOut, passes, passAnswer, passOut, draftOf, writeAnswer, writeOut, lowered, okLower, lowerAnswer, lowerOut, answerOf}
 use Rattle.writer.specs.declared.Written.{Written}
 use Rattle.writer.specs.Edges.{home, initiator, discoveryBytes, floodBytes, endBytes, answerBytes, source, answerRow, answerTold, floodRow, floodTold, endTold}
@@ -40,7 +40,7 @@ pub written :
     × (writeOut source floodRow floodTold (replicate 20 0) ≡ floodBytes 2)
     × (writeAnswer [] [] endTold (replicate 6 0) ≡ Written.Length 6)
     × (writeOut [] [] endTold (replicate 6 0) ≡ endBytes)
-unfolding pick bigEndian bytesOf widthOf leastOf initialOf argOf headJudged headFrom headBy headOf headAt opens stepOf stepFrom stepAt itemsOf next run enough firstItem nothingAt tokenOf tokenFrom tokenAt sizeFrom sizeAt itemsIn upTo tailsOf leastTail greatestTail goesOn isUtf8 infoOf headBytes shortest head badText firstOf isNull addressFits protocolOf portOf locatorOf textOf locatorIn locatorReached longName objectiveOf objectiveIn objectiveNamed isEmpty pairTagged pairTail pairLed pairIn isInitiator openingAt textLed locatorNext locatorsFrom pairNext pairsFrom noopAt discovered discoveryAt exchangeOf exchanged exchangeAt waitAt invalidAt optionAt endAt responseBy responseAt floodedBy floodedOf floodedAt floodBy floodAt byKind judged shaped framed examined placeless readOf string numberOrNull reached fixed encodeLoc oneMore encodeObj maybeObj howMany locOrEmpty encodePair flatMap targetItems encodeTargets encodeEnding opening exchange encodeMsg listOf entryOf objOf orNull placeLoc placeAt rowLoc locsOf targetsOf extraOf entryAt locOrNone rowPair pairsOf endOf msgOf alone whole accepts inside okValue okItem okEntry okPlace blank okNoneOr allFrom okEach okRow okRows okPair okPairs okExtra okOutcome okDiscovery okResponse okFlood okParts okList okDescribed handAnswer handOut passes passAnswer passOut draftOf writeAnswer writeOut lowered okLower lowerAnswer lowerOut answerOf targetsAt locatedAt locatedOf restAt
+unfolding pick bigEndian bytesOf widthOf leastOf initialOf argOf judged headFrom headBy headOf headAt opens stepOf stepFrom stepAt itemsOf next run enough firstItem nothingAt tokenOf tokenFrom tokenAt sizeFrom sizeAt itemsIn upTo tailsOf leastTail greatestTail goesOn isUtf8 infoOf headBytes shortest head badText firstOf isNull addressFits protocolOf portOf locatorOf textOf locatorIn locatorReached longName objectiveFrom objectiveIn objectiveNamed isEmpty pairTagged pairTail pairLed pairIn isInitiator openingAt textLed locatorThen locatorsFrom pairThen pairsFrom noopAt discovered discoveryAt exchangeOf exchanged exchangeAt waitAt invalidAt optionAt endAt responseBy responseAt floodedBy floodedOf floodedAt floodBy floodAt byKind judgedShape shaped framed examined placeless readOf string numberOrNull reached fixed encodeLoc oneMore encodeObj maybeObj howMany locOrEmpty encodePair flatMap targetItems encodeTargets encodeEnding opening exchange encodeMsg listOf entryOf objOf orNull placeLoc placeAt rowLoc locsOf targetsOf extraOf entryAt locOrNone rowPair pairsOf endOf msgOf alone whole accepts inside okValue okItem okEntry okPlace blankPlace okNoneOr allFrom okEach okRow okRows okPair okPairs okExtra okOutcome okDiscovery okResponse okFlood okParts okList okDescribed handAnswer handOut passes passAnswer passOut draftOf writeAnswer writeOut lowered okLower lowerAnswer lowerOut answerOf targetsAt locatedAt locatedOf restAt
 written = (refl, refl, refl, refl, refl, refl, refl)
 
 -- for readers

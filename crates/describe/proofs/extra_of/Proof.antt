@@ -1,6 +1,6 @@
 -- `describe::extra_of` meets its contract.
 -- Assumes nothing.
-use Rattle.describe.specs.Describe.{extraOf}
+use Rattle.describe.specs.Describe.{saidExtra}
 use borrow.Author.Needs.{needs}
 use Rattle.describe.proofs.extra_of.Statement.{statement}
 use Rattle.describe.proofs.extra_of.Tie as tie
@@ -18,12 +18,12 @@ goal-of-requires : tie.Need-goal-of-requires
 goal-of-requires c κs = search needs
 
 returns : tie.Need-returns
-unfolding extraOf
+unfolding saidExtra
 returns c =
     rw (c .enum-told .given .1)
 
 returns-2 : tie.Need-returns-2
-unfolding extraOf
+unfolding saidExtra
 returns-2 c =
     rw (c .before .before .extra .given .1, ← c .goal-of .ensures)
 

@@ -1,6 +1,6 @@
 -- `negotiation::step` meets its contract.
 -- Assumes nothing.
-use Rattle.negotiation.specs.Step.{stepFrom, step}
+use Rattle.negotiation.specs.Step.{readingStep, step}
 use borrow.Author.Needs.{needs}
 use Rattle.negotiation.proofs.step.Statement.{statement}
 use Rattle.negotiation.proofs.step.Tie as tie
@@ -26,11 +26,11 @@ state-step-requires : tie.Need-state-step-requires
 state-step-requires c κs = search needs
 
 returns : tie.Need-returns
-unfolding step stepFrom
+unfolding step readingStep
 returns c = rw (← c .before .before .before .read .ensures, c .before .reading .given .1)
 
 returns-2 : tie.Need-returns-2
-unfolding step stepFrom
+unfolding step readingStep
 returns-2 c = rw (← c .before .before .before .before .before .read .ensures, c .before .before .before .reading2 .given .1, ← c .before .move-of .ensures, ← c .state-step .ensures)
 
 pub step-spec : {M : Type 1} → statement M

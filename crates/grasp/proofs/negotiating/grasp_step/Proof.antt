@@ -1,6 +1,6 @@
 -- `grasp::negotiating::grasp_step` meets its contract.
 -- Assumes nothing.
-use Rattle.grasp.specs.Negotiating.{stepNumber, numberFrom, stateAfter, numbersFrom}
+use Rattle.grasp.specs.Negotiating.{stepNumber, steppedNumber, stateAfter, numbersFrom}
 use borrow.Author.Needs.{needs}
 use Rattle.grasp.proofs.negotiating.grasp_step.Statement.{statement}
 use Rattle.grasp.proofs.negotiating.grasp_step.Tie as tie
@@ -30,11 +30,11 @@ numbers-of-requires : tie.Need-numbers-of-requires
 numbers-of-requires c κs = search needs
 
 returns : tie.Need-returns
-unfolding stepNumber numberFrom stateAfter numbersFrom
+unfolding stepNumber steppedNumber stateAfter numbersFrom
 returns c = (rw (← c .before .before .before .before .before .state-of .ensures, ← c .before .before .before .before .side-of .ensures, ← c .before .before .before .step .ensures, c .before .stepped .given .1), rw (← c .before .before .before .before .before .state-of .ensures, ← c .before .before .before .before .side-of .ensures, ← c .before .before .before .step .ensures, c .before .stepped .given .1))
 
 returns-2 : tie.Need-returns-2
-unfolding stepNumber numberFrom stateAfter numbersFrom
+unfolding stepNumber steppedNumber stateAfter numbersFrom
 returns-2 c = (rw (← c .before .before .before .before .before .before .state-of .ensures, ← c .before .before .before .before .before .side-of .ensures, ← c .before .before .before .before .step .ensures, c .before .before .stepped2 .given .1), rw (← c .before .before .before .before .before .before .state-of .ensures, ← c .before .before .before .before .before .side-of .ensures, ← c .before .before .before .before .step .ensures, c .before .before .stepped2 .given .1) (c .numbers-of .ensures))
 
 pub grasp-step-spec : {M : Type 1} → statement M

@@ -1,6 +1,6 @@
 -- `grasp::writing::grasp_write` meets its contract.
 -- Assumes nothing.
-use Rattle.grasp.specs.Writing.{numberOf, lengthOf, numberBy, bytesBy, lengthBy, writeNumber, writeBytes, writeLength}
+use Rattle.grasp.specs.Writing.{numberOf, lengthAfter, numberBy, bytesBy, lengthBy, writeNumber, writeBytes, writeLength}
 use borrow.Author.Needs.{needs}
 use Rattle.grasp.proofs.writing.grasp_write.Statement.{statement}
 use Rattle.grasp.proofs.writing.grasp_write.Tie as tie
@@ -28,21 +28,21 @@ enum-known-written-2 : tie.Need-enum-known-written-2
 enum-known-written-2 c = search needs
 
 returns : tie.Need-returns
-unfolding writeNumber numberBy numberOf writeBytes bytesBy writeLength lengthBy lengthOf
+unfolding writeNumber numberBy numberOf writeBytes bytesBy writeLength lengthBy lengthAfter
 returns c = (rw (← c .before .before .told-by .ensures, c .enum-told .given .1), (rw (← c .before .before .told-by .ensures, c .enum-told .given .1), rw (← c .before .before .told-by .ensures, c .enum-told .given .1)))
 
 same-length : tie.Need-same-length
 same-length c = search needs
 
 returns-2 : tie.Need-returns-2
-unfolding writeNumber numberBy numberOf writeBytes bytesBy writeLength lengthBy lengthOf
+unfolding writeNumber numberBy numberOf writeBytes bytesBy writeLength lengthBy lengthAfter
 returns-2 c = (rw (← c .before .before .before .before .before .before .before .before .before .before .told-by .ensures, c .before .before .before .before .before .before .before .before .told .given .1, ← c .before .before .before .before .before .write .ensures .0, c .before .written .given .1), (rw (← c .before .before .before .before .before .before .before .before .before .before .told-by .ensures, c .before .before .before .before .before .before .before .before .told .given .1) (c .before .before .before .before .before .write .ensures .1), rw (← c .before .before .before .before .before .before .before .before .before .before .told-by .ensures, c .before .before .before .before .before .before .before .before .told .given .1, ← c .before .before .before .before .before .write .ensures .0, c .before .written .given .1)))
 
 same-length-2 : tie.Need-same-length-2
 same-length-2 c = search needs
 
 returns-3 : tie.Need-returns-3
-unfolding writeNumber numberBy numberOf writeBytes bytesBy writeLength lengthBy lengthOf
+unfolding writeNumber numberBy numberOf writeBytes bytesBy writeLength lengthBy lengthAfter
 returns-3 c = (rw (← c .before .before .before .before .before .before .before .before .before .before .told-by .ensures, c .before .before .before .before .before .before .before .before .told .given .1, ← c .before .before .before .before .before .write .ensures .0, c .before .written2 .given .1), (rw (← c .before .before .before .before .before .before .before .before .before .before .told-by .ensures, c .before .before .before .before .before .before .before .before .told .given .1) (c .before .before .before .before .before .write .ensures .1), rw (← c .before .before .before .before .before .before .before .before .before .before .told-by .ensures, c .before .before .before .before .before .before .before .before .told .given .1, ← c .before .before .before .before .before .write .ensures .0, c .before .written2 .given .1)))
 
 pub grasp-write-spec : {M : Type 1} → statement M

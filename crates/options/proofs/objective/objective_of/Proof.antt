@@ -1,7 +1,7 @@
 -- `options::objective::objective_of` meets its contract.
 -- Assumes nothing.
 use mathlib.Core.Path.{refl}
-use Rattle.options.specs.Objective.{objectiveOf}
+use Rattle.options.specs.Objective.{objectiveFrom}
 use borrow.Author.Needs.{needs}
 use Rattle.options.proofs.objective.objective_of.Statement.{statement}
 use Rattle.options.proofs.objective.objective_of.Tie as tie
@@ -21,7 +21,7 @@ add-t11 : tie.Need-add-t11
 add-t11 c = search needs
 
 returns : tie.Need-returns
-unfolding objectiveOf
+unfolding objectiveFrom
 returns c = refl
 
 pub objective-of-spec : {M : Type 1} → statement M
