@@ -9,6 +9,7 @@ pub mod Exact
 pub mod Unique
 pub mod Refuses
 pub mod Tokens
+pub mod Passes
 pub mod Stores
 -- For the proofs of this crate.
 mod Bounds

@@ -4,6 +4,7 @@ pub mod Refused
 -- Their proof: what any bytes are answered; what one item is answered, of all kinds; that it is one message only, described in one way.
 pub mod Answers
 pub mod Shaped
+pub mod Walked
 pub mod Once
 pub mod Described
 -- The kinds, each both ways.

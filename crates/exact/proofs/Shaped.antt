@@ -1,4 +1,4 @@
--- The eleven kinds together: what `shaped` answers of any bytes, and that the walk accepts what it accepts.
+-- The eleven kinds together: what `shaped` answers of any bytes.
 -- Assumes nothing.
 use mathlib.Core.Path.{_≡_, refl, sym, ap, _∙_, subst}
 use mathlib.Core.Logic.{_⊎_, inl, inr, _≢_}
@@ -6,7 +6,6 @@ use mathlib.Core.List.{List, _++_, append-assoc}
 use mathlib.Core.Bool.{true, false}
 use Prim.Native.Nat.{ℕ, suc, _/_, _≤_, _<_, zero-le}
 use native.Mathlib.Decide.{decLt}
-use native.Mathlib.Nat.{zero-add}
 use native.Mathlib.Omega.{arith}
 use lib.ListN.{length, drop}
 use lib.Dec.{ltb, eqb, lit<}
@@ -14,12 +13,10 @@ use borrow.Author.Tests.{ltb-true, ltb-false, eqb-true, eqb-false, ne-eqb, eq-eq
 use Rattle.base.specs.Pick.{pick}
 use Rattle.base.specs.BigEndian.{Bytes}
 use Rattle.base.proofs.Picks.{pick-case}
-use Rattle.cbor.specs.declared.item.ItemRead.{ItemRead}
 use Rattle.cbor.specs.declared.token.Token.{Token}
-use Rattle.cbor.specs.Item.{mostLevels, firstItem}
+use Rattle.cbor.specs.Item.{mostLevels}
 use Rattle.cbor.specs.Token.{tokenAt, itemsIn}
 use Rattle.cbor.specs.Tree.{Item, Items, Good, Right, headBytes, count, encode, encodes, depth}
-use Rattle.cbor.proofs.Accepts.{item-accepts}
 use Rattle.cbor.proofs.Tokens.{token-end, is-array}
 use Rattle.syntax.specs.Message.{Msg}
 use Rattle.grammar.specs.Cddl.{uint, MessageItem, Value}
@@ -90,20 +87,6 @@ shape-sound {s} {kind} {n} {at} k known =
                     ]
               ]
         ]
-
--- ---- a message that was accepted
--- a refusal is no message
-refused-accepted : {number place end : ℕ} {m : Message} → E.Refused number place ≡ E.Accepted m end → ⊥
-refused-accepted e = let z : _≡_ {A = ℕ} 0 1 = cc in omega arith
-
--- a message keeps the place where its parts end
-judged-end : (m : Message) (end bad long : ℕ) {m′ : Message} {end′ : ℕ} → judgedShape (S.Good m end bad long) ≡ E.Accepted m′ end′ → end ≡ end′
-unfolding judgedShape
-judged-end m end bad long {m′} {end′} =
-    pick-case P _ (λ _. pick-case P _ (λ _ q. cc) (λ _ q. absurd (refused-accepted q))) (λ _ q. absurd (refused-accepted q))
-  where
-    P : Examined → Type 0
-    P r = r ≡ E.Accepted m′ end′ → end ≡ end′
 
 -- ---- which items a kind can lead
 -- an array
@@ -203,14 +186,6 @@ module _ {s : List ℕ} (b : Bytes s) where
       shape : {r : Shape} → ShapeOk s r → P (judgedShape r)
       shape (ShapeOk.bad {place}) = departs place
       shape (ShapeOk.good {m} {end} {bad} {long} i) = reads m end bad long i
-
--- the walk accepts a message that its parts make up, and ends where they end
-pub parts-walked : (s : List ℕ) {m : Message} {end : ℕ} → Bytes s → shaped s ≡ E.Accepted m end → firstItem 0 s ≡ ItemRead.Ends end
-parts-walked s {m} {end} b =
-    shaped-case b (λ (x : Examined). x ≡ E.Accepted m end → firstItem 0 s ≡ ItemRead.Ends end) (λ place u q. absurd (refused-accepted q)) (λ place q. absurd (refused-accepted q))
-    (λ m′ end′ bad long h q.
-    let same : end′ ≡ end = judged-end m′ end′ bad long q in
-    ap (firstItem 0) (h .stands .is) ∙ item-accepts 0 (h .item) (drop end′ s) (h .stands .good) (h .shallow) ∙ ap ItemRead.Ends (sym (h .stands .end ∙ zero-add _) ∙ same))
 
 -- an array that a number leads, and what `shaped` reads of it
 record Led (s : List ℕ) (kind : ℕ) (xs : Items) : Type 0 where

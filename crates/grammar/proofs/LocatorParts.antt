@@ -13,7 +13,7 @@ use borrow.Author.Tests.{lt-ltb, le-leb, leb-true, eqb-true, eqb-false, eq-eqb, 
 use Rattle.base.specs.Pick.{pick}
 use Rattle.base.specs.BigEndian.{Bytes}
 use Rattle.base.specs.Lists.{Every}
-use Rattle.base.proofs.Picks.{pick-case}
+use Rattle.base.proofs.Picks.{both-hold, pick-case}
 use Rattle.cbor.specs.declared.token.Token.{Token}
 use Rattle.cbor.specs.Tree.{Item}
 use Rattle.cbor.specs.Token.{tokenAt}
@@ -25,7 +25,7 @@ use Rattle.grammar.specs.Cddl.{uint, null, array, Protocol, Port, OrNull
 use Rattle.grammar.specs.Limits.{Utf8, locTexts}
 use Rattle.grammar.specs.Stands.{Stands, locOf}
 use Rattle.grammar.proofs.Bridge.{token-heading, number-token, null-token}
-use Rattle.grammar.proofs.Pieces.{both-hold, Is, number-at, null-at}
+use Rattle.grammar.proofs.Pieces.{Is, number-at, null-at}
 use Rattle.grammar.proofs.Texts.{bad-text}
 
 -- ---- the shape

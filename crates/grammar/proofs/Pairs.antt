@@ -32,12 +32,13 @@ use Rattle.options.specs.Text.{firstOf}
 use Rattle.options.specs.Locator.{locatorIn, locatorAt}
 use Rattle.options.specs.Objective.{objectiveIn, objectiveAt}
 use Rattle.options.specs.Pair.{isEmpty, pairTagged, pairTail, pairLed, pairIn, pairAt}
+use Rattle.options.proofs.Fits.{empty-is}
 use Rattle.syntax.specs.Message.{Loc, Obj, Pair}
 use Rattle.grammar.specs.Cddl.{array, LocatorItem, ObjectiveItem, PairItem, Value}
 use Rattle.grammar.specs.Limits.{Utf8, Short, tagTexts, pairTexts}
 use Rattle.grammar.specs.Stands.{Stands, ArrayHead, tagLoc, ObjectiveIs}
 use Rattle.grammar.proofs.Bridge.{split, join, none as no-more, none-end, only, last, lift, lift-first, sink-sized, sink-first, advances, Heading, token-heading, array-token}
-use Rattle.grammar.proofs.Pieces.{both-hold, array-items, array-at, array-head, lift-head}
+use Rattle.grammar.proofs.Pieces.{array-items, array-at, array-head, lift-head}
 use Rattle.grammar.proofs.Texts.{first-zero}
 use Rattle.grammar.proofs.Depths.{locator-depth}
 use Rattle.grammar.proofs.LocatorParts.{Shape, shape-of}
@@ -66,12 +67,6 @@ pub record PairStands (m : List ℕ) (p e : ℕ) (o : Objective) (t : Tag) (bad 
   pub names : long ≡ 0 ↔ Short (pair .0 .name)
 
 -- ---- sound
-empty-is : (w : Token) → isEmpty w ≡ true → (w .major ≡ 4) × (w .arg ≡ 0)
-unfolding isEmpty
-empty-is w q =
-    let (e, f) = both-hold (eqb (w .major) 4) q in
-    (eqb-true (w .major) 4 e, eqb-true (w .arg) 0 f)
-
 abbrev Sound : List ℕ → ℕ → PairRead → Type 0
 Sound m base (PairRead.Bad place) = Unit {0}
 Sound m base (PairRead.Got o t size bad long) = PairStands m base (base + size) o t bad long

@@ -3,7 +3,7 @@
 use mathlib.Core.Path.{_≡_, refl, sym, ap, _∙_, subst}
 use mathlib.Core.Logic.{_⊎_, inl, inr}
 use mathlib.Core.List.{List, _++_, append-assoc}
-use mathlib.Core.Bool.{Bool, true, false, cond}
+use mathlib.Core.Bool.{Bool, false, cond}
 use Prim.Native.Nat.{ℕ, suc, _+_, _-_, _≤_, _<_}
 use native.Mathlib.Omega.{arith}
 use lib.ListN.{length, take, drop, length-append, length-drop, take-append-drop}
@@ -21,17 +21,6 @@ use Rattle.cbor.proofs.Tokens.{is-number}
 use Rattle.options.specs.Text.{contentIn}
 use Rattle.grammar.specs.Stands.{Stands, StandAll, ArrayHead}
 use Rattle.grammar.proofs.Bridge.{Heading, token-heading, string-major}
-
--- ---- choices
--- a choice that isn't the second is the first
-pub kept : {A : Type 0} (t : Bool) {x y z : A} → pick t x y ≡ z → (y ≡ z → ⊥) → (t ≡ true) × (x ≡ z)
-unfolding pick
-kept true q no-second = (refl, q)
-kept false q no-second = absurd (no-second q)
-
--- of two tests both hold
-pub both-hold : (t : Bool) {u : Bool} → pick t u false ≡ true → (t ≡ true) × (u ≡ true)
-both-hold t q = kept t q (λ e. let z : _≡_ {A = ℕ} 0 1 = cc in omega arith)
 
 -- ---- numbers of a token
 -- an array that has items has them

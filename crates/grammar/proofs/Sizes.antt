@@ -1,6 +1,6 @@
 -- An item of any sort, passed over by its size.
 -- Assumes nothing.
-use mathlib.Core.Path.{_≡_, refl, sym, ap, ap₂, _∙_}
+use mathlib.Core.Path.{_≡_, sym, ap, ap₂, _∙_}
 use mathlib.Core.List.{List, _++_}
 use Prim.Native.Nat.{ℕ, _+_, _-_, _≤_}
 use native.Mathlib.Omega.{arith}
@@ -8,20 +8,15 @@ use lib.ListN.{length, drop, length-drop, take-append-drop}
 use lib.Seq.{drop-drop, length-take-le}
 use Rattle.base.specs.BigEndian.{Bytes}
 use Rattle.base.proofs.Parts.{bytes-drop}
-use Rattle.cbor.specs.declared.item.ItemRead.{ItemRead}
 use Rattle.cbor.specs.Item.{firstItem, leftUnder}
 use Rattle.cbor.specs.Token.{sizeFrom, sizeAt}
 use Rattle.cbor.specs.Tree.{Item, depth, encode}
 use Rattle.cbor.proofs.Exact.{item-exact}
 use Rattle.cbor.proofs.Accepts.{item-accepts}
+use Rattle.cbor.proofs.Passes.{size-ends}
 use Rattle.grammar.specs.Stands.{Stands}
 use Rattle.grammar.proofs.Bridge.{advances}
 use Rattle.grammar.proofs.Pieces.{Is}
-
-size-ends : (x : ItemRead) → (sizeFrom x ≡ 0 → ⊥) → x ≡ ItemRead.Ends (sizeFrom x)
-unfolding sizeFrom
-size-ends (ItemRead.Refused number place) some = absurd (some refl)
-size-ends (ItemRead.Ends end) some = refl
 
 -- where a size is read, an item stands
 pub sized-item : (levels : ℕ) (s : List ℕ) (p : ℕ) → Bytes s → (sizeAt levels s p ≡ 0 → ⊥) → Is s p (p + sizeAt levels s p) (λ x. depth x ≤ leftUnder levels)

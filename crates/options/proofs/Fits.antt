@@ -1,20 +1,23 @@
--- What is read lies within the part, and has so many bytes at least; and what a `match` has found, said of the definitions.
+-- What is read lies within the part, has so many bytes at least, and is passed over by the walk; and what a `match` has found, said of the definitions.
 -- Assumes nothing.
 use mathlib.Core.Path.{_≡_, refl, sym, ap, _∙_, subst}
+use mathlib.Core.Logic.{inl, inr}
 use mathlib.Core.List.{List, []}
 use mathlib.Core.Bool.{Bool, true, false}
-use Prim.Native.Nat.{ℕ, _+_, _-_, _≤_, _<_}
+use Prim.Native.Nat.{ℕ, suc, _+_, _-_, _≤_, _<_}
 use native.Mathlib.Omega.{arith}
 use lib.ListN.{length, take, drop, length-drop}
 use lib.Dec.{ltb, leb, eqb}
 use borrow.Author.Tests.{ltb-false, eqb-true, eqb-false, ne-eqb}
 use Rattle.base.specs.Pick.{pick}
-use Rattle.base.proofs.Picks.{pick-case, both}
+use Rattle.base.proofs.Picks.{pick-case, both, both-hold}
 use Rattle.base.proofs.Parts.{rest-is, drop-past}
 use Rattle.cbor.specs.declared.token.Token.{Token}
 use Rattle.cbor.specs.Token.{tokenAt, tokenFrom, nothingAt, sizeAt, itemsIn, upTo}
 use Rattle.cbor.specs.Head.{headAt}
+use Rattle.cbor.specs.Item.{leftUnder}
 use Rattle.cbor.proofs.Tokens.{token-is, token-end, token-has, is-array, is-number, size-le}
+use Rattle.cbor.proofs.Passes.{Passes, passes-none, passes-then, passes-within, Leaf, leaf-there, leaf-passes, array-passes, size-passes}
 use Rattle.options.specs.declared.locator.LocatorRead.{LocatorRead}
 use Rattle.options.specs.declared.objective.Objective.{Objective}
 use Rattle.options.specs.declared.objective.ObjectiveRead.{ObjectiveRead}
@@ -24,65 +27,77 @@ use Rattle.options.specs.Objective.{objectiveFrom, objectiveIn, objectiv
 use Rattle.options.specs.Pair.{isEmpty, pairLevels, pairTagged, pairTail, pairLed, pairIn}
 
 -- ---- locators
--- what a test lets pass is there
-null-there : (w : Token) → isNull w ≡ true → w .major < 8
+-- what a test lets pass is a leaf
+null-leaf : (w : Token) → isNull w ≡ true → Leaf w
 unfolding isNull
-null-there w = pick-case (λ t. t ≡ true → w .major < 8) (eqb (w .major) 7) (λ e _. omega (arith, eqb-true (w .major) 7 e)) (λ _ q. absurd (let z : _≡_ {A = ℕ} 0 1 = cc in omega arith))
+null-leaf w q = inr (eqb-true (w .major) 7 (both-hold (eqb (w .major) 7) q .0))
 
-address-there : (kind : ℕ) (w : Token) → addressFits kind w ≡ true → w .major < 8
+address-leaf : (kind : ℕ) (w : Token) → addressFits kind w ≡ true → Leaf w
 unfolding addressFits
-address-there kind w =
-    pick-case P (leb 105 kind) (λ _ q. omega (arith, eqb-true (w .major) 3 q))
-    (λ _. pick-case P (eqb (w .major) 2) (λ e _. omega (arith, eqb-true (w .major) 2 e)) (λ _ q. absurd (let z : _≡_ {A = ℕ} 0 1 = cc in omega arith)))
+address-leaf kind w =
+    pick-case P (leb 105 kind) (λ _ q. inl (omega (arith, eqb-true (w .major) 3 q)))
+    (λ _ q. inl (omega (arith, eqb-true (w .major) 2 (both-hold (eqb (w .major) 2) q .0))))
   where
     P : Bool → Type 0
-    P t = t ≡ true → w .major < 8
+    P t = t ≡ true → Leaf w
 
-protocol-there : (kind : ℕ) (w : Token) → (protocolOf kind w ≡ noProtocol → ⊥) → w .major < 8
+protocol-leaf : (kind : ℕ) (w : Token) → (protocolOf kind w ≡ noProtocol → ⊥) → Leaf w
 unfolding protocolOf
-protocol-there kind w =
-    pick-case P (eqb (w .major) 0) (λ e _. omega (arith, eqb-true (w .major) 0 e))
-    (λ _. both P (eqb kind 106) (pick-case P (isNull w) (λ e _. null-there w e) (λ _ n. absurd (n refl))) (λ n. absurd (n refl)))
+protocol-leaf kind w =
+    pick-case P (eqb (w .major) 0) (λ e _. inl (omega (arith, eqb-true (w .major) 0 e)))
+    (λ _. both P (eqb kind 106) (pick-case P (isNull w) (λ e _. null-leaf w e) (λ _ n. absurd (n refl))) (λ n. absurd (n refl)))
   where
     P : ℕ → Type 0
-    P p = (p ≡ noProtocol → ⊥) → w .major < 8
+    P p = (p ≡ noProtocol → ⊥) → Leaf w
 
-port-there : (kind : ℕ) (w : Token) → portOf kind w ≤ nullPort → w .major < 8
+port-leaf : (kind : ℕ) (w : Token) → portOf kind w ≤ nullPort → Leaf w
 unfolding portOf
-port-there kind w =
-    pick-case P (eqb (w .major) 0) (λ e _. omega (arith, eqb-true (w .major) 0 e))
-    (λ _. both P (eqb kind 106) (pick-case P (isNull w) (λ e _. null-there w e) (λ _ h. absurd (omega arith))) (λ h. absurd (omega arith)))
+port-leaf kind w =
+    pick-case P (eqb (w .major) 0) (λ e _. inl (omega (arith, eqb-true (w .major) 0 e)))
+    (λ _. both P (eqb kind 106) (pick-case P (isNull w) (λ e _. null-leaf w e) (λ _ h. absurd (omega arith))) (λ h. absurd (omega arith)))
   where
     P : ℕ → Type 0
-    P p = p ≤ nullPort → w .major < 8
+    P p = p ≤ nullPort → Leaf w
 
 abbrev pub LocatorOk : ℕ → LocatorRead → Type 0
 LocatorOk room (LocatorRead.Bad place) = Unit {0}
 LocatorOk room (LocatorRead.Got l size bad) = (6 ≤ size) × (size ≤ room)
 
+-- the walk passes over a locator, of one level
+abbrev pub LocatorWalked : List ℕ → LocatorRead → Type 0
+LocatorWalked s (LocatorRead.Bad place) = Unit {0}
+LocatorWalked s (LocatorRead.Got l size bad) = (left : ℕ) → Passes (suc left) 1 s 0 size
+
 -- a locator has six bytes at least: two for its kind, and one for its own head, its address, its protocol and its port
-pub locator-ok : (base : ℕ) (s : List ℕ) → LocatorOk (length s) (locatorIn base s)
+locator-told : (base : ℕ) (s : List ℕ) → LocatorOk (length s) (locatorIn base s) × LocatorWalked s (locatorIn base s)
 unfolding locatorIn locatorReached
-locator-ok base s =
-    pick-case P (eqb (itemsIn a) 0) (λ _. tt)
-    (λ t₁. pick-case P (ltb kind 103) (λ _. tt)
-    (λ t₂. pick-case P (ltb 106 kind) (λ _. tt)
-    (λ t₃. both P (eqb (a .arg) 4)
-    (pick-case P (addressFits kind b)
-    (λ t₄. pick-case P (eqb (protocolOf kind p) noProtocol) (λ _. tt)
-    (λ t₅. pick-case P (ltb nullPort (portOf kind q)) (λ _. tt)
-    (λ t₆.
+locator-told base s =
+    pick-case P (eqb (itemsIn a) 0) (λ _. (tt, tt))
+    (λ t₁. pick-case P (ltb kind 103) (λ _. (tt, tt))
+    (λ t₂. pick-case P (ltb 106 kind) (λ _. (tt, tt))
+    (λ t₃. pick-case P (eqb (a .arg) 4)
+    (λ t₄. pick-case P (addressFits kind b)
+    (λ t₅. pick-case P (eqb (protocolOf kind p) noProtocol) (λ _. (tt, tt))
+    (λ t₆. pick-case P (ltb nullPort (portOf kind q)) (λ _. (tt, tt))
+    (λ t₇.
     let four : a .major ≡ 4 = is-array a (eqb-false (itemsIn a) 0 t₁) in
     let (number, same) = is-number 106 k (ltb-false 106 kind t₃) in
     let high : 103 ≤ kind = ltb-false kind 103 t₂ in
+    let address = address-leaf kind b t₅ in
+    let protocol = protocol-leaf kind p (eqb-false (protocolOf kind p) noProtocol t₆) in
+    let port = port-leaf kind q (ltb-false nullPort (portOf kind q) t₇) in
     let a₁ : 0 + 1 ≤ a .next = token-has s 0 .some (omega arith) in
     let k₁ : a .next + 2 ≤ k .next = token-has s (a .next) .wide (omega arith) in
-    let b₁ : k .next + 1 ≤ b .next = token-has s (k .next) .some (address-there kind b t₄) in
-    let p₁ : b .next + 1 ≤ p .next = token-has s (b .next) .some (protocol-there kind p (eqb-false (protocolOf kind p) noProtocol t₅)) in
-    let q₁ : p .next + 1 ≤ q .next = token-has s (p .next) .some (port-there kind q (ltb-false nullPort (portOf kind q) t₆)) in
-    (omega arith, token-end s (p .next)))))
-    (λ _. tt))
-    tt)))
+    let b₁ : k .next + 1 ≤ b .next = token-has s (k .next) .some (leaf-there b address) in
+    let p₁ : b .next + 1 ≤ p .next = token-has s (b .next) .some (leaf-there p protocol) in
+    let q₁ : p .next + 1 ≤ q .next = token-has s (p .next) .some (leaf-there q port) in (
+      (omega arith, token-end s (p .next)),
+      λ left. array-passes s 0 four
+          (rw (eqb-true (a .arg) 4 t₄)
+          (passes-then (passes-then (passes-then (leaf-passes s (a .next) (inl (omega arith))) (leaf-passes s (k .next) address)) (leaf-passes s (b .next) protocol)) (leaf-passes s (p .next) port))),
+    ))))
+    (λ _. (tt, tt)))
+    (λ _. (tt, tt)))))
   where
     a : Token
     a = tokenAt s 0
@@ -103,7 +118,13 @@ locator-ok base s =
     q = tokenAt s (p .next)
 
     P : LocatorRead → Type 0
-    P = LocatorOk (length s)
+    P r = LocatorOk (length s) r × LocatorWalked s r
+
+locator-ok : (base : ℕ) (s : List ℕ) → LocatorOk (length s) (locatorIn base s)
+locator-ok base s = locator-told base s .0
+
+pub locator-walked : (base : ℕ) (s : List ℕ) → LocatorWalked s (locatorIn base s)
+locator-walked base s = locator-told base s .1
 
 -- ---- objectives
 -- an objective whose name, and whose count's head, lie before `end`
@@ -118,20 +139,33 @@ abbrev pub ObjectiveOk : ℕ → ℕ → ObjectiveRead → Type 0
 ObjectiveOk base room (ObjectiveRead.Bad place) = Unit {0}
 ObjectiveOk base room (ObjectiveRead.Got o size bad long) = ObjectiveParts (base + room) o × (4 ≤ size) × (size ≤ room)
 
+-- the walk passes over an objective, of its own level and those of its value
+abbrev pub ObjectiveWalked : ℕ → List ℕ → ObjectiveRead → Type 0
+ObjectiveWalked levels s (ObjectiveRead.Bad place) = Unit {0}
+ObjectiveWalked levels s (ObjectiveRead.Got o size bad long) = Passes (suc (leftUnder levels)) 1 s 0 size
+
 -- it has four bytes at least: one for its own head, its name, its flags and its count
-pub objective-ok : (levels base : ℕ) (s : List ℕ) → ObjectiveOk base (length s) (objectiveIn levels base s)
+objective-told : (levels base : ℕ) (s : List ℕ) → ObjectiveOk base (length s) (objectiveIn levels base s) × ObjectiveWalked levels s (objectiveIn levels base s)
 unfolding objectiveIn objectiveNamed objectiveFrom
-objective-ok levels base s =
-    pick-case P (eqb (itemsIn a) 0) (λ _. tt)
+objective-told levels base s =
+    pick-case P (eqb (itemsIn a) 0) (λ _. (tt, tt))
     (λ t₁. pick-case P (eqb (n .major) 3)
-    (λ t₂. both P (ltb (a .arg) 3) tt (both P (ltb 4 (a .arg)) tt
-    (pick-case P (ltb 15 (upTo 15 f)) (λ _. tt)
-    (λ t₃. pick-case P (ltb 255 (upTo 255 c)) (λ _. tt)
-    (λ t₄.
-    let made = got (is-array a (eqb-false (itemsIn a) 0 t₁)) (eqb-true (n .major) 3 t₂) (ltb-false 15 (upTo 15 f) t₃) (ltb-false 255 (upTo 255 c) t₄) in
-    let (parts, four, end) = made (sizeAt levels s (c .next)) in
-    both P (eqb (a .arg) 3) (made 0) (both P (eqb (sizeAt levels s (c .next)) 0) tt (parts, omega arith, omega (arith, size-le levels s (c .next)))))))))
-    (λ _. tt))
+    (λ t₂. pick-case P (ltb (a .arg) 3) (λ _. (tt, tt))
+    (λ t₃. pick-case P (ltb 4 (a .arg)) (λ _. (tt, tt))
+    (λ t₄. pick-case P (ltb 15 (upTo 15 f)) (λ _. (tt, tt))
+    (λ t₅. pick-case P (ltb 255 (upTo 255 c)) (λ _. (tt, tt))
+    (λ t₆.
+    let array : a .major ≡ 4 = is-array a (eqb-false (itemsIn a) 0 t₁) in
+    let made = got array (eqb-true (n .major) 3 t₂) (ltb-false 15 (upTo 15 f) t₅) (ltb-false 255 (upTo 255 c) t₆) in
+    let (parts, four, end, three) = made len in
+    pick-case P (eqb (a .arg) 3) (λ t₇. ((made 0 .0, four, end), array-passes s 0 array (rw (eqb-true (a .arg) 3 t₇) three)))
+    (λ t₇. pick-case P (eqb len 0) (λ _. (tt, tt))
+    (λ t₈.
+    let items : a .arg ≡ 4 = omega (arith, ltb-false (a .arg) 3 t₃, ltb-false 4 (a .arg) t₄, eqb-false (a .arg) 3 t₇) in (
+      (parts, omega arith, omega (arith, size-le levels s (c .next))),
+      array-passes s 0 array (rw items (passes-then three (size-passes levels s (c .next) (eqb-false len 0 t₈)))),
+    ))))))))
+    (λ _. (tt, tt)))
   where
     a : Token
     a = tokenAt s 0
@@ -145,10 +179,14 @@ objective-ok levels base s =
     c : Token
     c = tokenAt s (f .next)
 
-    P : ObjectiveRead → Type 0
-    P = ObjectiveOk base (length s)
+    len : ℕ
+    len = sizeAt levels s (c .next)
 
-    got : a .major ≡ 4 → n .major ≡ 3 → upTo 15 f ≤ 15 → upTo 255 c ≤ 255 → (len : ℕ) → ObjectiveParts (base + length s) (objectiveFrom base n (upTo 15 f) c (upTo 255 c) len) × (4 ≤ c .next) × (c .next ≤ length s)
+    P : ObjectiveRead → Type 0
+    P r = ObjectiveOk base (length s) r × ObjectiveWalked levels s r
+
+    got : a .major ≡ 4 → n .major ≡ 3 → upTo 15 f ≤ 15 → upTo 255 c ≤ 255 → (len : ℕ)
+        → ObjectiveParts (base + length s) (objectiveFrom base n (upTo 15 f) c (upTo 255 c) len) × (4 ≤ c .next) × (c .next ≤ length s) × Passes (leftUnder levels) 3 s (a .next) (c .next)
     got array is-text few byte len =
         let (flags, _) = is-number 15 f few in
         let (number, same) = is-number 255 c byte in
@@ -167,7 +205,14 @@ objective-ok levels base s =
           },
           omega arith,
           token-end s (f .next),
+          passes-then (passes-then (leaf-passes s (a .next) (inl (omega arith))) (leaf-passes s (n .next) (inl (omega arith)))) (leaf-passes s (f .next) (inl (omega arith))),
         )
+
+objective-ok : (levels base : ℕ) (s : List ℕ) → ObjectiveOk base (length s) (objectiveIn levels base s)
+objective-ok levels base s = objective-told levels base s .0
+
+pub objective-walked : (levels base : ℕ) (s : List ℕ) → ObjectiveWalked levels s (objectiveIn levels base s)
+objective-walked levels base s = objective-told levels base s .1
 
 -- ---- pairs
 abbrev pub PairOk : ℕ → ℕ → PairRead → Type 0
@@ -203,42 +248,69 @@ locator-within s base at r x e q = rw (length-drop at s) at (subst (LocatorOk (l
 pub objective-within : (levels : ℕ) (s : List ℕ) (base at : ℕ) (r x : ObjectiveRead) → r ≡ objectiveIn levels base (drop at s) → r ≡ x → ObjectiveOk base (length s - at) x
 objective-within levels s base at r x e q = rw (length-drop at s) at (subst (ObjectiveOk base (length (drop at s))) (sym e ∙ q) (objective-ok levels base (drop at s)))
 
+-- what the test of an empty array says
+pub empty-is : (w : Token) → isEmpty w ≡ true → (w .major ≡ 4) × (w .arg ≡ 0)
+unfolding isEmpty
+empty-is w q =
+    let (e, f) = both-hold (eqb (w .major) 4) q in
+    (eqb-true (w .major) 4 e, eqb-true (w .arg) 0 f)
+
+-- the walk passes over a pair, of its own level and those of its objective
+abbrev pub PairWalked : List ℕ → PairRead → Type 0
+PairWalked s (PairRead.Bad place) = Unit {0}
+PairWalked s (PairRead.Got o t size bad long) = Passes (suc (suc (leftUnder pairLevels))) 1 s 0 size
+
 module _ (base : ℕ) (s : List ℕ) where
-  abbrev Ok : PairRead → Type 0
-  Ok = PairOk base (length s)
+  abbrev Told : PairRead → Type 0
+  Told r = PairOk base (length s) r × PairWalked s r
 
-  tagged-ok : (at : ℕ) (o : Objective) (bad long : ℕ) (x : LocatorRead) → ObjectiveParts (base + length s) o → LocatorOk (length s - at) x → Ok (pairTagged at o bad long x)
+  -- a pair whose second item is passed is passed
+  abbrev Second : ℕ → Type 0
+  Second at = (e : ℕ) → Passes (suc (leftUnder pairLevels)) 1 s at e → Passes (suc (suc (leftUnder pairLevels))) 1 s 0 e
+
+  tagged-told : (at : ℕ) (o : Objective) (bad long : ℕ) (x : LocatorRead) → ObjectiveParts (base + length s) o → LocatorOk (length s - at) x → LocatorWalked (drop at s) x → Second at
+      → Told (pairTagged at o bad long x)
   unfolding pairTagged
-  tagged-ok at o bad long (LocatorRead.Bad place) parts h = tt
-  tagged-ok at o bad long (LocatorRead.Got l size b) parts h = (parts, omega arith, omega arith)
+  tagged-told at o bad long (LocatorRead.Bad place) parts h walked close = (tt, tt)
+  tagged-told at o bad long (LocatorRead.Got l size b) parts h walked close = ((parts, omega arith, omega arith), close (at + size) (passes-within (walked (leftUnder pairLevels))))
 
-  led-ok : (n at : ℕ) (x : ObjectiveRead) → 1 ≤ at → at ≤ length s → ObjectiveOk (base + at) (length s - at) x → Ok (pairLed base s n at x)
+  led-told : (n at : ℕ) (x : ObjectiveRead) → 1 ≤ at → at ≤ length s → ObjectiveOk (base + at) (length s - at) x → ObjectiveWalked pairLevels (drop at s) x
+      → ((e : ℕ) → Passes (suc (leftUnder pairLevels)) n s at e → Passes (suc (suc (leftUnder pairLevels))) 1 s 0 e) → Told (pairLed base s n at x)
   unfolding pairLed pairTail isEmpty
-  led-ok n at (ObjectiveRead.Bad place) some low h = tt
-  led-ok n at (ObjectiveRead.Got o size bad long) some low h =
+  led-told n at (ObjectiveRead.Bad place) some low h walked close = (tt, tt)
+  led-told n at (ObjectiveRead.Got o size bad long) some low h walked close =
       let end : base + at + (length s - at) ≡ base + length s = omega arith in
       let parts = subst (λ (e : ℕ). ObjectiveParts e o) end (h .0) in
-      both Ok (eqb n 2)
-      (pick-case Ok _ (λ e. (parts, omega (arith, empty e), token-end s (at + size)))
-      (λ _. tagged-ok (at + size) o bad long _ parts (locator-within s (base + (at + size)) (at + size) _ _ refl refl)))
-      tt
+      pick-case Told (eqb n 2)
+      (λ two.
+      let second : Second (at + size) = λ e tag. close e (rw (eqb-true n 2 two) (passes-then (passes-within walked) tag)) in
+      pick-case Told _
+      (λ e.
+      let (four, none) = empty-is w e in
+      let w₁ : at + size + 1 ≤ w .next = token-has s (at + size) .some (omega arith) in
+      ((parts, omega arith, token-end s (at + size)), second (w .next) (array-passes s (at + size) four (rw none passes-none))))
+      (λ _. tagged-told (at + size) o bad long _ parts (locator-within s (base + (at + size)) (at + size) _ _ refl refl) (locator-walked (base + (at + size)) (drop (at + size) s)) second))
+      (λ _. (tt, tt))
     where
       w : Token
       w = tokenAt s (at + size)
 
-      empty : isEmpty w ≡ true → at + size + 1 ≤ w .next
-      empty =
-          pick-case (λ t. t ≡ true → at + size + 1 ≤ w .next) (eqb (w .major) 4)
-          (λ e _. token-has s (at + size) .some (omega (arith, eqb-true (w .major) 4 e))) (λ _ q. absurd (let z : _≡_ {A = ℕ} 0 1 = cc in omega arith))
-
   -- a pair has six bytes at least: one for its own head and one for its tag's
-  pub pair-ok : Ok (pairIn base s)
+  pair-told : Told (pairIn base s)
   unfolding pairIn
-  pair-ok =
+  pair-told =
       let a = tokenAt s 0 in
-      pick-case Ok (eqb (itemsIn a) 0) (λ _. tt)
-      (λ t. led-ok (a .arg) (a .next) _ (token-has s 0 .some (omega (arith, is-array a (eqb-false (itemsIn a) 0 t)))) (token-end s 0)
-      (objective-within pairLevels s (base + a .next) (a .next) _ _ refl refl))
+      pick-case Told (eqb (itemsIn a) 0) (λ _. (tt, tt))
+      (λ t.
+      let four = is-array a (eqb-false (itemsIn a) 0 t) in
+      led-told (a .arg) (a .next) _ (token-has s 0 .some (omega arith)) (token-end s 0) (objective-within pairLevels s (base + a .next) (a .next) _ _ refl refl)
+      (objective-walked pairLevels (base + a .next) (drop (a .next) s)) (λ e items. array-passes s 0 four items))
+
+  pair-ok : PairOk base (length s) (pairIn base s)
+  pair-ok = pair-told .0
+
+  pub pair-walked : PairWalked s (pairIn base s)
+  pair-walked = pair-told .1
 
 pub pair-within : (s : List ℕ) (base at : ℕ) (r x : PairRead) → r ≡ pairIn base (drop at s) → r ≡ x → PairOk base (length s - at) x
 pair-within s base at r x e q = rw (length-drop at s) at (subst (PairOk base (length (drop at s))) (sym e ∙ q) (pair-ok base (drop at s)))

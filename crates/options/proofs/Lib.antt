@@ -1,2 +1,2 @@
--- `Fits`: what is read lies within the part, and has so many bytes at least.
+-- `Fits`: what is read lies within the part, has so many bytes at least, and is passed over by the walk.
 pub mod Fits

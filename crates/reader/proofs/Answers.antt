@@ -10,7 +10,6 @@ use lib.ListN.{length}
 use lib.Dec.{eqb}
 use borrow.Author.Tests.{eq-eqb, ne-eqb, lt-ltb, le-ltb}
 use Rattle.base.specs.Pick.{pick}
-use Rattle.base.specs.BigEndian.{Bytes}
 use Rattle.cbor.specs.declared.item.ItemRead.{ItemRead}
 use Rattle.cbor.specs.Item.{firstItem}
 use Rattle.message.specs.declared.Message.{Message}
@@ -18,7 +17,7 @@ use Rattle.message.specs.declared.Reading.{Reading}
 use Rattle.message.specs.declared.Examined.{Examined}
 use Rattle.message.specs.declared.Examined.the-variants as E
 use Rattle.message.specs.Read.{mostBytes, shaped, framed, examined, placeless, readOf}
-use Rattle.exact.proofs.Shaped.{parts-walked}
+use Rattle.exact.proofs.Walked.{parts-walked}
 use Rattle.reader.specs.Walk.{walkedBy, walkedFirst}
 
 -- too short, or too long
@@ -37,9 +36,9 @@ module _ (s : List ℕ) (r : Examined) (some : length s ≢ 0) (most : length s 
   fitting = rw (ne-eqb (length s) 0 some, le-ltb mostBytes (length s) most)
 
   -- a message
-  module _ (m : Message) (end : ℕ) (bytes : Bytes s) (found : r ≡ E.Accepted m end) where
+  module _ (m : Message) (end : ℕ) (found : r ≡ E.Accepted m end) where
     walked : examined s ≡ framed s (ItemRead.Ends end)
-    walked = fitting ∙ ap (framed s) (parts-walked s bytes (sym is ∙ found))
+    walked = fitting ∙ ap (framed s) (parts-walked s (sym is ∙ found))
 
     pub read-whole : end ≡ length s → Reading.Read m ≡ readOf s
     unfolding readOf framed placeless pick
