@@ -39,7 +39,7 @@ pub passes-then : {left n n′ : ℕ} {s : List ℕ} {p m e : ℕ} → Passes le
 passes-then {n = n} {n′} h h′ =
     record { walk = λ most from k stack levels. rw (add-assoc n n′ k) (h .walk most from (n′ + k) stack levels ∙ h′ .walk most from k stack levels) }
 
--- in a part, and in the whole
+-- what is passed in a part is passed in the whole
 pub passes-within : {left n : ℕ} {s : List ℕ} {p e : ℕ} → Passes left n (drop p s) 0 e → Passes left n s p (p + e)
 passes-within {s = s} {p} {e} h =
     record { walk = λ most from k stack levels. rw (← add-assoc from p e, ← drop-drop e p s) (rw (add-zero (from + p)) at (h .walk most (from + p) k stack levels)) }
@@ -76,7 +76,7 @@ step-opens left s p len n e answer h =
 abbrev pub Leaf : Token → Type 0
 Leaf t = (t .major < 4) ⊎ (t .major ≡ 7)
 
--- is there
+-- a leaf is there
 pub leaf-there : (t : Token) → Leaf t → t .major < 8
 leaf-there t (inl low) = omega arith
 leaf-there t (inr seven) = omega arith
@@ -133,6 +133,7 @@ walked-from p room (HeadRead.Head major arg len) =
     back = omega arith
 
 module _ (s : List ℕ) (p : ℕ) where
+  -- so is the head at p
   token-walked : Walked p (λ left. stepAt left (drop p s)) (tokenAt s p)
   unfolding stepAt tokenAt
   token-walked = walked-from p (length (drop p s)) (headAt (drop p s))
@@ -141,18 +142,19 @@ module _ (s : List ℕ) (p : ℕ) where
   forward : tokenAt s p .major < 8 → p + (tokenAt s p .next - p) ≡ tokenAt s p .next
   forward there = omega (arith, token-has s p .some there)
 
-  -- a leaf
+  -- a leaf is passed
   pub leaf-passes : {left : ℕ} → Leaf (tokenAt s p) → Passes left 1 s p (tokenAt s p .next)
   leaf-passes {left} is = subst (Passes left 1 s p) (forward (leaf-there (tokenAt s p) is)) (step-passes left s p _ (token-walked .leaf left is))
 
-  -- an array, by its items
+  -- an array is passed where its items are
   pub array-passes : {left e : ℕ} → tokenAt s p .major ≡ 4 → Passes left (tokenAt s p .arg) s (tokenAt s p .next) e → Passes (suc left) 1 s p e
   array-passes {left} {e} four h =
       step-opens left s p _ _ e (token-walked .array left four) (subst (λ (m : ℕ). Passes left (tokenAt s p .arg) s m e) (sym (forward (omega arith))) h)
 
 -- ---- an item of any sort
--- the walk of a whole, with a count and what is above it on its stack, is the same walk where more is open around
+-- where a walk ends, the same walk goes on with what is open around it, as long as as many levels may open
 module _ (left most from e k : ℕ) (s stack : List ℕ) (levels : most ≡ left + length stack) where
+  -- with c items left, and what is open above them
   abbrev Around : ℕ → List ℕ → ℕ → Type 0
   Around p above c = runs most (from + p) (drop p s) (above ++ (c + k) ∷ stack) ≡ runs most (from + e) (drop e s) (k ∷ stack)
 
@@ -166,6 +168,7 @@ module _ (left most from e k : ℕ) (s stack : List ℕ) (levels : most ≡ left
   stepped f p c above (Step.Passed len) go q = rw (add-assoc from p len, drop-drop len p s) (go len [] (rw (drop-drop len p s) at q))
   stepped f p c above (Step.Opened len n pairs) go q = rw (add-assoc from p len, drop-drop len p s) (go len (itemsOf n pairs ∷ []) (rw (drop-drop len p s) at q))
 
+  -- turn by turn
   around : (f p : ℕ) (above : List ℕ) (c : ℕ) → run left f p (drop p s) (above ++ c ∷ []) ≡ ItemRead.Ends e → Around p above c
   unfolding run
   around zero p above c q = absurd (never 0 0 e q)
@@ -186,25 +189,25 @@ module _ (left most from e k : ℕ) (s stack : List ℕ) (levels : most ≡ left
       ∙ rw here (stepped f p c (n ∷ above) (stepAt (left - length (above ++ c ∷ [])) (drop p s))
       (λ len new. around f (p + len) (new ++ n ∷ above) c) q)
 
--- an item from the start
-pub item-passes : (levels : ℕ) (s : List ℕ) (e : ℕ) → firstItem levels s ≡ ItemRead.Ends e → Passes (leftUnder levels) 1 s 0 e
+-- the first item is passed
+item-passes : (levels : ℕ) (s : List ℕ) (e : ℕ) → firstItem levels s ≡ ItemRead.Ends e → Passes (leftUnder levels) 1 s 0 e
 unfolding firstItem
 item-passes levels s e q = record { walk = λ most from k stack same. around (leftUnder levels) most from e k s stack same _ 0 [] 1 q }
 
--- is where the walk ends
+-- and the walk ends where it is passed
 pub passes-item : (levels : ℕ) (s : List ℕ) (e : ℕ) → Passes (leftUnder levels) 1 s 0 e → firstItem levels s ≡ ItemRead.Ends e
 unfolding firstItem
 passes-item levels s e h =
     let most = leftUnder levels in
     h .walk most 0 0 [] (sym (add-zero most)) ∙ rw (zero-add e) (runs-close most e (drop e s) [] ∙ runs-end most e (drop e s))
 
--- a size that is read is where it ends
+-- an item ends where its size says
 pub size-ends : (x : ItemRead) → (sizeFrom x ≡ 0 → ⊥) → x ≡ ItemRead.Ends (sizeFrom x)
 unfolding sizeFrom
 size-ends (ItemRead.Refused number place) some = absurd (some refl)
 size-ends (ItemRead.Ends end) some = refl
 
--- an item passed over
+-- an item whose size is read is passed
 pub size-passes : (levels : ℕ) (s : List ℕ) (p : ℕ) → (sizeAt levels s p ≡ 0 → ⊥) → Passes (leftUnder levels) 1 s p (p + sizeAt levels s p)
 unfolding sizeAt
 size-passes levels s p some = passes-within (item-passes levels (drop p s) _ (size-ends (firstItem levels (drop p s)) some))

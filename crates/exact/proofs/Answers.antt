@@ -1,13 +1,12 @@
 -- What `examined` answers of any bytes: one item that is the whole is what it is by its shape; the other answers have their reasons.
 -- Assumes nothing.
-use mathlib.Core.Path.{_≡_, refl, sym, ap, _∙_, subst}
+use mathlib.Core.Path.{_≡_, refl, sym, ap, _∙_}
 use mathlib.Core.Logic.{_⊎_, inl, inr, _↔_}
-use mathlib.Core.List.{List, [], _++_, append-nil}
+use mathlib.Core.List.{List, [], append-nil}
 use Prim.Native.Nat.{ℕ, _≤_, _<_}
-use native.Mathlib.Nat.{le-refl}
 use native.Mathlib.Omega.{arith}
 use lib.ListN.{length}
-use lib.Seq.{take-length, drop-length}
+use lib.Seq.{take-length}
 use lib.Dec.{ltb, eqb}
 use borrow.Author.Tests.{ltb-true, ltb-false, eqb-true, eqb-false, ne-eqb, eq-eqb, le-ltb}
 use Rattle.base.specs.Pick.{pick}
@@ -15,16 +14,14 @@ use Rattle.base.specs.BigEndian.{Bytes}
 use Rattle.base.proofs.Picks.{pick-case}
 use Rattle.cbor.specs.declared.item.ItemRead.{ItemRead}
 use Rattle.cbor.specs.Item.{mostLevels, firstItem}
-use Rattle.cbor.specs.Tree.{Item, Good, encode, ItemIs}
+use Rattle.cbor.specs.Tree.{encode, ItemIs}
 use Rattle.cbor.specs.Fault.{FirstFault}
 use Rattle.cbor.proofs.Accepts.{item-accepts}
 use Rattle.cbor.proofs.Exact.{item-exact}
-use Rattle.cbor.proofs.Unique.{unique}
 use Rattle.cbor.proofs.Refuses.{refusal-sound}
 use Rattle.syntax.specs.Message.{Msg}
-use Rattle.grammar.specs.Cddl.{MessageItem, Value}
+use Rattle.grammar.specs.Cddl.{Value}
 use Rattle.grammar.specs.Limits.{TextsGood, NamesGood}
-use Rattle.grammar.specs.Stands.{Stands}
 use Rattle.grammar.proofs.Bridge.{advances}
 use Rattle.message.specs.declared.Message.{Message}
 use Rattle.message.specs.declared.shape.Shape.the-variants as S
@@ -34,29 +31,12 @@ use Rattle.message.specs.Read.{mostBytes, judgedShape, shaped, framed, examined
 use Rattle.exact.specs.Describes.{Describes}
 use Rattle.exact.specs.Accepted.{OneItem, IsMessage, Accepted}
 use Rattle.exact.specs.Rows.{Fits, UnknownKind}
-use Rattle.exact.proofs.Whole.{WholeIs, fills}
-use Rattle.exact.proofs.Shaped.{shaped-case, unknown-there, shape-complete}
-use Rattle.exact.proofs.Bytes.{bytes-encode}
+use Rattle.exact.proofs.Whole.{stands, WholeIs}
+use Rattle.exact.proofs.Shaped.{shaped-case, shape-complete}
 use Rattle.exact.proofs.Once.{message-one}
 
 -- ---- one item that is the whole
--- bytes are the encoding of one item at most
-pub item-once : {s : List ℕ} (x y : Item) → Good x → Good y → encode x ≡ s → encode y ≡ s → x ≡ y
-item-once x y g h e f = unique x y [] [] g h (ap (λ (l : List ℕ). l ++ []) (e ∙ sym f))
-
 module _ {s : List ℕ} (one : OneItem s) where
-  pub stands : Stands s 0 (length s) (one .item)
-  stands =
-      record {
-        good = one .good;
-        is = sym (ap (λ (r : List ℕ). encode (one .item) ++ r) (drop-length s) ∙ append-nil (encode (one .item)) ∙ one .bytes);
-        end = omega (arith, ap length (one .bytes));
-        within = le-refl (length s);
-      }
-
-  pub one-bytes : Bytes s
-  one-bytes = subst Bytes (one .bytes) (bytes-encode (one .item) (one .good))
-
   pub walked : firstItem 0 s ≡ ItemRead.Ends (length s)
   walked =
       ap (firstItem 0) (sym (append-nil (encode (one .item)) ∙ one .bytes)) ∙ item-accepts 0 (one .item) [] (one .good) (one .shallow)
@@ -66,7 +46,7 @@ module _ {s : List ℕ} (one : OneItem s) where
   pub examined-one : examined s ≡ shaped s
   unfolding examined framed pick
   examined-one =
-      rw (ne-eqb (length s) 0 (λ z. omega (arith, advances stands)), le-ltb mostBytes (length s) (one .most), walked, eq-eqb (length s) (length s) refl)
+      rw (ne-eqb (length s) 0 (λ z. omega (arith, advances (stands one))), le-ltb mostBytes (length s) (one .most), walked, eq-eqb (length s) (length s) refl)
 
 -- ---- one message
 -- what is read of it, and its description
@@ -94,14 +74,12 @@ judged-number m end bad long {number} {place} =
 pub message-shape : {s : List ℕ} (i : IsMessage s) → MessageShape s (i .msg)
 message-shape {s} i =
     let one = i .one in
-    let b = one-bytes one in
     let r = shape-complete (stands one) (one .shallow) (i .is) in
-    shaped-case b (λ (x : Examined). shaped s ≡ x → MessageShape s (i .msg))
+    shaped-case one (λ (x : Examined). shaped s ≡ x → MessageShape s (i .msg))
     (λ place u e. absurd (omega (arith, judged-number (r .message) (r .end) (r .bad) (r .long) (sym (r .is) ∙ e))))
     (λ place e. absurd (omega (arith, judged-number (r .message) (r .end) (r .bad) (r .long) (sym (r .is) ∙ e))))
-    (λ m end bad long shape e.
-    let h = fills (walked one) shape in
-    let same : h .msg ≡ i .msg = message-one (subst (λ (x : Item). MessageItem x (h .msg)) (item-once (h .item) (one .item) (h .good) (one .good) (h .bytes) (one .bytes)) (h .is)) (i .is) in
+    (λ m end bad long h e.
+    let same : h .msg ≡ i .msg = message-one (h .is) (i .is) in
     record {
       message = m;
       end = end;
@@ -127,10 +105,9 @@ pub data Answer (s : List ℕ) : Examined → Type 0 where
   read : {m : Message} {end : ℕ} (a : Accepted s) → Describes s m (a .message .msg) → Answer s (E.Accepted m end)
 
 -- the answer by what was noted
-judged-answer : {s : List ℕ} (m : Message) (end bad long : ℕ) → length s ≤ mostBytes → WholeIs s m bad long → Answer s (judgedShape (S.Good m end bad long))
+judged-answer : {s : List ℕ} (one : OneItem s) (m : Message) (end bad long : ℕ) → WholeIs one m bad long → Answer s (judgedShape (S.Good m end bad long))
 unfolding judgedShape
-judged-answer {s} m end bad long most h =
-    let one : OneItem s = record { item = h .item; bytes = h .bytes; most = most; good = h .good; shallow = h .shallow } in
+judged-answer {s} one m end bad long h =
     let i : IsMessage s = record { one = one; msg = h .msg; is = h .is } in
     pick-case (Answer s) (eqb bad 0)
     (λ e.
@@ -150,8 +127,7 @@ module _ {s : List ℕ} (b : Bytes s) where
       let whole : firstItem 0 s ≡ ItemRead.Ends (length s) = e ∙ ap ItemRead.Ends (eqb-true end (length s) t) in
       let i = item-exact 0 s (length s) b whole in
       let one : OneItem s = record { item = i .item; bytes = sym (i .bytes) ∙ take-length s; most = fits .most; good = i .good; shallow = i .shallow } in
-      shaped-case b (Answer s) (λ place u. Answer.kind one (unknown-there (stands one) u)) (λ place. Answer.shape one)
-      (λ m end bad long h. judged-answer m end bad long (fits .most) (fills whole h)))
+      shaped-case one (Answer s) (λ place u. Answer.kind one u) (λ place. Answer.shape one) (judged-answer one))
       (λ t.
       let i = item-exact 0 s end b e in
       Answer.more fits i (omega (arith, i .within, eqb-false end (length s) t)))

@@ -20,7 +20,8 @@ use Rattle.exact.specs.Accepted.{IsMessage, Accepted}
 use Rattle.exact.proofs.Bytes.{bytes-encode}
 use Rattle.exact.proofs.Once.{message-one}
 use Rattle.exact.proofs.Described.{described-once}
-use Rattle.exact.proofs.Answers.{item-once, message-shape, Answer, answer}
+use Rattle.exact.proofs.Whole.{stands, only-one}
+use Rattle.exact.proofs.Answers.{message-shape, Answer, answer}
 
 -- an answer that is a message
 read-answer : {s : List ℕ} {m : Message} (r : Examined) → Answer s r → placeless r ≡ Reading.Read m → (a : Accepted s) × Describes s m (a .message .msg)
@@ -52,7 +53,7 @@ accepted-bytes s a = subst Bytes (a .message .one .bytes) (bytes-encode (a .mess
 -- Bytes are one message only.
 pub message-once : (s : List ℕ) (a b : IsMessage s) → (a .one .item ≡ b .one .item) × (a .msg ≡ b .msg)
 message-once s a b =
-    let same = item-once (a .one .item) (b .one .item) (a .one .good) (b .one .good) (a .one .bytes) (b .one .bytes) in
+    let same = only-one (b .one) (stands (a .one)) in
     (same, message-one (subst (λ (x : Item). MessageItem x (a .msg)) same (a .is)) (b .is))
 
 -- And what is read describes it: its numbers, and where its parts stand.

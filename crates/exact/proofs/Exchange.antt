@@ -3,7 +3,6 @@
 use mathlib.Core.Path.{_≡_, refl, sym, subst}
 use mathlib.Core.List.{List, [], _∷_}
 use Prim.Native.Nat.{ℕ, _≤_}
-use native.Mathlib.Omega.{arith}
 use lib.ListN.{length}
 use borrow.Author.Tests.{eqb-true}
 use Rattle.base.specs.Pick.{pick}
@@ -30,11 +29,11 @@ use Rattle.exact.proofs.Heads.{NumberHere, number-is-here, InitiatorHer
 -- the objective
 discovered-sound : {s : List ℕ} {at p q session : ℕ} {i : Span} → Kinded s 1 4 at → NumberHere s at p session → InitiatorHere s p q i
     → (x : ObjectiveRead) → objectiveAt objectiveLevels s q ≡ x → ShapeOk s (discovered session i q x)
-unfolding discovered count depth textsOf namesOf
+unfolding discovered count textsOf namesOf
 discovered-sound k i j (ObjectiveRead.Bad place) e = ShapeOk.bad
 discovered-sound {s} {q = q} k i j (ObjectiveRead.Got o size bad long) e =
     let x = objective-sound objectiveLevels s q o size bad long (j .stands .within) (k .bytes) e in
-    built k _ _ (Msg.discovery _ (j .content) (x .obj)) refl (join (i .stands) (join (j .stands) (last (x .stands)))) (omega (arith, x .shallow))
+    built k _ _ (Msg.discovery _ (j .content) (x .obj)) refl (join (i .stands) (join (j .stands) (last (x .stands))))
     (λ w v. MessageItem.discovery (Number.number (i .low)) (Initiator.initiator (j .size)) (x .is))
     (λ full. Describes.discovery (kind-is k) (number-is-here i) (initiator-is j) (subst (λ (e : ℕ). ObjectiveIs s q e o (x .obj)) full (x .described))) (single (x .texts)) (single (x .names))
 
@@ -79,11 +78,11 @@ record Exchange (kind : ℕ) : Type 0 where
 -- the objective
 exchanged-sound : {s : List ℕ} {kind at p session : ℕ} → Exchange kind → Kinded s kind 3 at → NumberHere s at p session
     → (x : ObjectiveRead) → objectiveAt objectiveLevels s p ≡ x → ShapeOk s (exchanged kind session p x)
-unfolding exchanged count depth
+unfolding exchanged count
 exchanged-sound c k i (ObjectiveRead.Bad place) e = ShapeOk.bad
 exchanged-sound {s} {kind} {at} {p} {session} c k i (ObjectiveRead.Got o size bad long) e =
     let x = objective-sound objectiveLevels s p o size bad long (i .stands .within) (k .bytes) e in
-    built k _ _ (c .msg session (x .obj)) refl (join (i .stands) (last (x .stands))) (omega (arith, x .shallow))
+    built k _ _ (c .msg session (x .obj)) refl (join (i .stands) (last (x .stands)))
     (λ w v. c .item w v session _ _ (x .obj) (Number.number (i .low)) (x .is))
     (λ full. c .tells s at p session o (x .obj) (kind-is k) (number-is-here i) (subst (λ (e : ℕ). ObjectiveIs s p e o (x .obj)) full (x .described)))
     (rw (c .texts) (single (x .texts))) (rw (c .names) (single (x .names)))

@@ -39,7 +39,6 @@ record PairsHere (s : List ℕ) (p n bad long end bad′ long′ : ℕ) : Type 0
   pairs : List (Pair Value)
   are : PairItems items pairs
   stand : StandAll s p end items
-  shallow : depths items ≤ partLevels
   counted : n ≡ count items
   texts : bad′ ≡ 0 ↔ (bad ≡ 0) × Every Utf8 (flatMap pairTexts pairs)
   names : long′ ≡ 0 ↔ (long ≡ 0) × Every Short (map pairName pairs)
@@ -52,7 +51,7 @@ data PairsOk (s : List ℕ) (p n bad long : ℕ) : PairsRead → Type 0 where
 -- one pair, and then others
 one-more : {s : List ℕ} {p e n bad long bad′ long′ : ℕ} {o : Objective} {t : Tag} {r : PairsRead} → PairStands s p e o t bad′ long′
     → PairsOk s e n (firstOf bad bad′) (firstOf long long′) r → PairsOk s p (suc n) bad long r
-unfolding count depth flatMap
+unfolding count flatMap
 one-more i PairsOk.refused = PairsOk.refused
 one-more i (PairsOk.ran h) =
     PairsOk.ran
@@ -61,7 +60,6 @@ one-more i (PairsOk.ran h) =
       pairs = i .pair ∷ h .pairs;
       are = PairItems.more (i .is) (h .are);
       stand = join (i .stands) (h .stand);
-      shallow = omega (arith, i .shallow, h .shallow);
       counted = ap suc (h .counted);
       texts = more-noted Utf8 (pairTexts (i .pair)) (flatMap pairTexts (h .pairs)) (i .texts) (h .texts);
       names = more-noted Short (i .pair .0 .name ∷ []) (map pairName (h .pairs)) (single (i .names)) (h .names);
@@ -79,22 +77,22 @@ module _ {s : List ℕ} (b : Bytes s) where
 
   -- pairs stand one after the other where they are read
   pairs-sound : (n p bad long : ℕ) → p ≤ length s → PairsOk s p n bad long (pairsFrom s n p bad long)
-  unfolding pairsFrom count depth flatMap
+  unfolding pairsFrom count flatMap
   pairs-sound zero p bad long low =
-      PairsOk.ran (record { items = Items.done; pairs = []; are = PairItems.empty; stand = none low; shallow = omega arith; counted = refl; texts = none-noted; names = none-noted })
+      PairsOk.ran (record { items = Items.done; pairs = []; are = PairItems.empty; stand = none low; counted = refl; texts = none-noted; names = none-noted })
   pairs-sound (suc n) p bad long low = next-sound low (pairs-sound n) _ refl
 
 module _ {s : List ℕ} {n at next : ℕ} (k : Kinded s 9 n at) {opening : Opening} (h : OpeningHere s at next opening) {parts : ℕ} (counted : n ≡ 4 + parts) (some : 1 ≤ parts) where
   -- the first pair and the others are the message
   flooded-by-sound : {e bad long : ℕ} {first : Objective} {t : Tag} → PairStands s next e first t bad long → (x : PairsRead) → PairsOk s e (parts - 1) bad long x
       → ShapeOk s (floodedBy opening first (record { at = next; many = parts }) x)
-  unfolding floodedBy count depth textsOf namesOf flatMap
+  unfolding floodedBy count textsOf namesOf flatMap
   flooded-by-sound i _ PairsOk.refused = ShapeOk.bad
   flooded-by-sound i _ (PairsOk.ran r) =
       let pairs = PairItems.more (i .is) (r .are) in
       let stand = join (i .stands) (r .stand) in
       built k _ _ (Msg.flood _ (h .initiator .content) _ (i .pair ∷ r .pairs)) (omega (arith, r .counted))
-      (join (h .session .stands) (join (h .initiator .stands) (join (h .ttl .stands) stand))) (omega (arith, i .shallow, r .shallow))
+      (join (h .session .stands) (join (h .initiator .stands) (join (h .ttl .stands) stand)))
       (λ w v. MessageItem.flood (Number.number (h .session .low)) (Initiator.initiator (h .initiator .size)) (Number.number (h .ttl .low)) pairs)
       (λ full. Describes.flood (kind-is k) (number-is-here (h .session)) (initiator-is (h .initiator)) (number-is-here (h .ttl))
       (record { items = Items.more (i .item) (r .items); stand = subst (λ (e : ℕ). StandAll s next e (Items.more (i .item) (r .items))) full stand; many = omega (arith, r .counted); are = pairs }) (i .opened) (i .objective))

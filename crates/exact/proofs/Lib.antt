@@ -4,9 +4,10 @@ pub mod Refused
 -- Their proof: what any bytes are answered; what one item is answered, of all kinds; that it is one message only, described in one way.
 pub mod Answers
 pub mod Shaped
-pub mod Walked
 pub mod Once
 pub mod Described
+-- The walk ends where a message's parts end, of any list of numbers.
+pub mod Walked
 -- The kinds, each both ways.
 pub mod Plain
 pub mod Exchange

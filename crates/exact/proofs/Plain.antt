@@ -36,10 +36,10 @@ use Rattle.exact.proofs.Heads.{number-is-here, NumberHere, number-at-mo
 -- ---- 0, Noop
 -- what is read is a Noop
 pub noop-sound : {s : List ℕ} {n at : ℕ} → Kinded s 0 n at → ShapeOk s (noopAt n at)
-unfolding noopAt count depth textsOf namesOf
+unfolding noopAt count textsOf namesOf
 noop-sound {n = n} k =
     held-case _
-    (λ one. built k _ Items.done Msg.noop (eqb-true n 1 one) (no-items (k .lead .within)) (omega arith) (λ w v. MessageItem.noop) (λ _. Describes.noop) (clean tt) (clean tt))
+    (λ one. built k _ Items.done Msg.noop (eqb-true n 1 one) (no-items (k .lead .within)) (λ w v. MessageItem.noop) (λ _. Describes.noop) (clean tt) (clean tt))
 
 -- a Noop is read
 pub noop-complete : (at : ℕ) → Reads (noopAt 1 at)
@@ -49,7 +49,7 @@ noop-complete at = taken _ refl Reads.reads
 -- ---- 7, Wait
 -- what is read is a Wait
 pub wait-sound : {s : List ℕ} {n at : ℕ} → Kinded s 7 n at → ShapeOk s (waitAt s n at)
-unfolding waitAt count depth textsOf namesOf
+unfolding waitAt count textsOf namesOf
 wait-sound {n = n} k =
     held-case _
     (λ three. past-case _
@@ -57,7 +57,7 @@ wait-sound {n = n} k =
     (λ e′.
     let i = number-at-most (k .bytes) (k .lead .within) e in
     let t = number-at-most (k .bytes) (i .stands .within) e′ in
-    built k _ _ (Msg.wait _ _) (eqb-true n 3 three) (join (i .stands) (last (t .stands))) (omega arith)
+    built k _ _ (Msg.wait _ _) (eqb-true n 3 three) (join (i .stands) (last (t .stands)))
     (λ w v. MessageItem.wait (Number.number (i .low)) (Number.number (t .low))) (λ _. Describes.wait) (clean tt) (clean tt))))
 
 -- a Wait is read
@@ -71,7 +71,7 @@ wait-complete a i j =
 -- ---- 99, Invalid
 -- what is read is an Invalid
 pub invalid-sound : {s : List ℕ} {n at : ℕ} → Kinded s 99 n at → ShapeOk s (invalidAt s n at)
-unfolding invalidAt count depth textsOf namesOf
+unfolding invalidAt count textsOf namesOf
 invalid-sound {s} {n} {at} k =
     past-case _
     (λ lo. past-case _
@@ -82,13 +82,13 @@ invalid-sound {s} {n} {at} k =
     let few : 2 ≤ n = ltb-false n 2 lo in
     let most : n ≤ 3 = ltb-false 3 n hi in
     pick-case (ShapeOk s) _
-    (λ two. built k _ _ (Msg.invalid _ none) (eqb-true n 2 two) (last (i .stands)) (omega arith) (λ w v. MessageItem.invalid (Number.number (i .low)))
+    (λ two. built k _ _ (Msg.invalid _ none) (eqb-true n 2 two) (last (i .stands)) (λ w v. MessageItem.invalid (Number.number (i .low)))
     (λ full. Describes.invalid (kind-is k) (number-is-here i) (ValueIs.absent refl) (omega arith)) (clean tt) (clean tt))
     (λ more. past-case _
     (λ some-len.
-    let v = sized-item 1 s p (k .bytes) (eqb-false (sizeAt 1 s p) 0 some-len) in
-    built k _ _ (Msg.invalid _ (some (v .item))) (omega (arith, eqb-false n 2 more)) (join (i .stands) (last (v .stands))) (omega (arith, v .is))
-    (λ w v. MessageItem.invalid-with (Number.number (i .low))) (λ full. Describes.invalid (kind-is k) (number-is-here i) (ValueIs.present (v .stands)) full) (clean tt) (clean tt))))))
+    let (item, there) = sized-item 1 s p (k .bytes) (eqb-false (sizeAt 1 s p) 0 some-len) in
+    built k _ _ (Msg.invalid _ (some item)) (omega (arith, eqb-false n 2 more)) (join (i .stands) (last there))
+    (λ w v. MessageItem.invalid-with (Number.number (i .low))) (λ full. Describes.invalid (kind-is k) (number-is-here i) (ValueIs.present there) full) (clean tt) (clean tt))))))
 
 -- an Invalid without an item is read
 pub invalid-complete : {s : List ℕ} {at e session : ℕ} {x : Item} → StandAll s at e (list (x ∷ [])) → Number x session → Reads (invalidAt s 2 at)
@@ -105,20 +105,13 @@ invalid-with-complete {s} {at} {e} {y = y} a i d =
     skipped _ refl (skipped _ refl (skipped _ t (skipped _ refl (skipped _ (ne-eqb (sizeAt 1 s p) 0 (item-sized 1 (only b) d .1)) Reads.reads))))
 
 -- ---- 6, End
--- an accept or a decline has one level
-ending-depth : {x : Item} {ending : Ending} → EndingItem x ending → depth x ≤ 1
-unfolding depth
-ending-depth EndingItem.accept = omega arith
-ending-depth EndingItem.decline = omega arith
-ending-depth EndingItem.reason = omega arith
-
 module _ {s : List ℕ} {at p session : ℕ} (k : Kinded s 6 3 at) (i : NumberHere s at p session) where
   -- the session and the option are the message
   ended : {e bad : ℕ} {x : Item} {outcome : Outcome} {ending : Ending} → Stands s p e x → EndingItem x ending → (e ≡ length s → OutcomeIs s outcome ending)
       → bad ≡ 0 ↔ Every Utf8 (endingTexts ending) → ShapeOk s (S.Good (M.End session outcome) e bad 0)
-  unfolding count depth textsOf namesOf
+  unfolding count textsOf namesOf
   ended {e} {x = x} {ending = ending} stands is described texts =
-      built k e _ (Msg.end session ending) refl (join (i .stands) (last stands)) (omega (arith, ending-depth is)) (λ w v. MessageItem.end (Number.number (i .low)) is)
+      built k e _ (Msg.end session ending) refl (join (i .stands) (last stands)) (λ w v. MessageItem.end (Number.number (i .low)) is)
       (λ full. Describes.end (described full)) texts (clean tt)
 
   -- what is read is an accept or a decline

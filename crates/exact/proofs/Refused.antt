@@ -10,10 +10,8 @@ use borrow.Author.Tests.{eq-eqb, ne-eqb, lt-ltb, le-ltb}
 use Rattle.base.specs.Pick.{pick}
 use Rattle.base.specs.BigEndian.{Bytes}
 use Rattle.cbor.specs.Item.{firstItem}
-use Rattle.cbor.specs.Tree.{Item}
 use Rattle.cbor.proofs.Accepts.{item-found}
 use Rattle.cbor.proofs.Refuses.{refusal-complete}
-use Rattle.grammar.specs.Cddl.{MessageItem}
 use Rattle.message.specs.declared.Message.{Message}
 use Rattle.message.specs.declared.Examined.{Examined}
 use Rattle.message.specs.declared.Examined.the-variants as E
@@ -22,9 +20,9 @@ use Rattle.message.specs.declared.Reading.{Reading}
 use Rattle.message.specs.Read.{mostBytes, judgedShape, framed, examined, placeless, readOf}
 use Rattle.exact.specs.Accepted.{Accepted}
 use Rattle.exact.specs.Rows.{Fits, Row}
-use Rattle.exact.proofs.Whole.{fills}
-use Rattle.exact.proofs.Shaped.{shaped-case, unknown-there, unknown-complete}
-use Rattle.exact.proofs.Answers.{item-once, stands, one-bytes, walked, examined-one, judged-number, message-shape, Answer, answer}
+use Rattle.exact.proofs.Whole.{stands}
+use Rattle.exact.proofs.Shaped.{shaped-case, unknown-complete}
+use Rattle.exact.proofs.Answers.{examined-one, judged-number, message-shape, Answer, answer}
 use Rattle.exact.proofs.Exact.{accepted-exactly, accepted-bytes}
 
 -- ---- the row's refusal is given
@@ -53,10 +51,8 @@ row-given s _ (Row.more {e} fits i less) =
     ap placeless (examined-fit fits ∙ ap (framed s) (item-found 0 s e i)) ∙ rw (ne-eqb e (length s) (λ z. omega arith))
 row-given s _ (Row.kind one u) = ap placeless (examined-one one ∙ unknown-complete (stands one) u .1)
 row-given s _ (Row.shape one known none) =
-    let b = one-bytes one in
     ap placeless (examined-one one)
-    ∙ shaped-case b (λ (r : Examined). placeless r ≡ Reading.Refused 9) (λ place u. absurd (known (unknown-there (stands one) u))) (λ place. refl)
-    (λ m end bad long shape. let h = fills (walked one) shape in absurd (none (h .msg) (subst (λ (x : Item). MessageItem x (h .msg)) (item-once (h .item) (one .item) (h .good) (one .good) (h .bytes) (one .bytes)) (h .is))))
+    ∙ shaped-case one (λ (r : Examined). placeless r ≡ Reading.Refused 9) (λ place u. absurd (known u)) (λ place. refl) (λ m end bad long h. absurd (none (h .msg) (h .is)))
 row-given s _ (Row.text i bad) = let h = message-shape i in ap placeless (h .is) ∙ judged-bad (h .message) (h .end) (h .bad) (h .long) (λ z. bad (h .texts .0 z))
 row-given s _ (Row.name i texts long) = let h = message-shape i in ap placeless (h .is) ∙ judged-long (h .message) (h .end) (h .bad) (h .long) (h .texts .1 texts) (λ z. long (h .names .0 z))
 

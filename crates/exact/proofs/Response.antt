@@ -23,7 +23,6 @@ use Rattle.syntax.specs.Message.{Loc, Obj, Aim, Msg}
 use Rattle.grammar.specs.Cddl.{uint, joined, Number, Initiator, LocatorItems, OptionalItems, AimItems, MessageItem, Value}
 use Rattle.grammar.specs.Limits.{Utf8, Short, locTexts, optionalNames, aimTexts, textsOf, namesOf}
 use Rattle.grammar.specs.Stands.{Stands, StandAll, ArrayHead, ObjectiveIs}
-use Rattle.grammar.proofs.Depths.{locators-depth}
 use Rattle.grammar.proofs.Objectives.{objective-sound}
 use Rattle.grammar.proofs.Bridge.{token-heading, join, none as no-items, last, split, none-end}
 use Rattle.grammar.proofs.Pieces.{array-items, array-at, array-head, number-here, number-is}
@@ -56,19 +55,12 @@ unfolding count
 count-joined Items.done ys = omega arith
 count-joined (Items.more x xs) ys = ap suc (count-joined xs ys) ∙ omega arith
 
--- and they are as deep as the deeper ones
-depths-both : (xs ys : Items) → depths xs ≤ partLevels → depths ys ≤ partLevels → depths (joined xs ys) ≤ partLevels
-unfolding depth
-depths-both Items.done ys d e = e
-depths-both (Items.more x xs) ys d e = omega (arith, depths-both xs ys (omega arith) e)
-
 -- ---- what is read stands there
 -- nothing more, or one objective
 record RestHere (s : List ℕ) (p left bad end bad′ long : ℕ) (extra : Extra) : Type 0 where
   items : Items
   obj : Option (Obj Value)
   stand : StandAll s p end items
-  shallow : depths items ≤ partLevels
   counted : left ≡ count items
   are : OptionalItems items obj
   is : end ≡ length s → ExtraIs s p extra obj
@@ -77,13 +69,13 @@ record RestHere (s : List ℕ) (p left bad end bad′ long : ℕ) (extra : Extra
 
 module _ {s : List ℕ} {n at next : ℕ} (k : Kinded s 2 n at) {opening : Opening} (h : OpeningHere s at next opening) where
   -- the opening and what follows it are the message
-  responded : {e e′ bad long : ℕ} {xs : Items} {aim : Aim} {obj : Option (Obj Value)} {targets : Targets} {extra : Extra} → n ≡ 4 + count xs → StandAll s next e xs → depths xs ≤ partLevels → AimItems xs aim obj
+  responded : {e e′ bad long : ℕ} {xs : Items} {aim : Aim} {obj : Option (Obj Value)} {targets : Targets} {extra : Extra} → n ≡ 4 + count xs → StandAll s next e xs → AimItems xs aim obj
       → AimIs s next e′ targets aim → (e ≡ length s → ExtraIs s e′ extra obj) → bad ≡ 0 ↔ Every Utf8 (aimTexts aim ++ optionalNames obj) → long ≡ 0 ↔ Every Short (optionalNames obj)
       → ShapeOk s (S.Good (responseOf opening targets extra) e bad long)
-  unfolding count depth textsOf namesOf
-  responded {aim = aim} {obj} counted stand shallow are pointed followed texts names =
+  unfolding count textsOf namesOf
+  responded {aim = aim} {obj} counted stand are pointed followed texts names =
       built k _ _ (Msg.response _ (h .initiator .content) _ aim obj) (counted ∙ omega arith)
-      (join (h .session .stands) (join (h .initiator .stands) (join (h .ttl .stands) stand))) (omega arith)
+      (join (h .session .stands) (join (h .initiator .stands) (join (h .ttl .stands) stand)))
       (λ w v. MessageItem.response (Number.number (h .session .low)) (Initiator.initiator (h .initiator .size)) (Number.number (h .ttl .low)) are)
       (λ full. Describes.response (kind-is k) (number-is-here (h .session)) (initiator-is (h .initiator)) (number-is-here (h .ttl)) pointed (followed full)) texts names
 
@@ -91,7 +83,7 @@ module _ {s : List ℕ} {n at next : ℕ} (k : Kinded s 2 n at) {opening : Openi
   rest-of-sound : {targets : Targets} {left p bad : ℕ} → p ≤ length s
       → ((extra : Extra) (end bad′ long : ℕ) → RestHere s p left bad end bad′ long extra → ShapeOk s (S.Good (responseOf opening targets extra) end bad′ long))
       → (x : ObjectiveRead) → objectiveAt objectiveLevels s p ≡ x → ShapeOk s (restOf s opening targets left p bad x)
-  unfolding restOf count depth optionalNames
+  unfolding restOf count optionalNames
   rest-of-sound low go (ObjectiveRead.Bad place) e = ShapeOk.bad
   rest-of-sound {left = left} {p} {bad} low go (ObjectiveRead.Got o size bad′ long) e =
       let x = objective-sound objectiveLevels s p o size bad′ long low (k .bytes) e in
@@ -101,7 +93,6 @@ module _ {s : List ℕ} {n at next : ℕ} (k : Kinded s 2 n at) {opening : Openi
         items = Items.more (x .item) Items.done;
         obj = some (x .obj);
         stand = last (x .stands);
-        shallow = omega (arith, x .shallow);
         counted = eqb-true left 1 one;
         are = OptionalItems.with-one (x .is);
         is = λ full. ExtraIs.with-one (subst (λ (e : ℕ). ObjectiveIs s p e o (x .obj)) full (x .described));
@@ -113,7 +104,7 @@ module _ {s : List ℕ} {n at next : ℕ} (k : Kinded s 2 n at) {opening : Openi
   rest-sound : {targets : Targets} {left p bad : ℕ} → p ≤ length s
       → ((extra : Extra) (end bad′ long : ℕ) → RestHere s p left bad end bad′ long extra → ShapeOk s (S.Good (responseOf opening targets extra) end bad′ long))
       → ShapeOk s (restAt s opening targets left p bad)
-  unfolding restAt count depth optionalNames
+  unfolding restAt count optionalNames
   rest-sound {left = left} {p} {bad} low go =
       pick-case (ShapeOk s) _
       (λ zero. go Extra.Without p bad 0
@@ -121,7 +112,6 @@ module _ {s : List ℕ} {n at next : ℕ} (k : Kinded s 2 n at) {opening : Openi
         items = Items.done;
         obj = none;
         stand = no-items low;
-        shallow = omega arith;
         counted = eqb-true left 0 zero;
         are = OptionalItems.without;
         is = ExtraIs.without;
@@ -139,7 +129,7 @@ module _ {s : List ℕ} {n at next : ℕ} (k : Kinded s 2 n at) {opening : Openi
   located-finish counted many filled (LocatorItems.more {x} {l} {xs} {ls} i is) stand texts r =
       let all = Items.more x xs in
       responded (counted ∙ ap (λ (c : ℕ). 4 + c) (ap (λ (c : ℕ). count all + c) (r .counted) ∙ sym (count-joined all (r .items)))) (join-all stand (r .stand))
-      (depths-both all (r .items) (omega (arith, locators-depth (LocatorItems.more i is))) (r .shallow)) (AimItems.locators (LocatorItems.more i is) (r .are))
+      (AimItems.locators (LocatorItems.more i is) (r .are))
       (AimIs.locators refl (record { items = all; stand = stand; many = many; are = LocatorItems.more i is }))
       (r .is) (then-noted Utf8 (flatMap locTexts (l ∷ ls)) (optionalNames (r .obj)) texts (r .texts)) (r .names)
 
@@ -161,10 +151,10 @@ module _ {s : List ℕ} {n at next : ℕ} (k : Kinded s 2 n at) {opening : Openi
   divert-finish : {many from p′ q left bad end bad′ long w v : ℕ} {extra : Extra} {xs : Items} {ls : List Loc} → n ≡ 5 + left → many ≡ count xs → (count xs ≡ 0 → ⊥)
       → LocatorItems xs ls → StandAll s from p′ xs → Stands s next p′ (Item.array w (Items.more (uint v 100) xs)) → ArrayHead s next q (suc many) → Stands s q from (uint v 100) → bad ≡ 0 ↔ Every Utf8 (flatMap locTexts ls)
       → RestHere s p′ left bad end bad′ long extra → ShapeOk s (S.Good (responseOf opening (Targets.Divert (record { at = from; many = many })) extra) end bad′ long)
-  unfolding count depth aimTexts
+  unfolding count aimTexts
   divert-finish counted many filled LocatorItems.empty stand whole head lead texts r = absurd (filled refl)
   divert-finish counted many filled (LocatorItems.more {x} {l} {xs} {ls} i is) stand whole head lead texts r =
-      responded (counted ∙ omega (arith, r .counted)) (join whole (r .stand)) (omega (arith, locators-depth (LocatorItems.more i is), r .shallow)) (AimItems.divert (LocatorItems.more i is) (r .are))
+      responded (counted ∙ omega (arith, r .counted)) (join whole (r .stand)) (AimItems.divert (LocatorItems.more i is) (r .are))
       (AimIs.divert head lead (record { items = Items.more x xs; stand = stand; many = many; are = LocatorItems.more i is }))
       (r .is) (then-noted Utf8 (flatMap locTexts (l ∷ ls)) (optionalNames (r .obj)) texts (r .texts)) (r .names)
 

@@ -1,4 +1,4 @@
--- The eleven kinds together: what `shaped` answers of any bytes.
+-- The eleven kinds together: what `shaped` answers of bytes that are one item.
 -- Assumes nothing.
 use mathlib.Core.Path.{_≡_, refl, sym, ap, _∙_, subst}
 use mathlib.Core.Logic.{_⊎_, inl, inr, _≢_}
@@ -11,12 +11,11 @@ use lib.ListN.{length, drop}
 use lib.Dec.{ltb, eqb, lit<}
 use borrow.Author.Tests.{ltb-true, ltb-false, eqb-true, eqb-false, ne-eqb, eq-eqb, lt-ltb}
 use Rattle.base.specs.Pick.{pick}
-use Rattle.base.specs.BigEndian.{Bytes}
 use Rattle.base.proofs.Picks.{pick-case}
 use Rattle.cbor.specs.declared.token.Token.{Token}
 use Rattle.cbor.specs.Item.{mostLevels}
 use Rattle.cbor.specs.Token.{tokenAt, itemsIn}
-use Rattle.cbor.specs.Tree.{Item, Items, Good, Right, headBytes, count, encode, encodes, depth}
+use Rattle.cbor.specs.Tree.{Item, Items, Right, headBytes, count, encode, encodes, depth}
 use Rattle.cbor.proofs.Tokens.{token-end, is-array}
 use Rattle.syntax.specs.Message.{Msg}
 use Rattle.grammar.specs.Cddl.{uint, MessageItem, Value}
@@ -30,8 +29,9 @@ use Rattle.message.specs.declared.Examined.{Examined}
 use Rattle.message.specs.declared.Examined.the-variants as E
 use Rattle.message.specs.Shape.{exchangeAt}
 use Rattle.message.specs.Read.{byKind, judgedShape, shaped}
+use Rattle.exact.specs.Accepted.{OneItem}
 use Rattle.exact.specs.Rows.{UnknownKind}
-use Rattle.exact.proofs.Whole.{ShapeIs, ShapeOk, Reads, Kinded}
+use Rattle.exact.proofs.Whole.{ShapeOk, Reads, Kinded, WholeIs, stands, one-bytes, fills}
 use Rattle.exact.proofs.Heads.{uint-at, uint-passed, array-passed}
 use Rattle.exact.proofs.Plain.{noop-sound, noop-complete, wait-sound, wait-complete, invalid-sound, invalid-complete, invalid-with-complete, end-sound, end-complete}
 use Rattle.exact.proofs.Exchange.{discovery-sound, discovery-complete, request-negotiation-sound, request-synchronization-sound, negotiate-sound, synch-sound, exchange-complete}
@@ -125,11 +125,11 @@ module _ (s : List ℕ) (p e : ℕ) where
   lead-there (Item.simple w n) a none high ne = other 0 none (lit< tt) (λ z. omega arith) (a .good) _ (a .is)
 
 -- an array with items, led by an unsigned number that is no kind, as its heads say
-pub record UnknownLead (s : List ℕ) : Type 0 where
-  pub filled : itemsIn (tokenAt s 0) ≡ 0 → ⊥
-  pub number : tokenAt s (tokenAt s 0 .next) .major ≡ 0
-  pub high : 9 < tokenAt s (tokenAt s 0 .next) .arg
-  pub other : tokenAt s (tokenAt s 0 .next) .arg ≢ 99
+record UnknownLead (s : List ℕ) : Type 0 where
+  filled : itemsIn (tokenAt s 0) ≡ 0 → ⊥
+  number : tokenAt s (tokenAt s 0 .next) .major ≡ 0
+  high : 9 < tokenAt s (tokenAt s 0 .next) .arg
+  other : tokenAt s (tokenAt s 0 .next) .arg ≢ 99
 
 -- and where an array stands that is so led, it is of no known kind
 unknown-array : {s : List ℕ} {e : ℕ} {x : Item} → Stands s 0 e x → IsArray x → UnknownLead s → UnknownKind x
@@ -140,22 +140,22 @@ unknown-array a (IsArray.array {xs = Items.done}) u =
 unknown-array {s} a (IsArray.array {xs = Items.more y ys}) u = lead-there s _ _ y (split (array-passed (last a) .items) .first) (u .number) (u .high) (u .other)
 
 -- an item that is so led is of no known kind
-pub unknown-there : {s : List ℕ} {e : ℕ} {x : Item} → Stands s 0 e x → UnknownLead s → UnknownKind x
+unknown-there : {s : List ℕ} {e : ℕ} {x : Item} → Stands s 0 e x → UnknownLead s → UnknownKind x
 unknown-there {s} {e} {x} stands u = unknown-array stands (array-there s 0 e x stands (is-array (tokenAt s 0) (u .filled))) u
 
 -- ---- the answers
-module _ {s : List ℕ} (b : Bytes s) where
+module _ {s : List ℕ} (one : OneItem s) where
   -- the head of an array, and a kind after it
   heading : (itemsIn (tokenAt s 0) ≡ 0 → ⊥) → Heading s 0 (tokenAt s 0)
-  heading filled = token-heading s 0 (tokenAt s 0) b zero-le refl (omega (arith, is-array (tokenAt s 0) filled))
+  heading filled = token-heading s 0 (tokenAt s 0) (one-bytes one) zero-le refl (omega (arith, is-array (tokenAt s 0) filled))
 
   kinded : (itemsIn (tokenAt s 0) ≡ 0 → ⊥) → tokenAt s (tokenAt s 0 .next) .major ≡ 0
       → Kinded s (tokenAt s (tokenAt s 0 .next) .arg) (tokenAt s 0 .arg) (tokenAt s (tokenAt s 0 .next) .next)
   kinded filled number =
       let h = heading filled in
-      let i = uint-at b (token-end s 0) number in
+      let i = uint-at (one-bytes one) (token-end s 0) number in
       record {
-        bytes = b;
+        bytes = one-bytes one;
         from = tokenAt s 0 .next;
         array-width = h .width;
         width = i .width;
@@ -164,9 +164,9 @@ module _ {s : List ℕ} (b : Bytes s) where
         close = λ e xs counted stand. array-at h (is-array (tokenAt s 0) filled) counted stand;
       }
 
-  -- an unknown kind that leads, a departure, or a message that is described
-  pub shaped-case : (P : Examined → Type 0) → ((place : ℕ) → UnknownLead s → P (E.Refused 8 place)) → ((place : ℕ) → P (E.Refused 9 place))
-      → ((m : Message) (end bad long : ℕ) → ShapeIs s m end bad long → P (judgedShape (S.Good m end bad long))) → P (shaped s)
+  -- an item of an unknown kind, a departure, or a message that is described
+  pub shaped-case : (P : Examined → Type 0) → ((place : ℕ) → UnknownKind (one .item) → P (E.Refused 8 place)) → ((place : ℕ) → P (E.Refused 9 place))
+      → ((m : Message) (end bad long : ℕ) → WholeIs one m bad long → P (judgedShape (S.Good m end bad long))) → P (shaped s)
   unfolding shaped judgedShape
   shaped-case P unknown departs reads =
       let a = tokenAt s 0 in
@@ -179,13 +179,13 @@ module _ {s : List ℕ} (b : Bytes s) where
       let at-kind = kinded filled number in
       pick-case P _
       (λ e₃. pick-case P _ (λ e₄. shape (shape-sound at-kind (inr (eqb-true (k .arg) 99 e₄))))
-      (λ e₄. unknown _ (record { filled = filled; number = number; high = ltb-true 9 (k .arg) e₃; other = eqb-false (k .arg) 99 e₄ })))
+      (λ e₄. unknown _ (unknown-there (stands one) (record { filled = filled; number = number; high = ltb-true 9 (k .arg) e₃; other = eqb-false (k .arg) 99 e₄ }))))
       (λ e₃. shape (shape-sound at-kind (inl (ltb-false 9 (k .arg) e₃)))))
       (λ _. departs _))
     where
       shape : {r : Shape} → ShapeOk s r → P (judgedShape r)
       shape (ShapeOk.bad {place}) = departs place
-      shape (ShapeOk.good {m} {end} {bad} {long} i) = reads m end bad long i
+      shape (ShapeOk.good {m} {end} {bad} {long} i) = reads m end bad long (fills one i)
 
 -- an array that a number leads, and what `shaped` reads of it
 record Led (s : List ℕ) (kind : ℕ) (xs : Items) : Type 0 where

@@ -14,7 +14,7 @@ use Rattle.base.specs.Pick.{pick}
 use Rattle.base.proofs.Picks.{pick-case, both}
 use Rattle.cbor.specs.declared.item.ItemRead.{ItemRead}
 use Rattle.cbor.specs.declared.token.Token.{Token}
-use Rattle.cbor.specs.Item.{firstItem}
+use Rattle.cbor.specs.Item.{leftUnder, firstItem}
 use Rattle.cbor.specs.Token.{tokenAt, sizeAt, itemsIn, upTo}
 use Rattle.cbor.proofs.Tokens.{is-array, is-number}
 use Rattle.cbor.proofs.Passes.{Passes, passes-none, passes-then, passes-within, leaf-passes, array-passes, size-passes, passes-item}
@@ -70,19 +70,22 @@ module _ (s : List ℕ) where
   most-passes : {left p : ℕ} → ltb most (upTo most (tokenAt s p)) ≡ false → Passes left 1 s p (tokenAt s p .next)
   most-passes {p = p} e = number-passes most (ltb-false most (upTo most (tokenAt s p)) e)
 
+  -- an initiator
   initiator-passes : {left p : ℕ} → isInitiator (tokenAt s p) ≡ true → Passes left 1 s p (tokenAt s p .next)
   initiator-passes {p = p} e = leaf-passes s p (inl (omega (arith, initiated (tokenAt s p) e .0)))
 
   -- ---- locators and pairs, one after the other
-  -- of n items, all but those left over are passed
+  -- of n items all are passed but those that are left over, where so many levels may open in each
   abbrev LocatorsWalked : ℕ → ℕ → ℕ → LocatorsRead → Type 0
   LocatorsWalked left n p (LocatorsRead.Bad place) = Unit {0}
   LocatorsWalked left n p (LocatorsRead.Ran end over bad) = (c : ℕ) × (n ≡ c + over) × Passes (suc left) c s p end
 
+  -- one locator, and then others
   locators-more : (n : ℕ) {left p m : ℕ} (r : LocatorsRead) → Passes (suc left) 1 s p m → LocatorsWalked left n m r → LocatorsWalked left (suc n) p r
   locators-more n (LocatorsRead.Bad place) h rest = tt
   locators-more n (LocatorsRead.Ran end over bad) h (c, sum, rest) = (1 + c, omega arith, passes-then h rest)
 
+  -- the loop over locators
   locators-walked : (left n p bad : ℕ) → LocatorsWalked left n p (locatorsFrom s n p bad)
   unfolding locatorsFrom locatorThen
   locators-walked left zero p bad = (0, refl, passes-none)
@@ -94,14 +97,17 @@ module _ (s : List ℕ) where
       next go (LocatorRead.Bad place) h = tt
       next go (LocatorRead.Got l size bad′) h = locators-more n (locatorsFrom s n (p + size) (firstOf bad bad′)) (passes-within (h left)) (go (p + size) (firstOf bad bad′))
 
+  -- all n pairs are passed
   abbrev PairsWalked : ℕ → ℕ → PairsRead → Type 0
   PairsWalked n p (PairsRead.Bad place) = Unit {0}
   PairsWalked n p (PairsRead.Ran end bad long) = Parts n p end
 
+  -- one pair, and then others
   pairs-more : (n : ℕ) {p m : ℕ} (r : PairsRead) → Parts 1 p m → PairsWalked n m r → PairsWalked (suc n) p r
   pairs-more n (PairsRead.Bad place) h rest = tt
   pairs-more n (PairsRead.Ran end bad long) h rest = let sum : suc n ≡ 1 + n = omega arith in rw sum (passes-then h rest)
 
+  -- the loop over pairs
   pairs-walked : (n p bad long : ℕ) → PairsWalked n p (pairsFrom s n p bad long)
   unfolding pairsFrom pairThen
   pairs-walked zero p bad long = passes-none
@@ -113,7 +119,7 @@ module _ (s : List ℕ) where
       next go (PairRead.Got o t size bad′ long′) h = pairs-more n (pairsFrom s n (p + size) (firstOf bad bad′) (firstOf long long′)) (passes-within h) (go (p + size) (firstOf bad bad′) (firstOf long long′))
 
   -- ---- the shapes
-  -- n items from p to where the parts of a shape end
+  -- the n items from p on are passed, up to where the parts of a shape end
   data ShapeWalked (n p : ℕ) : Shape → Type 0 where
     refused : {place : ℕ} → ShapeWalked n p (S.Bad place)
     walked : {m : Message} {end bad long : ℕ} → Parts n p end → ShapeWalked n p (S.Good m end bad long)
@@ -125,7 +131,7 @@ module _ (s : List ℕ) where
   held-case : {n p : ℕ} {t : Bool} (place : ℕ) {x : Shape} → (t ≡ true → ShapeWalked n p x) → ShapeWalked n p (pick t x (S.Bad place))
   held-case {n} {p} {t} place f = pick-case (ShapeWalked n p) t f (λ _. ShapeWalked.refused)
 
-  -- so many items
+  -- as many items as there are
   counted : {n c p : ℕ} {m : Message} {end bad long : ℕ} → n ≡ c → Parts c p end → ShapeWalked n p (S.Good m end bad long)
   counted {end = end} sum h = ShapeWalked.walked {end = end} (rw sum h)
 
@@ -143,12 +149,12 @@ module _ (s : List ℕ) where
       by (ObjectiveRead.Bad place) h = none place
       by (ObjectiveRead.Got o size bad long) h = got o size bad long (passes-within h)
 
-  -- 0
+  -- 0, Noop
   noop-walked : (n p : ℕ) → ShapeWalked (n - 1) p (noopAt n p)
   unfolding noopAt
   noop-walked n p = held-case _ (λ one. counted (omega (arith, eqb-true n 1 one)) passes-none)
 
-  -- 1
+  -- 1, Discovery
   discovery-walked : (n p : ℕ) → ShapeWalked (n - 1) p (discoveryAt s n p)
   unfolding discoveryAt discovered
   discovery-walked n p =
@@ -158,7 +164,7 @@ module _ (s : List ℕ) where
       (λ e′. after (omega (arith, eqb-true n 4 four)) (passes-then (most-passes e) (initiator-passes e′))
       (objective-then (discovered _ _ _) (λ _. ShapeWalked.refused) (λ _ _ _ _ o. ShapeWalked.walked o)))))
 
-  -- 3, 4, 5 and 8
+  -- 3, 4, 5 and 8, a session and an objective
   exchange-walked : (kind n p : ℕ) → ShapeWalked (n - 1) p (exchangeAt s kind n p)
   unfolding exchangeAt exchanged
   exchange-walked kind n p =
@@ -166,7 +172,7 @@ module _ (s : List ℕ) where
       (λ three. past-case _
       (λ e. after (omega (arith, eqb-true n 3 three)) (most-passes e) (objective-then (exchanged kind _ _) (λ _. ShapeWalked.refused) (λ _ _ _ _ o. ShapeWalked.walked o))))
 
-  -- 7
+  -- 7, Wait
   wait-walked : (n p : ℕ) → ShapeWalked (n - 1) p (waitAt s n p)
   unfolding waitAt
   wait-walked n p =
@@ -175,7 +181,7 @@ module _ (s : List ℕ) where
       (λ e. past-case _
       (λ e′. after (omega (arith, eqb-true n 3 three)) (most-passes e) (ShapeWalked.walked (most-passes e′)))))
 
-  -- 99
+  -- 99, Invalid
   invalid-walked : (n p : ℕ) → ShapeWalked (n - 1) p (invalidAt s n p)
   unfolding invalidAt
   invalid-walked n p =
@@ -188,7 +194,7 @@ module _ (s : List ℕ) where
       (λ some. after (omega (arith, ltb-false n 2 lo, ltb-false 3 n hi, eqb-false n 2 more)) (most-passes e)
       (ShapeWalked.walked (size-passes 1 s (tokenAt s p .next) (eqb-false (sizeAt 1 s (tokenAt s p .next)) 0 some))))))))
 
-  -- 6
+  -- an accept or a decline
   option-walked : (session p : ℕ) → ShapeWalked 1 p (optionAt s session p)
   unfolding optionAt
   option-walked session p =
@@ -198,8 +204,8 @@ module _ (s : List ℕ) where
       (λ filled. past-case _
       (λ _. past-case _
       (λ hi.
-      let array : (e : ℕ) (n : ℕ) → o .arg ≡ n → Passes 6 n s (o .next) e → Parts 1 p e = λ e n many h. array-passes s p (is-array o (eqb-false (itemsIn o) 0 filled)) (rw many h) in
-      let lead = number-passes {left = 6} {p = o .next} 102 (ltb-false 102 (upTo 102 x) hi) in
+      let array : (e n : ℕ) → o .arg ≡ n → Passes (leftUnder 2) n s (o .next) e → Parts 1 p e = λ e n many h. array-passes s p (is-array o (eqb-false (itemsIn o) 0 filled)) (rw many h) in
+      let lead = number-passes {left = leftUnder 2} {p = o .next} 102 (ltb-false 102 (upTo 102 x) hi) in
       pick-case (ShapeWalked 1 p) _
       (λ one. let alone = array (x .next) 1 (eqb-true (o .arg) 1 one) lead in both (ShapeWalked 1 p) _ (ShapeWalked.walked alone) (ShapeWalked.walked alone))
       (λ _. past-case _
@@ -207,6 +213,7 @@ module _ (s : List ℕ) where
       (λ two. held-case _
       (λ text. ShapeWalked.walked (array _ 2 (eqb-true (o .arg) 2 two) (passes-then lead (leaf-passes s (x .next) (inl (omega (arith, eqb-true (tokenAt s (x .next) .major) 3 text)))))))))))))
 
+  -- 6, End
   end-walked : (n p : ℕ) → ShapeWalked (n - 1) p (endAt s n p)
   unfolding endAt
   end-walked n p = held-case _ (λ three. past-case _ (λ e. after (omega (arith, eqb-true n 3 three)) (most-passes e) (option-walked _ _)))
@@ -216,6 +223,7 @@ module _ (s : List ℕ) where
     departs : {place : ℕ} → OpeningWalked p (OpeningRead.Bad place)
     opened : {opening : Opening} {next : ℕ} → Parts 3 p next → OpeningWalked p (OpeningRead.Got opening next)
 
+  -- its three items
   opening-walked : (p : ℕ) → OpeningWalked p (openingAt s p)
   unfolding openingAt
   opening-walked p =
@@ -224,7 +232,7 @@ module _ (s : List ℕ) where
       (λ e′. pick-case (OpeningWalked p) _ (λ _. OpeningWalked.departs) (λ e″. OpeningWalked.opened (passes-then (passes-then (most-passes e) (initiator-passes e′)) (most-passes e″))))
       (λ _. OpeningWalked.departs))
 
-  -- 9
+  -- the pairs of a Flood
   flooded-walked : (n p : ℕ) (opening : Opening) → 1 ≤ n → ShapeWalked n p (floodedAt s opening n p)
   unfolding floodedAt floodedOf floodedBy
   flooded-walked n p opening some = by (pairAt s p) (pair-walked p (drop p s))
@@ -237,6 +245,7 @@ module _ (s : List ℕ) where
       by (PairRead.Bad place) h = ShapeWalked.refused
       by (PairRead.Got first tag size bad long) h = after (omega arith) (passes-within h) (all (p + size) first _ (pairsFrom s (n - 1) (p + size) bad long) (pairs-walked (n - 1) (p + size) bad long))
 
+  -- 9, Flood
   flood-walked : (n p : ℕ) → ShapeWalked (n - 1) p (floodAt s n p)
   unfolding floodAt floodBy
   flood-walked n p = past-case _ (λ five. by (ltb-false n 5 five) (openingAt s p) (opening-walked p))
@@ -245,9 +254,8 @@ module _ (s : List ℕ) where
       by five _ OpeningWalked.departs = ShapeWalked.refused
       by five _ (OpeningWalked.opened {opening} {next} h) = after (omega arith) h (flooded-walked (n - 4) next opening (omega arith))
 
-  -- 2
   module _ (opening : Opening) where
-    -- what follows the locators or the divert
+    -- what follows the locators or the divert of a Response
     rest-walked : (targets : Targets) (left p bad : ℕ) → ShapeWalked left p (restAt s opening targets left p bad)
     unfolding restAt restOf
     rest-walked targets left p bad =
@@ -257,9 +265,9 @@ module _ (s : List ℕ) where
     -- locators first
     located-walked : (n p : ℕ) → ShapeWalked n p (locatedAt s opening n p)
     unfolding locatedAt locatedOf
-    located-walked n p = by (locatorsFrom s n p 0) (locators-walked 6 n p 0)
+    located-walked n p = by (locatorsFrom s n p 0) (locators-walked (leftUnder 2) n p 0)
       where
-        by : (x : LocatorsRead) → LocatorsWalked 6 n p x → ShapeWalked n p (locatedOf s opening n p x)
+        by : (x : LocatorsRead) → LocatorsWalked (leftUnder 2) n p x → ShapeWalked n p (locatedOf s opening n p x)
         by (LocatorsRead.Bad place) h = ShapeWalked.refused
         by (LocatorsRead.Ran end left bad) (c, sum, h) = past-case (tokenAt s end .next) (λ _. after sum h (rest-walked (Targets.Locators (record { at = p; many = n - left })) left end bad))
 
@@ -267,7 +275,7 @@ module _ (s : List ℕ) where
     divert-walked : (left p : ℕ) → tokenAt s p .major ≡ 4 → upTo 100 (tokenAt s (tokenAt s p .next)) ≡ 100
         → ShapeWalked (1 + left) p (divertAt s opening left (tokenAt s p .arg) p (tokenAt s (tokenAt s p .next) .next))
     unfolding divertAt divertOf
-    divert-walked left p four hundred = past-case _ (λ e. by (ltb-false (o .arg) 2 e) (locatorsFrom s (o .arg - 1) from 0) (locators-walked 5 (o .arg - 1) from 0))
+    divert-walked left p four hundred = past-case _ (λ e. by (ltb-false (o .arg) 2 e) (locatorsFrom s (o .arg - 1) from 0) (locators-walked (leftUnder 3) (o .arg - 1) from 0))
       where
         o : Token
         o = tokenAt s p
@@ -275,7 +283,7 @@ module _ (s : List ℕ) where
         from : ℕ
         from = tokenAt s (o .next) .next
 
-        by : 2 ≤ o .arg → (x : LocatorsRead) → LocatorsWalked 5 (o .arg - 1) from x → ShapeWalked (1 + left) p (divertOf s opening left (o .arg - 1) from x)
+        by : 2 ≤ o .arg → (x : LocatorsRead) → LocatorsWalked (leftUnder 3) (o .arg - 1) from x → ShapeWalked (1 + left) p (divertOf s opening left (o .arg - 1) from x)
         by two (LocatorsRead.Bad place) h = ShapeWalked.refused
         by two (LocatorsRead.Ran end over bad) (c, sum, h) =
             held-case (tokenAt s end .next)
@@ -283,6 +291,7 @@ module _ (s : List ℕ) where
             let all : o .arg ≡ 1 + c = omega (arith, eqb-true over 0 none) in
             after refl (array-passes s p four (rw all (passes-then (number-passes 100 (omega arith)) h))) (rest-walked (Targets.Divert (record { at = from; many = o .arg - 1 })) left end bad))
 
+    -- what follows the ttl
     targets-walked : (n p : ℕ) → 1 ≤ n → ShapeWalked n p (targetsAt s opening n p)
     unfolding targetsAt
     targets-walked n p some =
@@ -295,6 +304,7 @@ module _ (s : List ℕ) where
         (divert-walked (n - 1) p (is-array o (eqb-false (itemsIn o) 0 array)) (eqb-true (upTo 100 (tokenAt s (o .next))) 100 hundred)))
         (λ _. located-walked n p))
 
+  -- 2, Response
   response-walked : (n p : ℕ) → ShapeWalked (n - 1) p (responseAt s n p)
   unfolding responseAt responseBy
   response-walked n p = past-case _ (λ five. by (ltb-false n 5 five) (openingAt s p) (opening-walked p))
@@ -303,7 +313,7 @@ module _ (s : List ℕ) where
       by five _ OpeningWalked.departs = ShapeWalked.refused
       by five _ (OpeningWalked.opened {opening} {next} h) = after (omega arith) h (targets-walked opening (n - 4) next (omega arith))
 
-  -- a kind
+  -- any kind
   kind-walked : (kind n p : ℕ) → ShapeWalked (n - 1) p (byKind s kind n p)
   unfolding byKind
   kind-walked kind n p =
@@ -316,27 +326,20 @@ module _ (s : List ℕ) where
       P = ShapeWalked (n - 1) p
 
   -- ---- the whole
-  -- the shape of an array that a kind leads
-  abbrev shape : Shape
-  shape = byKind s (tokenAt s (tokenAt s 0 .next) .arg) (tokenAt s 0 .arg) (tokenAt s (tokenAt s 0 .next) .next)
-
   module _ (filled : itemsIn (tokenAt s 0) ≡ 0 → ⊥) (number : tokenAt s (tokenAt s 0 .next) .major ≡ 0) where
-    -- the walk ends where its parts end
-    whole-walked : {m : Message} {end bad long : ℕ} → ShapeWalked (tokenAt s 0 .arg - 1) (tokenAt s (tokenAt s 0 .next) .next) (S.Good m end bad long) → firstItem 0 s ≡ ItemRead.Ends end
-    whole-walked {end = end} (ShapeWalked.walked h) =
+    -- the walk ends where the parts after the kind end
+    whole-walked : {end : ℕ} → Parts (tokenAt s 0 .arg - 1) (tokenAt s (tokenAt s 0 .next) .next) end → firstItem 0 s ≡ ItemRead.Ends end
+    whole-walked {end} h =
         let a = tokenAt s 0 in
         let sum : a .arg ≡ 1 + (a .arg - 1) = omega (arith, array-filled a filled) in
         passes-item 0 s end (array-passes s 0 (is-array a filled) (rw sum (passes-then (leaf-passes s (a .next) (inl (omega arith))) h)))
 
-    pub shape-walked : {m : Message} {end bad long : ℕ} → shape ≡ S.Good m end bad long → firstItem 0 s ≡ ItemRead.Ends end
-    shape-walked e = whole-walked (subst (ShapeWalked _ _) e (kind-walked _ _ _))
-
-    -- also if nothing is noted of it
-    judged-walked : {m : Message} {end : ℕ} (x : Shape) → shape ≡ x → judgedShape x ≡ E.Accepted m end → firstItem 0 s ≡ ItemRead.Ends end
+    -- which are those of a message that is accepted
+    judged-walked : {m : Message} {end : ℕ} {x : Shape} → ShapeWalked (tokenAt s 0 .arg - 1) (tokenAt s (tokenAt s 0 .next) .next) x → judgedShape x ≡ E.Accepted m end → firstItem 0 s ≡ ItemRead.Ends end
     unfolding judgedShape
-    judged-walked (S.Bad place) e = λ q. absurd (refused-accepted q)
-    judged-walked {m} {end} (S.Good m′ end′ bad long) e =
-        both P _ (both P _ (λ q. shape-walked e ∙ (let same : end′ ≡ end = cc in ap ItemRead.Ends same)) (λ q. absurd (refused-accepted q))) (λ q. absurd (refused-accepted q))
+    judged-walked ShapeWalked.refused = λ q. absurd (refused-accepted q)
+    judged-walked {m} {end} (ShapeWalked.walked {end = end′} h) =
+        both P _ (both P _ (λ q. let same : end′ ≡ end = cc in whole-walked h ∙ ap ItemRead.Ends same) (λ q. absurd (refused-accepted q))) (λ q. absurd (refused-accepted q))
       where
         P : Examined → Type 0
         P x = x ≡ E.Accepted m end → firstItem 0 s ≡ ItemRead.Ends end
@@ -348,7 +351,7 @@ parts-walked s {m} {end} =
     pick-case P _ (λ _ q. absurd (refused-accepted q))
     (λ filled. pick-case P _
     (λ number.
-    let read = judged-walked s (eqb-false (itemsIn (tokenAt s 0)) 0 filled) (eqb-true (tokenAt s (tokenAt s 0 .next) .major) 0 number) _ refl in
+    let read = judged-walked s (eqb-false (itemsIn (tokenAt s 0)) 0 filled) (eqb-true (tokenAt s (tokenAt s 0 .next) .major) 0 number) (kind-walked s _ _ _) in
     both P _ (both P _ read (λ q. absurd (refused-accepted q))) read)
     (λ _ q. absurd (refused-accepted q)))
   where

@@ -1,20 +1,20 @@
--- What every kind's laws share: what is said of a shape, the head that makes the items of a message the message, and going by a shape's tests.
+-- What every kind's laws share: what is said of a shape, the head that makes the items of a message the message, going by a shape's tests, and one item that is the whole.
 -- Assumes nothing.
-use mathlib.Core.Path.{_≡_, sym, ap, _∙_}
+use mathlib.Core.Path.{_≡_, sym, ap, _∙_, subst}
 use mathlib.Core.Logic.{_↔_}
 use mathlib.Core.List.{List, _++_, append-nil}
 use mathlib.Core.Bool.{Bool, true, false}
-use Prim.Native.Nat.{ℕ, suc, _≤_}
+use Prim.Native.Nat.{ℕ, suc}
+use native.Mathlib.Nat.{le-refl}
 use native.Mathlib.Omega.{arith}
 use lib.ListN.{length, drop}
+use lib.Seq.{drop-length}
 use Rattle.base.specs.Pick.{pick}
 use Rattle.base.specs.BigEndian.{Bytes}
 use Rattle.base.proofs.Picks.{pick-case}
-use Rattle.base.proofs.Parts.{drop-past}
-use Rattle.cbor.specs.declared.item.ItemRead.{ItemRead}
-use Rattle.cbor.specs.Item.{mostLevels, leftUnder, firstItem}
-use Rattle.cbor.specs.Tree.{Item, Items, Good, count, depth, depths, encode}
-use Rattle.cbor.proofs.Accepts.{item-accepts}
+use Rattle.cbor.specs.Item.{leftUnder}
+use Rattle.cbor.specs.Tree.{Item, Items, count, encode}
+use Rattle.cbor.proofs.Unique.{unique}
 use Rattle.syntax.specs.Message.{Msg}
 use Rattle.grammar.specs.Cddl.{uint, MessageItem, Value}
 use Rattle.grammar.specs.Limits.{TextsGood, NamesGood}
@@ -24,6 +24,8 @@ use Rattle.message.specs.declared.Message.{Message}
 use Rattle.message.specs.declared.shape.Shape.{Shape}
 use Rattle.message.specs.declared.shape.Shape.the-variants as S
 use Rattle.exact.specs.Describes.{KindIs, Describes}
+use Rattle.exact.specs.Accepted.{OneItem}
+use Rattle.exact.proofs.Bytes.{bytes-encode}
 
 -- how many levels the items of a message have at most
 abbrev pub partLevels : ℕ
@@ -35,7 +37,6 @@ pub record ShapeIs (s : List ℕ) (m : Message) (end bad long : ℕ) : Type 0 wh
   pub item : Item
   pub msg : Msg Value
   pub stands : Stands s 0 end item
-  pub shallow : depth item ≤ mostLevels
   pub is : MessageItem item msg
   pub describes : end ≡ length s → Describes s m msg
   pub texts : bad ≡ 0 ↔ TextsGood msg
@@ -65,42 +66,6 @@ pub skipped : {t : Bool} (x : Shape) {y : Shape} → t ≡ false → Reads y →
 unfolding pick
 skipped x e r = rw e r
 
--- the walk took the whole: an item that stands at the start, of eight levels at most, is the whole
-pub whole : {s : List ℕ} {e : ℕ} {x : Item} → firstItem 0 s ≡ ItemRead.Ends (length s) → Stands s 0 e x → depth x ≤ mostLevels → (e ≡ length s) × (encode x ≡ s)
-whole {s} {e} {x} w a d =
-    let ends : ItemRead.Ends (length (encode x)) ≡ ItemRead.Ends (length s) = sym (ap (firstItem 0) (a .is) ∙ item-accepts 0 x (drop e s) (a .good) d) ∙ w in
-    let long : length (encode x) ≡ length s = cc in
-    let full : e ≡ length s = omega (arith, a .end) in
-    (full, sym (append-nil (encode x)) ∙ ap (λ (r : List ℕ). encode x ++ r) (sym (drop-past s e (omega arith))) ∙ sym (a .is))
-
--- s is the encoding of a message that m describes
-pub record WholeIs (s : List ℕ) (m : Message) (bad long : ℕ) : Type 0 where
-  pub item : Item
-  pub msg : Msg Value
-  pub bytes : encode item ≡ s
-  pub good : Good item
-  pub shallow : depth item ≤ mostLevels
-  pub is : MessageItem item msg
-  pub describes : Describes s m msg
-  pub texts : bad ≡ 0 ↔ TextsGood msg
-  pub names : long ≡ 0 ↔ NamesGood msg
-
--- so it is where the walk took the whole
-pub fills : {s : List ℕ} {m : Message} {end bad long : ℕ} → firstItem 0 s ≡ ItemRead.Ends (length s) → ShapeIs s m end bad long → WholeIs s m bad long
-fills w h =
-    let (full, bytes) = whole w (h .stands) (h .shallow) in
-    record {
-      item = h .item;
-      msg = h .msg;
-      bytes = bytes;
-      good = h .stands .good;
-      shallow = h .shallow;
-      is = h .is;
-      describes = h .describes full;
-      texts = h .texts;
-      names = h .names;
-    }
-
 -- s begins with the head of an array of n items, the first of them a kind; the next stands at `at`
 pub record Kinded (s : List ℕ) (kind n at : ℕ) : Type 0 where
   pub bytes : Bytes s
@@ -117,18 +82,56 @@ kind-is {n = n} k = record { many = n; from = k .from; width = k .width; opened 
 
 -- items that stand after the kind are the rest of the message
 pub built : {s : List ℕ} {kind n at : ℕ} {m : Message} {bad long : ℕ} → Kinded s kind n at → (e : ℕ) (xs : Items) (msg : Msg Value)
-    → n ≡ suc (count xs) → StandAll s at e xs → depths xs ≤ partLevels → ((w v : ℕ) → MessageItem (Item.array w (Items.more (uint v kind) xs)) msg)
+    → n ≡ suc (count xs) → StandAll s at e xs → ((w v : ℕ) → MessageItem (Item.array w (Items.more (uint v kind) xs)) msg)
     → (e ≡ length s → Describes s m msg) → bad ≡ 0 ↔ TextsGood msg → long ≡ 0 ↔ NamesGood msg → ShapeOk s (S.Good m e bad long)
-unfolding count depth
-built {s} {kind} {n} {at} k e xs msg counted stand shallow is describes texts names =
+unfolding count
+built {s} {kind} {n} {at} k e xs msg counted stand is describes texts names =
     ShapeOk.good
     (record {
       item = Item.array (k .array-width) (Items.more (uint (k .width) kind) xs);
       msg = msg;
       stands = k .close e (Items.more (uint (k .width) kind) xs) counted (join (k .lead) stand);
-      shallow = omega arith;
       is = is (k .array-width) (k .width);
       describes = describes;
       texts = texts;
       names = names;
     })
+
+-- ---- one item that is the whole
+-- m describes a message that the item is
+pub record WholeIs {s : List ℕ} (one : OneItem s) (m : Message) (bad long : ℕ) : Type 0 where
+  pub msg : Msg Value
+  pub is : MessageItem (one .item) msg
+  pub describes : Describes s m msg
+  pub texts : bad ≡ 0 ↔ TextsGood msg
+  pub names : long ≡ 0 ↔ NamesGood msg
+
+module _ {s : List ℕ} (one : OneItem s) where
+  -- it stands from the start to the end
+  pub stands : Stands s 0 (length s) (one .item)
+  stands =
+      record {
+        good = one .good;
+        is = sym (ap (λ (r : List ℕ). encode (one .item) ++ r) (drop-length s) ∙ append-nil (encode (one .item)) ∙ one .bytes);
+        end = omega (arith, ap length (one .bytes));
+        within = le-refl (length s);
+      }
+
+  pub one-bytes : Bytes s
+  one-bytes = subst Bytes (one .bytes) (bytes-encode (one .item) (one .good))
+
+  -- an item that stands at the start is no other
+  pub only-one : {e : ℕ} {x : Item} → Stands s 0 e x → x ≡ one .item
+  only-one {e} {x} a = unique x (one .item) (drop e s) (drop (length s) s) (a .good) (one .good) (sym (a .is) ∙ stands .is)
+
+  -- a message that stands at the start is the whole
+  pub fills : {m : Message} {end bad long : ℕ} → ShapeIs s m end bad long → WholeIs one m bad long
+  fills h =
+      let same = only-one (h .stands) in
+      record {
+        msg = h .msg;
+        is = subst (λ (x : Item). MessageItem x (h .msg)) same (h .is);
+        describes = h .describes (omega (arith, h .stands .end, ap (λ (x : Item). length (encode x)) same, ap length (one .bytes)));
+        texts = h .texts;
+        names = h .names;
+      }

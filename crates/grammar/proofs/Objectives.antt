@@ -18,7 +18,7 @@ use Rattle.base.proofs.Picks.{pick-case}
 use Rattle.base.proofs.Parts.{bytes-drop}
 use Rattle.cbor.specs.declared.token.Token.{Token}
 use Rattle.cbor.specs.Item.{leftUnder}
-use Rattle.cbor.specs.Tree.{Item, Items, count, depth, depths}
+use Rattle.cbor.specs.Tree.{Item, Items, count, depth}
 use Rattle.cbor.specs.Token.{tokenAt, sizeAt, itemsIn, upTo}
 use Rattle.cbor.proofs.HeadExact.{length-head}
 use Rattle.cbor.proofs.Tokens.{token-is, token-end, is-array}
@@ -37,11 +37,10 @@ use Rattle.grammar.proofs.Sizes.{sized-item, item-sized}
 
 -- the objective o, read from p to e of the message m with a name that is a bad text at `bad` or too long at `long`: the item that stands there, and the
 -- objective that it is
-pub record ObjectiveStands (levels : ℕ) (m : List ℕ) (p e : ℕ) (o : Objective) (bad long : ℕ) : Type 0 where
+pub record ObjectiveStands (m : List ℕ) (p e : ℕ) (o : Objective) (bad long : ℕ) : Type 0 where
   pub item : Item
   pub obj : Obj Value
   pub stands : Stands m p e item
-  pub shallow : depth item ≤ suc (leftUnder levels)
   pub is : ObjectiveItem item obj
   pub described : ObjectiveIs m p e o obj
   pub texts : bad ≡ 0 ↔ Utf8 (obj .name)
@@ -53,12 +52,12 @@ answer base s n f c len size =
     ObjectiveRead.Got (objectiveFrom base n (upTo 15 f) c (upTo 255 c) len) size (badText (contentIn s n) (base + n .at)) (longName n (base + n .at))
 
 -- ---- sound
-abbrev Sound : ℕ → List ℕ → ℕ → ObjectiveRead → Type 0
-Sound levels m base (ObjectiveRead.Bad place) = Unit {0}
-Sound levels m base (ObjectiveRead.Got o size bad long) = ObjectiveStands levels m base (base + size) o bad long
+abbrev Sound : List ℕ → ℕ → ObjectiveRead → Type 0
+Sound m base (ObjectiveRead.Bad place) = Unit {0}
+Sound m base (ObjectiveRead.Got o size bad long) = ObjectiveStands m base (base + size) o bad long
 
-sound : (levels : ℕ) (m : List ℕ) (base : ℕ) → base ≤ length m → Bytes m → Sound levels m base (objectiveAt levels m base)
-unfolding objectiveIn objectiveNamed objectiveFrom count depth
+sound : (levels : ℕ) (m : List ℕ) (base : ℕ) → base ≤ length m → Bytes m → Sound m base (objectiveAt levels m base)
+unfolding objectiveIn objectiveNamed objectiveFrom count
 sound levels m base low by =
     pick-case P (eqb (itemsIn a) 0) (λ _. tt)
     (λ t₁. pick-case P (eqb (n .major) 3)
@@ -71,12 +70,12 @@ sound levels m base low by =
     let byte : upTo 255 c ≤ 255 = ltb-false 255 (upTo 255 c) t₆ in
     let made = got (is-array a (eqb-false (itemsIn a) 0 t₁)) (eqb-true (n .major) 3 t₂) few byte in
     pick-case P (eqb (a .arg) 3)
-    (λ t₇. made 0 (c .next) none Items.done (omega arith) (eqb-true (a .arg) 3 t₇) refl (omega arith) (no-more (token-end s (f .next))) (ValueIs.absent refl) (λ w u v k. ObjectiveItem.bare few byte))
+    (λ t₇. made 0 (c .next) none Items.done (omega arith) (eqb-true (a .arg) 3 t₇) refl (no-more (token-end s (f .next))) (ValueIs.absent refl) (λ w u v k. ObjectiveItem.bare few byte))
     (λ t₇. pick-case P (eqb len 0) (λ _. tt)
     (λ t₈.
-    let value = sized-item levels s (c .next) bytes (eqb-false len 0 t₈) in
-    made len (c .next + len) (some (value .item)) (Items.more (value .item) Items.done) refl (omega (arith, ltb-false (a .arg) 3 t₃, ltb-false 4 (a .arg) t₄, eqb-false (a .arg) 3 t₇)) refl (omega (arith, value .is)) (last (value .stands))
-    (ValueIs.present (subst (λ (e : ℕ). Stands m (base + c .next) e (value .item)) (sym (add-assoc base (c .next) len)) (lift low (value .stands))))
+    let (value, there) = sized-item levels s (c .next) bytes (eqb-false len 0 t₈) in
+    made len (c .next + len) (some value) (Items.more value Items.done) refl (omega (arith, ltb-false (a .arg) 3 t₃, ltb-false 4 (a .arg) t₄, eqb-false (a .arg) 3 t₇)) refl (last there)
+    (ValueIs.present (subst (λ (e : ℕ). Stands m (base + c .next) e value) (sym (add-assoc base (c .next) len)) (lift low there)))
     (λ w u v k. ObjectiveItem.valued few byte))))))))
     (λ _. tt))
   where
@@ -99,19 +98,19 @@ sound levels m base low by =
     len = sizeAt levels s (c .next)
 
     P : ObjectiveRead → Type 0
-    P = Sound levels m base
+    P = Sound m base
 
     bytes : Bytes s
     bytes = bytes-drop base m by
 
     -- with a value, or with none: the item of so many items xs after the count
     got : a .major ≡ 4 → n .major ≡ 3 → upTo 15 f ≤ 15 → upTo 255 c ≤ 255 → (len size : ℕ) (v : Value) (xs : Items) → size ≡ c .next + len
-        → a .arg ≡ suc (suc (suc (count xs))) → suc (suc (suc (count xs))) ≡ itemsWith v → depths xs ≤ leftUnder levels → StandAll s (c .next) size xs → ValueIs m (spanOf (base + c .next) len) v
+        → a .arg ≡ suc (suc (suc (count xs))) → suc (suc (suc (count xs))) ≡ itemsWith v → StandAll s (c .next) size xs → ValueIs m (spanOf (base + c .next) len) v
         → ((w u i j : ℕ)
         → ObjectiveItem (Item.array w (Items.more (text u (contentIn s n)) (Items.more (uint i (upTo 15 f)) (Items.more (uint j (upTo 255 c)) xs))))
         (record { name = contentIn s n; flags = upTo 15 f; count = upTo 255 c; value = v }))
         → P (answer base s n f c len size)
-    got array is-text few byte len size v xs sum many counted low-enough rest value is =
+    got array is-text few byte len size v xs sum many counted rest value is =
         let ha = token-heading s 0 a bytes zero-le refl (omega arith) in
         let hn = token-heading s (a .next) n bytes (token-end s 0) refl (omega arith) in
         let (name, long) = text-at hn true is-text (content-bytes s n bytes) in
@@ -126,7 +125,6 @@ sound levels m base low by =
           item = _;
           obj = _;
           stands = lift-first low (array-at ha array many (join (name .stands) (join (flags .stands) (join (number .stands) rest))));
-          shallow = omega arith;
           is = is (ha .width) (name .width) (flags .width) (number .width);
           described =
               record {
@@ -151,8 +149,8 @@ sound levels m base low by =
 
 -- what is read stands there
 pub objective-sound : (levels : ℕ) (m : List ℕ) (base : ℕ) (o : Objective) (size bad long : ℕ) → base ≤ length m → Bytes m
-    → objectiveAt levels m base ≡ ObjectiveRead.Got o size bad long → ObjectiveStands levels m base (base + size) o bad long
-objective-sound levels m base o size bad long low by q = subst (Sound levels m base) q (sound levels m base low by)
+    → objectiveAt levels m base ≡ ObjectiveRead.Got o size bad long → ObjectiveStands m base (base + size) o bad long
+objective-sound levels m base o size bad long low by q = subst (Sound m base) q (sound levels m base low by)
 
 -- ---- read
 -- the reader's tests but for the value, over plain tokens

@@ -40,7 +40,6 @@ use Rattle.grammar.specs.Stands.{Stands, ArrayHead, tagLoc, ObjectiveIs}
 use Rattle.grammar.proofs.Bridge.{split, join, none as no-more, none-end, only, last, lift, lift-first, sink-sized, sink-first, advances, Heading, token-heading, array-token}
 use Rattle.grammar.proofs.Pieces.{array-items, array-at, array-head, lift-head}
 use Rattle.grammar.proofs.Texts.{first-zero}
-use Rattle.grammar.proofs.Depths.{locator-depth}
 use Rattle.grammar.proofs.LocatorParts.{Shape, shape-of}
 use Rattle.grammar.proofs.Locators.{locator-sound, locator-read}
 use Rattle.grammar.proofs.Objectives.{ObjectiveStands, objective-sound, objective-read}
@@ -55,7 +54,6 @@ pub record PairStands (m : List ℕ) (p e : ℕ) (o : Objective) (t : Tag) (bad 
   pub item : Item
   pub pair : Pair Value
   pub stands : Stands m p e item
-  pub shallow : depth item ≤ pairLevels
   pub is : PairItem item pair
   -- where the objective begins, after the array's head, and where it ends
   pub at : ℕ
@@ -79,20 +77,19 @@ module _ (m : List ℕ) (base : ℕ) (low : base ≤ length m) (by : Bytes m) (a
   P = Sound m base
 
   -- the objective is read: now its tag
-  module _ (two : a .arg ≡ 2) (n : ℕ) (o : Objective) (bad long : ℕ) (i : ObjectiveStands 3 m (base + a .next) (base + a .next + n) o bad long) where
+  module _ (two : a .arg ≡ 2) (n : ℕ) (o : Objective) (bad long : ℕ) (i : ObjectiveStands m (base + a .next) (base + a .next + n) o bad long) where
     abbrev at : ℕ
     at = a .next + n
 
-    made : (size : ℕ) (y : Item) (t : Tag) (l : Option Loc) (bad′ : ℕ) → Stands s at size y → depth y ≤ 1 → ((w : ℕ) → PairItem (array w (i .item ∷ y ∷ [])) (i .obj, l)) → tagLoc m t ≡ l
+    made : (size : ℕ) (y : Item) (t : Tag) (l : Option Loc) (bad′ : ℕ) → Stands s at size y → ((w : ℕ) → PairItem (array w (i .item ∷ y ∷ [])) (i .obj, l)) → tagLoc m t ≡ l
         → bad′ ≡ 0 ↔ (bad ≡ 0) × Every Utf8 (tagTexts l) → P (PairRead.Got o t size bad′ long)
-    unfolding count depth pairTexts
-    made size y t l bad′ second flat is tag texts =
+    unfolding count pairTexts
+    made size y t l bad′ second is tag texts =
         let (there, back) = i .texts in
         record {
           item = _;
           pair = (i .obj, l);
           stands = lift-first low (array-at ha major two (join (sink-sized m base (a .next) n (i .stands)) (last second)));
-          shallow = omega (arith, i .shallow);
           is = is (ha .width);
           at = base + a .next;
           mid = base + a .next + n;
@@ -109,17 +106,17 @@ module _ (m : List ℕ) (base : ℕ) (low : base ≤ length m) (by : Bytes m) (a
     tagged (LocatorRead.Got l size bad′) q =
         let j = locator-sound m (base + at) l size bad′ (omega (arith, i .stands .within)) by q in
         let (there, back) = first-zero bad bad′ in
-        made (at + size) (j .item) (Tag.At l) (some (j .loc)) (firstOf bad bad′) (sink-sized m base at size (j .stands)) (locator-depth (j .is)) (λ w. PairItem.tagged (i .is) (j .is))
+        made (at + size) (j .item) (Tag.At l) (some (j .loc)) (firstOf bad bad′) (sink-sized m base at size (j .stands)) (λ w. PairItem.tagged (i .is) (j .is))
         (ap some (j .described))
         (λ z. let (x, y) = there z in (x, j .texts .0 y), λ h. back (h .0, j .texts .1 (h .1)))
 
     tailed : P (pairTail base s at o bad long)
-    unfolding pairTail tagLoc tagTexts count depth
+    unfolding pairTail tagLoc tagTexts count
     tailed =
         pick-case P (isEmpty w)
         (λ e. let (four, zero) = empty-is w e in
         let h = token-heading s at w (bytes-drop base m by) (sink-sized m base (a .next) n (i .stands) .within) refl (omega arith) in
-        made (w .next) _ Tag.Empty none bad (array-at h four zero (no-more (h .within))) (omega arith) (λ k. PairItem.untagged (i .is)) refl (λ z. (z, tt), λ z. z .0))
+        made (w .next) _ Tag.Empty none bad (array-at h four zero (no-more (h .within))) (λ k. PairItem.untagged (i .is)) refl (λ z. (z, tt), λ z. z .0))
         (λ _. tagged (locatorIn (base + at) (drop at s)) (ap (locatorIn (base + at)) (sym (drop-drop at base m))))
       where
         w : Token

@@ -16,26 +16,22 @@ use Rattle.cbor.proofs.Accepts.{item-accepts}
 use Rattle.cbor.proofs.Passes.{size-ends}
 use Rattle.grammar.specs.Stands.{Stands}
 use Rattle.grammar.proofs.Bridge.{advances}
-use Rattle.grammar.proofs.Pieces.{Is}
 
 -- where a size is read, an item stands
-pub sized-item : (levels : ℕ) (s : List ℕ) (p : ℕ) → Bytes s → (sizeAt levels s p ≡ 0 → ⊥) → Is s p (p + sizeAt levels s p) (λ x. depth x ≤ leftUnder levels)
+pub sized-item : (levels : ℕ) (s : List ℕ) (p : ℕ) → Bytes s → (sizeAt levels s p ≡ 0 → ⊥) → (x : Item) × Stands s p (p + sizeAt levels s p) x
 unfolding sizeAt
 sized-item levels s p b some =
     let n : ℕ = sizeFrom (firstItem levels (drop p s)) in
     let i = item-exact levels (drop p s) n (bytes-drop p s b) (size-ends (firstItem levels (drop p s)) some) in
-    let long : length (encode (i .item)) ≡ n = ap length (sym (i .bytes)) ∙ length-take-le n (drop p s) (i .within) in
-    record {
-      item = i .item;
-      stands =
-          record {
-            good = i .good;
-            is = sym (take-append-drop n (drop p s)) ∙ ap₂ (λ (h r : List ℕ). h ++ r) (i .bytes) (drop-drop n p s);
-            end = ap (λ (k : ℕ). p + k) (sym long);
-            within = omega (arith, i .within, length-drop p s);
-          };
-      is = i .shallow;
-    }
+    let long : length (encode (i .item)) ≡ n = ap length (sym (i .bytes)) ∙ length-take-le n (drop p s) (i .within) in (
+      i .item,
+      record {
+        good = i .good;
+        is = sym (take-append-drop n (drop p s)) ∙ ap₂ (λ (h r : List ℕ). h ++ r) (i .bytes) (drop-drop n p s);
+        end = ap (λ (k : ℕ). p + k) (sym long);
+        within = omega (arith, i .within, length-drop p s);
+      },
+    )
 
 -- where an item stands, its size is read
 pub item-sized : (levels : ℕ) {s : List ℕ} {p e : ℕ} {x : Item} → Stands s p e x → depth x ≤ leftUnder levels → (sizeAt levels s p ≡ e - p) × (sizeAt levels s p ≡ 0 → ⊥)

@@ -27,11 +27,12 @@ use Rattle.options.specs.Objective.{objectiveFrom, objectiveIn, objectiv
 use Rattle.options.specs.Pair.{isEmpty, pairLevels, pairTagged, pairTail, pairLed, pairIn}
 
 -- ---- locators
--- what a test lets pass is a leaf
+-- null is a leaf
 null-leaf : (w : Token) → isNull w ≡ true → Leaf w
 unfolding isNull
 null-leaf w q = inr (eqb-true (w .major) 7 (both-hold (eqb (w .major) 7) q .0))
 
+-- an address that fits its kind is a leaf
 address-leaf : (kind : ℕ) (w : Token) → addressFits kind w ≡ true → Leaf w
 unfolding addressFits
 address-leaf kind w =
@@ -41,6 +42,7 @@ address-leaf kind w =
     P : Bool → Type 0
     P t = t ≡ true → Leaf w
 
+-- what is read as a protocol is a leaf
 protocol-leaf : (kind : ℕ) (w : Token) → (protocolOf kind w ≡ noProtocol → ⊥) → Leaf w
 unfolding protocolOf
 protocol-leaf kind w =
@@ -50,6 +52,7 @@ protocol-leaf kind w =
     P : ℕ → Type 0
     P p = (p ≡ noProtocol → ⊥) → Leaf w
 
+-- what is read as a port is a leaf
 port-leaf : (kind : ℕ) (w : Token) → portOf kind w ≤ nullPort → Leaf w
 unfolding portOf
 port-leaf kind w =
@@ -59,6 +62,7 @@ port-leaf kind w =
     P : ℕ → Type 0
     P p = p ≤ nullPort → Leaf w
 
+-- a locator has six bytes at least, and lies within so many
 abbrev pub LocatorOk : ℕ → LocatorRead → Type 0
 LocatorOk room (LocatorRead.Bad place) = Unit {0}
 LocatorOk room (LocatorRead.Got l size bad) = (6 ≤ size) × (size ≤ room)
@@ -68,7 +72,7 @@ abbrev pub LocatorWalked : List ℕ → LocatorRead → Type 0
 LocatorWalked s (LocatorRead.Bad place) = Unit {0}
 LocatorWalked s (LocatorRead.Got l size bad) = (left : ℕ) → Passes (suc left) 1 s 0 size
 
--- a locator has six bytes at least: two for its kind, and one for its own head, its address, its protocol and its port
+-- both: two bytes are its kind's, and one its own head's, its address's, its protocol's and its port's
 locator-told : (base : ℕ) (s : List ℕ) → LocatorOk (length s) (locatorIn base s) × LocatorWalked s (locatorIn base s)
 unfolding locatorIn locatorReached
 locator-told base s =
@@ -120,9 +124,11 @@ locator-told base s =
     P : LocatorRead → Type 0
     P r = LocatorOk (length s) r × LocatorWalked s r
 
+-- a locator that is read lies within the part
 locator-ok : (base : ℕ) (s : List ℕ) → LocatorOk (length s) (locatorIn base s)
 locator-ok base s = locator-told base s .0
 
+-- and is passed
 pub locator-walked : (base : ℕ) (s : List ℕ) → LocatorWalked s (locatorIn base s)
 locator-walked base s = locator-told base s .1
 
@@ -135,6 +141,7 @@ pub record ObjectiveParts (end : ℕ) (o : Objective) : Type 0 where
   pub wide : 23 < o .count → o .«count_at» + 2 ≤ o .value .at
   pub counted : o .value .at ≤ end
 
+-- it has four bytes at least, and lies within so many
 abbrev pub ObjectiveOk : ℕ → ℕ → ObjectiveRead → Type 0
 ObjectiveOk base room (ObjectiveRead.Bad place) = Unit {0}
 ObjectiveOk base room (ObjectiveRead.Got o size bad long) = ObjectiveParts (base + room) o × (4 ≤ size) × (size ≤ room)
@@ -144,7 +151,7 @@ abbrev pub ObjectiveWalked : ℕ → List ℕ → ObjectiveRead → Type 0
 ObjectiveWalked levels s (ObjectiveRead.Bad place) = Unit {0}
 ObjectiveWalked levels s (ObjectiveRead.Got o size bad long) = Passes (suc (leftUnder levels)) 1 s 0 size
 
--- it has four bytes at least: one for its own head, its name, its flags and its count
+-- both: one byte is its own head's, its name's, its flags' and its count's
 objective-told : (levels base : ℕ) (s : List ℕ) → ObjectiveOk base (length s) (objectiveIn levels base s) × ObjectiveWalked levels s (objectiveIn levels base s)
 unfolding objectiveIn objectiveNamed objectiveFrom
 objective-told levels base s =
@@ -208,13 +215,16 @@ objective-told levels base s =
           passes-then (passes-then (leaf-passes s (a .next) (inl (omega arith))) (leaf-passes s (n .next) (inl (omega arith)))) (leaf-passes s (f .next) (inl (omega arith))),
         )
 
+-- an objective that is read lies within the part
 objective-ok : (levels base : ℕ) (s : List ℕ) → ObjectiveOk base (length s) (objectiveIn levels base s)
 objective-ok levels base s = objective-told levels base s .0
 
+-- and is passed
 pub objective-walked : (levels base : ℕ) (s : List ℕ) → ObjectiveWalked levels s (objectiveIn levels base s)
 objective-walked levels base s = objective-told levels base s .1
 
 -- ---- pairs
+-- a pair has six bytes at least, and lies within so many
 abbrev pub PairOk : ℕ → ℕ → PairRead → Type 0
 PairOk base room (PairRead.Bad place) = Unit {0}
 PairOk base room (PairRead.Got o t size bad long) = ObjectiveParts (base + room) o × (6 ≤ size) × (size ≤ room)
@@ -261,6 +271,7 @@ PairWalked s (PairRead.Bad place) = Unit {0}
 PairWalked s (PairRead.Got o t size bad long) = Passes (suc (suc (leftUnder pairLevels))) 1 s 0 size
 
 module _ (base : ℕ) (s : List ℕ) where
+  -- both
   abbrev Told : PairRead → Type 0
   Told r = PairOk base (length s) r × PairWalked s r
 
@@ -268,12 +279,14 @@ module _ (base : ℕ) (s : List ℕ) where
   abbrev Second : ℕ → Type 0
   Second at = (e : ℕ) → Passes (suc (leftUnder pairLevels)) 1 s at e → Passes (suc (suc (leftUnder pairLevels))) 1 s 0 e
 
+  -- a pair with its tag
   tagged-told : (at : ℕ) (o : Objective) (bad long : ℕ) (x : LocatorRead) → ObjectiveParts (base + length s) o → LocatorOk (length s - at) x → LocatorWalked (drop at s) x → Second at
       → Told (pairTagged at o bad long x)
   unfolding pairTagged
   tagged-told at o bad long (LocatorRead.Bad place) parts h walked close = (tt, tt)
   tagged-told at o bad long (LocatorRead.Got l size b) parts h walked close = ((parts, omega arith, omega arith), close (at + size) (passes-within (walked (leftUnder pairLevels))))
 
+  -- a pair from its objective on
   led-told : (n at : ℕ) (x : ObjectiveRead) → 1 ≤ at → at ≤ length s → ObjectiveOk (base + at) (length s - at) x → ObjectiveWalked pairLevels (drop at s) x
       → ((e : ℕ) → Passes (suc (leftUnder pairLevels)) n s at e → Passes (suc (suc (leftUnder pairLevels))) 1 s 0 e) → Told (pairLed base s n at x)
   unfolding pairLed pairTail isEmpty
@@ -295,7 +308,7 @@ module _ (base : ℕ) (s : List ℕ) where
       w : Token
       w = tokenAt s (at + size)
 
-  -- a pair has six bytes at least: one for its own head and one for its tag's
+  -- four bytes are its objective's, and one its own head's and its tag's
   pair-told : Told (pairIn base s)
   unfolding pairIn
   pair-told =
@@ -306,9 +319,11 @@ module _ (base : ℕ) (s : List ℕ) where
       led-told (a .arg) (a .next) _ (token-has s 0 .some (omega arith)) (token-end s 0) (objective-within pairLevels s (base + a .next) (a .next) _ _ refl refl)
       (objective-walked pairLevels (base + a .next) (drop (a .next) s)) (λ e items. array-passes s 0 four items))
 
+  -- a pair that is read lies within the part
   pair-ok : PairOk base (length s) (pairIn base s)
   pair-ok = pair-told .0
 
+  -- and is passed
   pub pair-walked : PairWalked s (pairIn base s)
   pair-walked = pair-told .1
 

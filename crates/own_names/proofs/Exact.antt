@@ -7,7 +7,7 @@ use mathlib.Core.Bool.{true, false}
 use Prim.Native.Nat.{ℕ, suc}
 use Rattle.base.proofs.Bools.{true-or-false, not-both}
 use Rattle.cbor.specs.Tree.{Item, depth}
-use Rattle.exact.proofs.Answers.{item-once}
+use Rattle.exact.proofs.Whole.{stands, only-one}
 use Rattle.names.specs.Names.{namesBad, sameBytes, isOwn}
 use Rattle.own_names.specs.Own.{TextArray, OwnNames}
 use Rattle.own_names.proofs.Texts.{texts-flat, texts-one, same-sound, same-complete}
@@ -37,7 +37,7 @@ names-refused s = (
 -- Own names are one list of names only.
 pub names-once : (s : List ℕ) (a b : OwnNames s) → a .names ≡ b .names
 names-once s a b =
-    let same = item-once (a .one .item) (b .one .item) (a .one .good) (b .one .good) (a .one .bytes) (b .one .bytes) in
+    let same = only-one (b .one) (stands (a .one)) in
     array-one (subst (λ (x : Item). TextArray x (a .names)) same (a .are)) (b .are)
 
 -- Their array has one level, so that refusal 6 is never due.

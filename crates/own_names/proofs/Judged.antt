@@ -1,26 +1,28 @@
 -- Own names held against the answer on them, both ways: the frame and the array's head around the texts.
 -- Assumes nothing.
 use mathlib.Core.Path.{_≡_, refl, sym, ap, _∙_, subst}
-use mathlib.Core.List.{List, List·Memᴰ}
+use mathlib.Core.List.{List, _++_, append-nil, List·Memᴰ}
 use mathlib.Core.Bool.{true, false, not, _||_}
 use Prim.Native.Nat.{ℕ, _≤_, zero-le}
 use native.Mathlib.Omega.{arith}
-use lib.ListN.{length}
+use lib.ListN.{length, drop}
 use lib.Dec.{ltb, eqb}
 use borrow.Author.Tests.{eqb-true, ltb-false, not-false, eq-eqb, ne-eqb, le-ltb}
 use Rattle.base.specs.Pick.{pick}
 use Rattle.base.proofs.Picks.{pick-case, past}
+use Rattle.base.proofs.Parts.{drop-past}
 use Rattle.base.proofs.Bools.{or-left, or-right, not-both}
 use Rattle.cbor.specs.declared.item.ItemRead.{ItemRead}
 use Rattle.cbor.specs.declared.token.Token.{Token}
 use Rattle.cbor.specs.Item.{mostLevels, firstItem}
 use Rattle.cbor.specs.Token.{tokenAt}
-use Rattle.cbor.specs.Tree.{Item, Items, count, depth}
+use Rattle.cbor.specs.Tree.{Item, Items, count, depth, encode}
+use Rattle.cbor.proofs.Accepts.{item-accepts}
 use Rattle.grammar.specs.Stands.{Stands, StandAll}
 use Rattle.grammar.proofs.Bridge.{array-token, small-heading, advances}
 use Rattle.grammar.proofs.Pieces.{array-at}
-use Rattle.exact.proofs.Whole.{whole}
-use Rattle.exact.proofs.Answers.{stands, walked}
+use Rattle.exact.proofs.Whole.{stands}
+use Rattle.exact.proofs.Answers.{walked}
 use Rattle.message.specs.Read.{mostBytes}
 use Rattle.names.specs.Names.{mostNames, goodNames, arrayBad, framedBad, namesBad, ownFrom, isOwn}
 use Rattle.own_names.specs.Own.{TextItems, TextArray, OwnNames}
@@ -79,6 +81,13 @@ framed-good s (ItemRead.Ends end) =
     pick-case (λ r. r ≡ false → (ItemRead.Ends end ≡ ItemRead.Ends (length s)) × (arrayBad s ≡ false)) (eqb end (length s))
     (λ e q. (ap ItemRead.Ends (eqb-true end (length s) e), q)) (λ e q. absurd (not-both true refl q))
 
+-- the walk took the whole: an item that stands at the start, of eight levels at most, is the whole
+whole : {s : List ℕ} {e : ℕ} {x : Item} → firstItem 0 s ≡ ItemRead.Ends (length s) → Stands s 0 e x → depth x ≤ mostLevels → encode x ≡ s
+whole {s} {e} {x} w a d =
+    let ends : ItemRead.Ends (length (encode x)) ≡ ItemRead.Ends (length s) = sym (ap (firstItem 0) (a .is) ∙ item-accepts 0 x (drop e s) (a .good) d) ∙ w in
+    let long : length (encode x) ≡ length s = cc in
+    sym (append-nil (encode x)) ∙ ap (λ (r : List ℕ). encode x ++ r) (sym (drop-past s e (omega (arith, a .end)))) ∙ sym (a .is)
+
 -- the walk took the whole, and the array is good
 array-own : {s : List ℕ} → length s ≤ mostBytes → firstItem 0 s ≡ ItemRead.Ends (length s) → arrayBad s ≡ false → OwnNames s
 unfolding arrayBad depth
@@ -94,9 +103,8 @@ array-own {s} most all good =
     let n = names-sound (a .arg) (a .next) (h .within) (not-false named (or-right (not kind || over) (not named) good)) in
     let stand = array-at h four (n .many) (n .stand) in
     let shallow : depth (Item.array (h .width) (n .items)) ≤ mostLevels = omega (arith, texts-flat (n .are)) in
-    let (_, full) = whole all stand shallow in
     record {
-      one = record { item = Item.array (h .width) (n .items); bytes = full; most = most; good = stand .good; shallow = shallow };
+      one = record { item = Item.array (h .width) (n .items); bytes = whole all stand shallow; most = most; good = stand .good; shallow = shallow };
       names = n .names;
       are = TextArray.array (n .are);
       few = omega (arith, n .many, texts-counted (n .are));
