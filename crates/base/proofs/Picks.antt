@@ -14,6 +14,16 @@ pick-case P false f g = g refl
 pub both {ℓ κ} : {A : Type ℓ} (P : A → Type κ) (t : Bool) {x y : A} → P x → P y → P (pick t x y)
 both P t p q = pick-case P t (λ _. p) (λ _. q)
 
+-- what relates both pairs of choices by one test, each where its test holds
+pub one-test-case : {A : Type 0} (R : A → A → Type 0) (t : Bool) {x x′ y y′ : A} → (t ≡ true → R x x′) → (t ≡ false → R y y′) → R (pick t x y) (pick t x′ y′)
+unfolding pick
+one-test-case R true f g = f refl
+one-test-case R false f g = g refl
+
+-- what relates both pairs of choices by one test
+pub one-test : {A : Type 0} (R : A → A → Type 0) (t : Bool) {x x′ y y′ : A} → R x x′ → R y y′ → R (pick t x y) (pick t x′ y′)
+one-test R t h h′ = one-test-case R t (λ _. h) (λ _. h′)
+
 -- a choice that isn't the first is the second
 pub past : {A : Type 0} (t : Bool) {x y z : A} → pick t x y ≡ z → (x ≡ z → ⊥) → (t ≡ false) × (y ≡ z)
 unfolding pick

@@ -3,7 +3,6 @@
 use mathlib.Core.Path.{_≡_, refl, ap}
 use mathlib.Core.Logic.{_≢_}
 use mathlib.Core.List.{List, [], _∷_, _++_}
-use mathlib.Core.Bool.{Bool, true, false}
 use Prim.Native.Nat.{ℕ, zero, suc, _+_, _-_, _≤_}
 use native.Mathlib.Omega.{arith}
 use lib.ListN.{length, drop, length-append, length-drop, List·getD-append}
@@ -12,7 +11,7 @@ use lib.Dec.{ltb, leb, eqb, lit≤}
 use borrow.Author.Tests.{ltb-false, le-ltb, leb-true, le-leb}
 use Rattle.base.specs.Pick.{pick}
 use Rattle.base.specs.BigEndian.{bigEndian}
-use Rattle.base.proofs.Picks.{pick-case, both}
+use Rattle.base.proofs.Picks.{pick-case, both, one-test}
 use Rattle.cbor.specs.declared.head.Initial.{Initial}
 use Rattle.cbor.specs.declared.head.HeadRead.{HeadRead}
 use Rattle.cbor.specs.declared.item.Step.{Step}
@@ -70,12 +69,6 @@ abbrev StepStays : Step → Step → Type 0
 StepStays (Step.Refused number place) y = (2 ≤ number) × (number ≤ 6) × (number ≢ 2 → y ≡ Step.Refused number place)
 StepStays (Step.Passed len) y = y ≡ Step.Passed len
 StepStays (Step.Opened len n pairs) y = y ≡ Step.Opened len n pairs
-
--- two answers by one test
-one-test : {A : Type 0} (R : A → A → Type 0) (t : Bool) {x x′ y y′ : A} → R x x′ → R y y′ → R (pick t x y) (pick t x′ y′)
-unfolding pick
-one-test R true h h′ = h
-one-test R false h h′ = h′
 
 step-of-stays : (left room room′ major arg len : ℕ) → room ≤ room′ → StepStays (stepOf left room major arg len) (stepOf left room′ major arg len)
 unfolding stepOf opens pick

@@ -7,14 +7,15 @@ use mathlib.Core.Bool.{Bool, true, false}
 use Prim.Native.Nat.{ℕ}
 use native.Mathlib.Omega.{arith}
 use lib.ListN.{length}
-use lib.Dec.{ltb, eqb}
-use borrow.Author.Tests.{ltb-true, ltb-false, eqb-true, eqb-false}
+use lib.Dec.{ltb}
+use borrow.Author.Tests.{ltb-true, ltb-false}
 use Rattle.base.specs.Pick.{pick}
 use Rattle.base.proofs.Picks.{pick-case}
 use Rattle.cbor.specs.declared.token.Token.{Token}
 use Rattle.utf8.specs.Utf8.{isUtf8}
 use Rattle.options.specs.Text.{badText, firstOf}
 use Rattle.options.specs.Objective.{mostName, longName}
+use Rattle.options.proofs.Texts.{none-first}
 use Rattle.grammar.specs.Limits.{Utf8, Short}
 
 -- a text's place isn't given exactly where the text is UTF-8
@@ -35,8 +36,5 @@ long-name w place name some long =
 
 -- two have no place where neither has one
 pub first-zero : (a b : ℕ) → firstOf a b ≡ 0 ↔ (a ≡ 0) × (b ≡ 0)
-unfolding firstOf
-first-zero a b =
-    pick-case (λ n. n ≡ 0 ↔ (a ≡ 0) × (b ≡ 0)) (eqb a 0)
-    (λ e. (λ z. (eqb-true a 0 e, z), λ z. z .1))
-    (λ e. (λ z. absurd (eqb-false a 0 e z), λ z. z .0))
+unfolding firstOf pick
+first-zero a b = (none-first a b, λ z. rw (z .0, z .1) refl)
