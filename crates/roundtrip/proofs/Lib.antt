@@ -3,9 +3,10 @@
 pub mod Read
 pub mod Relay
 pub mod Write
--- For callers' proofs: items that are messages, encoded; where a message's items stand.
+-- For callers' proofs: items that are messages, encoded; where a message's items stand; pairs read at another place.
 pub mod Encodes
 pub mod Places
+pub mod Moved
 -- For the proofs of this crate: where the count stands; messages that are encoded alike are the same; what the judge passes; bytes
 -- handed over.
 mod Counts
