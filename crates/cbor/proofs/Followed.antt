@@ -27,7 +27,7 @@ HeadStays (HeadRead.Refused number place) y = (2 ≤ number) × (number ≤ 6) �
 HeadStays (HeadRead.Head major arg len) y = y ≡ HeadRead.Head major arg len
 
 -- the bytes of an argument are read as they were
-big-endian-stays : (n : ℕ) (s t : List ℕ) → n ≤ length s → bigEndian (s ++ t) n ≡ bigEndian s n
+pub big-endian-stays : (n : ℕ) (s t : List ℕ) → n ≤ length s → bigEndian (s ++ t) n ≡ bigEndian s n
 unfolding bigEndian
 big-endian-stays zero s t h = refl
 big-endian-stays (suc n) s t h = rw (big-endian-stays n s t (omega arith), List·getD-append s t 0 n h)

@@ -10,6 +10,7 @@ pub mod Unique
 pub mod Refuses
 pub mod Tokens
 pub mod Passes
+pub mod Kept
 pub mod Stores
 -- For the proofs of this crate.
 mod Bounds

@@ -4,7 +4,7 @@ use mathlib.Core.Path.{_≡_, refl, sym, ap, _∙_, subst}
 use mathlib.Core.List.{List, [], _∷_}
 use mathlib.Core.Bool.{Bool, true, false}
 use Prim.Native.Nat.{ℕ, _+_, _-_, _/_, _%_, _≤_, _<_, zero-le}
-use native.Mathlib.Nat.{le-refl}
+use native.Mathlib.Nat.{add-zero, le-refl}
 use native.Mathlib.Omega.{arith}
 use lib.ListN.{length, take, drop, length-drop}
 use lib.Seq.{drop-drop}
@@ -187,6 +187,10 @@ shifted-from by at room (HeadRead.Head major arg len) = go (ltb 1 major) (ltb ma
 pub token-shifted : (s : List ℕ) (by at : ℕ) → Shifted by (tokenAt s (by + at)) (tokenAt (drop by s) at)
 unfolding tokenAt
 token-shifted s by at = rw (drop-drop at by s) (shifted-from by at (length (drop (by + at) s)) (headAt (drop (by + at) s)))
+
+-- so at the part that begins with it
+pub token-first : (s : List ℕ) (at : ℕ) → Shifted at (tokenAt s at) (tokenAt (drop at s) 0)
+token-first s at = subst (λ (p : ℕ). Shifted at (tokenAt s p) (tokenAt (drop at s) 0)) (add-zero at) (token-shifted s at 0)
 
 -- ---- an item passed over
 size-within : (levels : ℕ) (s : List ℕ) (x : ItemRead) → firstItem levels s ≡ x → sizeFrom x ≤ length s

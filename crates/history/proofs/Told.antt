@@ -7,7 +7,6 @@ use Prim.Native.Nat.{ℕ, _-_}
 use native.Mathlib.Omega.{arith}
 use Rattle.options.specs.Text.{held}
 use Rattle.base.specs.Pick.{pick}
-use Rattle.base.specs.BigEndian.{Bytes}
 use Rattle.options.specs.declared.objective.Objective.{Objective}
 use Rattle.message.specs.declared.Message.{Message}
 use Rattle.message.specs.declared.Message.the-variants as M
@@ -53,8 +52,8 @@ count-of m o Lowers.discovery = refl
 count-of m o Lowers.flood = refl
 
 -- the message that goes out has it one lower
-pub onward-count : (message : List ℕ) (s : Spread) → Bytes message → RoleIn message (Role.Spreads s) → told (onward message (s .objective)) .count ≡ s .objective .count - 1
+pub onward-count : (message : List ℕ) (s : Spread) → RoleIn message (Role.Spreads s) → told (onward message (s .objective)) .count ≡ s .objective .count - 1
 unfolding told toldReading
-onward-count message s b r =
-    let (m′, read, relays) = lowered-reads message (r .is) (s .objective) b (r .read) (role-spreading message s r .lowers) in
+onward-count message s r =
+    let (m′, read, relays) = lowered-reads message (r .is) (s .objective) (r .read) (role-spreading message s r .lowers) in
     ap (λ (x : Reading). toldReading (onward message (s .objective)) x .count) read ∙ count-of m′ (relays .objective) (relays .lowers) ∙ relays .lower

@@ -13,7 +13,6 @@ use lib.Pow.{pow-mono}
 use Rattle.options.specs.Text.{held}
 use Rattle.base.specs.Pick.{pick}
 use Rattle.base.specs.Lists.{Every, EachPair, Distinct}
-use Rattle.base.specs.BigEndian.{Bytes}
 use Rattle.base.specs.Bits.{hasBit}
 use Rattle.base.proofs.Picks.{pick-case}
 use Rattle.base.proofs.Bools.{not-both}
@@ -28,7 +27,7 @@ use Rattle.node_state.specs.Table.{freshTable, rowLife, freed, lowestFree, isKn
 use Rattle.node.specs.Role.{keyIn}
 use Rattle.roundtrip.specs.Lower.{onward}
 use Rattle.node.specs.Call.{Call, After, relayed, nodeCall}
-use Rattle.node.specs.History.{Event, call, links, Step, steps, finally, InBytes, isRelay, saysRelay, maskOf, lengthOf, Told, told, relaysOf, given, sent, clockOf, arrivedOn, interfacesIn, copies, copiesOf, SameKey, apartBy, Apart, GoesOut, Near, Few, WholeList}
+use Rattle.node.specs.History.{Event, call, links, Step, steps, finally, isRelay, saysRelay, maskOf, lengthOf, Told, told, relaysOf, given, sent, clockOf, arrivedOn, interfacesIn, copies, copiesOf, SameKey, apartBy, Apart, GoesOut, Near, Few, WholeList}
 use Rattle.node.specs.Demand.{Demand3}
 use Rattle.node_state.proofs.Masks.{record-links, up-below, taken-down}
 use Rattle.node_state.proofs.Rows.{put-holds, length-free, table-sized}
@@ -57,7 +56,6 @@ record Sound (interfaces : ℕ) (x : Step) : Type 0 where
 
 -- what is known of a call that was answered RELAY
 record Known (x : Step) (s : Spread) : Type 0 where
-  bytes : Bytes (x .call .message)
   facts : Relays (x .node) (x .table) (x .call) s
   is : x .after ≡ relayed (clocked (x .node) (x .call .clock)) (freed (x .call .clock) (x .table)) (x .call) s
 
@@ -160,27 +158,27 @@ unfolding relayed saysRelay isRelay
 says-relay r t c s b e = ap (λ (z : After). saysRelay (z .called .reply)) e
 
 -- a call's relay, in front of the later ones
-listed : (r : Record) (t : List ℕ) (c : Call) (b : After) (P : List Step → Type 0) (rest : List Step) → Bytes (c .message) → View r t c b
+listed : (r : Record) (t : List ℕ) (c : Call) (b : After) (P : List Step → Type 0) (rest : List Step) → View r t c b
     → P rest → ((s : Spread) → Known (stepOf r t c b) s → P (stepOf r t c b ∷ rest)) → P (pick (saysRelay (b .called .reply)) (stepOf r t c b ∷ rest) rest)
 unfolding pick
-listed r t c b P rest fits (stayed nb tb e) f g = rw e f
-listed r t c b P rest fits (ended p nb tb e) f g = rw e f
-listed r t c b P rest fits (went s k e) f g = rw (says-relay r t c s b e) (g s (record { bytes = fits; facts = k; is = e }))
+listed r t c b P rest (stayed nb tb e) f g = rw e f
+listed r t c b P rest (ended p nb tb e) f g = rw e f
+listed r t c b P rest (went s k e) f g = rw (says-relay r t c s b e) (g s (record { facts = k; is = e }))
 
-future : (x : Step) (s : Spread) → Known x s → (es : List Event) → Every InBytes es → (r : Record) (t : List ℕ) → There x s (r .clock) t → Every (Behind x) (relaysOf (steps r t es))
+future : (x : Step) (s : Spread) → Known x s → (es : List Event) → (r : Record) (t : List ℕ) → There x s (r .clock) t → Every (Behind x) (relaysOf (steps r t es))
 unfolding steps relaysOf rowOf clockOf
-future x s k [] fits r t there = tt
-future x s k (call c ∷ es) fits r t there =
+future x s k [] r t there = tt
+future x s k (call c ∷ es) r t there =
     let b = nodeCall r t c in
     let key = keyIn (x .call .message) s in
-    let rest = future x s k es (fits .1) (b .called .node) (b .table) (there-on x s k r t c b (view r t c) there) in
-    listed r t c b (Every (Behind x)) (relaysOf (steps (b .called .node) (b .table) es)) (fits .0) (view r t c) rest
+    let rest = future x s k es (b .called .node) (b .table) (there-on x s k r t c b (view r t c) there) in
+    listed r t c b (Every (Behind x)) (relaysOf (steps (b .called .node) (b .table) es)) (view r t c) rest
     (λ s′ k′. (
       known-behind x s k (stepOf r t c b) s′ k′ (there-past key (rowOf x) (clockOf x) r t (c .clock) (c .interface) (length (c .output)) (k .facts .room) (k′ .facts .passes) there)
           (freed-there key (rowOf x) (clockOf x) r t (c .clock) (c .interface) (length (c .output)) (row-lives x s k) (k′ .facts .passes) there),
       rest,
     ))
-future x s k (links mask ∷ es) fits r t there = future x s k es (fits .1) (setLinks r mask .node) t (rw (links-keep r mask .clock) there)
+future x s k (links mask ∷ es) r t there = future x s k es (setLinks r mask .node) t (rw (links-keep r mask .clock) there)
 
 -- a relay's own row, just filled
 own-row : (r : Record) (t : List ℕ) (c : Call) (b : After) (s : Spread) → Known (stepOf r t c b) s → There (stepOf r t c b) s (b .called .node .clock) (b .table)
@@ -189,15 +187,15 @@ own-row r t c b s k =
     let e = k .is in
     rw e (inr (put-holds (freed (c .clock) t) (lowestFree (freed (c .clock) t)) (keyIn (c .message) s) (c .clock) (length-free (c .clock) t 64 ∙ table-sized (c .clock) t (k .facts .passes .table)) (k .facts .room)))
 
-pairs : (es : List Event) → Every InBytes es → (r : Record) (t : List ℕ) → EachPair Behind (relaysOf (steps r t es))
+pairs : (es : List Event) → (r : Record) (t : List ℕ) → EachPair Behind (relaysOf (steps r t es))
 unfolding steps relaysOf
-pairs [] fits r t = tt
-pairs (call c ∷ es) fits r t =
+pairs [] r t = tt
+pairs (call c ∷ es) r t =
     let b = nodeCall r t c in
-    let rest = pairs es (fits .1) (b .called .node) (b .table) in
-    listed r t c b (EachPair Behind) (relaysOf (steps (b .called .node) (b .table) es)) (fits .0) (view r t c) rest
-    (λ s k. (future (stepOf r t c b) s k es (fits .1) (b .called .node) (b .table) (own-row r t c b s k), rest))
-pairs (links mask ∷ es) fits r t = pairs es (fits .1) (setLinks r mask .node) t
+    let rest = pairs es (b .called .node) (b .table) in
+    listed r t c b (EachPair Behind) (relaysOf (steps (b .called .node) (b .table) es)) (view r t c) rest
+    (λ s k. (future (stepOf r t c b) s k es (b .called .node) (b .table) (own-row r t c b s k), rest))
+pairs (links mask ∷ es) r t = pairs es (setLinks r mask .node) t
 
 -- ---- one relay
 
@@ -253,7 +251,7 @@ module _ (x : Step) (s : Spread) (k : Known x s) where
       let bytes = onward (x .call .message) (s .objective) in
       ap (λ (z : After). told (take (lengthOf (z .called .reply)) (z .output)) .count) (k .is)
       ∙ ap (λ (z : List ℕ). told z .count) (take-append-seam bytes (drop (length bytes) (x .call .output)))
-      ∙ onward-count (x .call .message) s (k .bytes) (k .facts .role)
+      ∙ onward-count (x .call .message) s (k .facts .role)
 
   known-sound : Sound (x .node .interfaces) x
   unfolding arrivedOn rowOf
@@ -274,15 +272,15 @@ module _ (x : Step) (s : Spread) (k : Known x s) where
             rw same (omega (arith, pigeonhole (x .node .interfaces) (x .call .interface ∷ interfacesIn 8 (outgoing x)) (others-differ, interfaces-distinct 8 (outgoing x)) (below, copies-below x s (k .facts) (k .is))));
       }
 
-sound : (n : ℕ) (es : List Event) → Every InBytes es → (r : Record) (t : List ℕ) → r .interfaces ≡ n → Every (Sound n) (relaysOf (steps r t es))
+sound : (n : ℕ) (es : List Event) → (r : Record) (t : List ℕ) → r .interfaces ≡ n → Every (Sound n) (relaysOf (steps r t es))
 unfolding steps relaysOf
-sound n [] fits r t e = tt
-sound n (call c ∷ es) fits r t e =
+sound n [] r t e = tt
+sound n (call c ∷ es) r t e =
     let b = nodeCall r t c in
-    let rest = sound n es (fits .1) (b .called .node) (b .table) (interfaces-on r t c b (view r t c) ∙ e) in
-    listed r t c b (Every (Sound n)) (relaysOf (steps (b .called .node) (b .table) es)) (fits .0) (view r t c) rest
+    let rest = sound n es (b .called .node) (b .table) (interfaces-on r t c b (view r t c) ∙ e) in
+    listed r t c b (Every (Sound n)) (relaysOf (steps (b .called .node) (b .table) es)) (view r t c) rest
     (λ s k. (subst (λ (z : ℕ). Sound z (stepOf r t c b)) e (known-sound (stepOf r t c b) s k), rest))
-sound n (links mask ∷ es) fits r t e = sound n es (fits .1) (setLinks r mask .node) t (links-keep r mask .interfaces ∙ e)
+sound n (links mask ∷ es) r t e = sound n es (setLinks r mask .node) t (links-keep r mask .interfaces ∙ e)
 
 -- ---- the tally
 
@@ -345,10 +343,10 @@ fresh-tally address port ttl interfaces mask = pick-case (λ (k : Kept). k .node
 -- for readers
 
 -- Demand 3 for one list, from any table and a record that has tallied nothing.
-pub whole : (r : Record) (t : List ℕ) (events : List Event) → r .tally ≡ 0 → Every InBytes events → WholeList r t events
-whole r t events none fits =
-    let p = pairs events fits r t in
-    let h = sound (r .interfaces) events fits r t refl in
+pub whole : (r : Record) (t : List ℕ) (events : List Event) → r .tally ≡ 0 → WholeList r t events
+whole r t events none =
+    let p = pairs events r t in
+    let h = sound (r .interfaces) events r t refl in
     record {
       apart = every-pair Behind Apart (λ x y b. b .apart) (relaysOf (steps r t events)) p;
       each = every-imp (Sound (r .interfaces)) (GoesOut (r .interfaces)) (λ x b. b .out) (relaysOf (steps r t events)) h;
@@ -359,6 +357,6 @@ whole r t events none fits =
 -- Demand 3, entire.
 pub demand3 : Demand3
 demand3 = record {
-  node = λ address port ttl interfaces mask events fits. whole (fresh address port ttl interfaces mask .node) freshTable events (fresh-tally address port ttl interfaces mask) fits;
+  node = λ address port ttl interfaces mask events. whole (fresh address port ttl interfaces mask .node) freshTable events (fresh-tally address port ttl interfaces mask);
   negotiation = negotiation-bounded;
 }

@@ -4,7 +4,6 @@ use mathlib.Core.Path.{_≡_, refl, ap, _∙_, subst}
 use mathlib.Core.List.{List}
 use mathlib.Core.Bool.{Bool, false}
 use Prim.Native.Nat.{ℕ}
-use native.Mathlib.Nat.{add-zero}
 use native.Mathlib.Omega.{arith}
 use lib.ListN.{drop}
 use lib.Dec.{ltb, eqb}
@@ -13,7 +12,7 @@ use Rattle.base.specs.Pick.{pick}
 use Rattle.base.proofs.Picks.{both, past}
 use Rattle.cbor.specs.declared.token.Token.{Token}
 use Rattle.cbor.specs.Token.{tokenAt, itemsIn, upTo}
-use Rattle.cbor.proofs.Tokens.{is-number, Shifted, token-shifted}
+use Rattle.cbor.proofs.Tokens.{is-number, token-shifted, token-first}
 use Rattle.options.specs.declared.locator.LocatorRead.{LocatorRead}
 use Rattle.options.specs.declared.locator.Locator.{Locator}
 use Rattle.options.specs.Locator.{locatorIn, locatorReached, locatorAt}
@@ -48,13 +47,10 @@ module _ (s : List ℕ) (at : ℕ) where
       let most = past (ltb 106 (upTo 106 kind)) (least .1) (never _ l size bad) in
       (eqb-false (itemsIn array) 0 (items .0), is-number 106 kind (ltb-false 106 (upTo 106 kind) (most .0)) .0)
 
-  here : Shifted at (tokenAt s at) array
-  here = subst (λ (p : ℕ). Shifted at (tokenAt s p) array) (add-zero at) (token-shifted s at 0)
-
   pub never-led : (l : Locator) (size bad : ℕ) → locatorAt s at ≡ LocatorRead.Got l size bad → textLed s at ≡ false
   unfolding textLed
   never-led l size bad q =
       let k = leads l size bad q in
       let number : tokenAt s (tokenAt s at .next) .major ≡ 0 =
-      ap (λ (p : ℕ). tokenAt s p .major) (here .next (present array (k .0))) ∙ token-shifted s at (array .next) .major ∙ k .1 in
+      ap (λ (p : ℕ). tokenAt s p .major) (token-first s at .next (present array (k .0))) ∙ token-shifted s at (array .next) .major ∙ k .1 in
       both (λ (b : Bool). b ≡ false) _ refl (ne-eqb (tokenAt s (tokenAt s at .next) .major) 3 (λ e. omega arith))

@@ -1,7 +1,7 @@
 -- What is known of a message that was read, of any list of numbers: how long it is, where the parts of a Discovery and of a Flood lie, and that each
 -- locator and each pair has six bytes at least.
 -- Assumes nothing.
-use mathlib.Core.Path.{_≡_, refl, subst}
+use mathlib.Core.Path.{_≡_, refl, sym, subst}
 use mathlib.Core.List.{List}
 use mathlib.Core.Bool.{Bool, true}
 use mathlib.Core.Logic.{_⊎_, inl, inr}
@@ -70,6 +70,20 @@ MessageParts s (M.Synch session o) = Unit {0}
 MessageParts s (M.Flood session initiator ttl first pairs) = SpreadParts s session initiator first × Six s pairs
 MessageParts s (M.Invalid session item) = Unit {0}
 
+-- a Discovery is of kind 1 and a Flood of kind 9
+abbrev pub OfKind : ℕ → Message → Type 0
+OfKind kind M.Noop = Unit {0}
+OfKind kind (M.Discovery session initiator o) = kind ≡ 1
+OfKind kind (M.Response session initiator ttl targets extra) = Unit {0}
+OfKind kind (M.RequestNegotiation session o) = Unit {0}
+OfKind kind (M.RequestSynchronization session o) = Unit {0}
+OfKind kind (M.Negotiate session o) = Unit {0}
+OfKind kind (M.End session outcome) = Unit {0}
+OfKind kind (M.Wait session time) = Unit {0}
+OfKind kind (M.Synch session o) = Unit {0}
+OfKind kind (M.Flood session initiator ttl first pairs) = kind ≡ 9
+OfKind kind (M.Invalid session item) = Unit {0}
+
 -- what the test of an initiator says
 pub initiated : (t : Token) → isInitiator t ≡ true → (t .major ≡ 2) × ((t .arg ≡ 4) ⊎ (t .arg ≡ 16))
 unfolding isInitiator
@@ -83,9 +97,9 @@ initiated t =
 
 module _ (s : List ℕ) where
   -- ---- the shapes
-  abbrev ShapeParts : Shape → Type 0
-  ShapeParts (Shape.Bad place) = Unit {0}
-  ShapeParts (Shape.Good m end bad long) = MessageParts s m
+  abbrev pub ShapeParts : ℕ → Shape → Type 0
+  ShapeParts kind (Shape.Bad place) = Unit {0}
+  ShapeParts kind (Shape.Good m end bad long) = OfKind kind m × MessageParts s m
 
   -- an initiator of 4 or 16 bytes
   initiator-has : (at : ℕ) → isInitiator (tokenAt s at) ≡ true
@@ -103,19 +117,19 @@ module _ (s : List ℕ) where
 
   -- Discovery
   discovered-parts : (session at : ℕ) (i : Span) (x : ObjectiveRead) → ((o : Objective) → ObjectiveParts (at + (length s - at)) o → SpreadParts s session i o)
-      → ObjectiveOk at (length s - at) x → ShapeParts (discovered session i at x)
+      → ObjectiveOk at (length s - at) x → ShapeParts 1 (discovered session i at x)
   unfolding discovered
   discovered-parts session at i (ObjectiveRead.Bad place) make h = tt
-  discovered-parts session at i (ObjectiveRead.Got o size bad long) make h = make o (h .0)
+  discovered-parts session at i (ObjectiveRead.Got o size bad long) make h = (refl, make o (h .0))
 
-  discovery-parts : (n at : ℕ) → ShapeParts (discoveryAt s n at)
+  discovery-parts : (n at : ℕ) → ShapeParts 1 (discoveryAt s n at)
   unfolding discoveryAt
   discovery-parts n at =
       let i = tokenAt s at in
       let j = tokenAt s (i .next) in
-      both ShapeParts (eqb n 4)
-      (pick-case ShapeParts (ltb most (upTo most i)) (λ _. tt)
-      (λ e. pick-case ShapeParts (isInitiator j)
+      both (ShapeParts 1) (eqb n 4)
+      (pick-case (ShapeParts 1) (ltb most (upTo most i)) (λ _. tt)
+      (λ e. pick-case (ShapeParts 1) (isInitiator j)
       (λ f. let (within, bytes) = initiator-has (i .next) f in
       discovered-parts _ (j .next) _ _ (λ o h. record { session = ltb-false most (upTo most i) e; within = within; bytes = bytes; objective = objective-in (token-end s (i .next)) h })
       (objective-within objectiveLevels s (j .next) (j .next) _ _ refl refl))
@@ -141,98 +155,116 @@ module _ (s : List ℕ) where
 
   -- Flood
   flooded-by : (from n at : ℕ) (opening : Opening) (first : Objective) (x : PairsRead) → SpreadParts s (opening .session) (opening .initiator) first
-      → PairsRan s (n - 1) at x → 6 ≤ at → ShapeParts (floodedBy opening first (record { at = from; many = n }) x)
+      → PairsRan s (n - 1) at x → 6 ≤ at → ShapeParts 9 (floodedBy opening first (record { at = from; many = n }) x)
   unfolding floodedBy
   flooded-by from n at opening first (PairsRead.Bad place) h k six = tt
-  flooded-by from n at opening first (PairsRead.Ran end bad long) h k six = (h, omega arith)
+  flooded-by from n at opening first (PairsRead.Ran end bad long) h k six = (refl, (h, omega arith))
 
   flooded-of : (n at : ℕ) (opening : Opening) (x : PairRead) → at ≤ length s → ((o : Objective) → ObjectiveParts (length s) o → SpreadParts s (opening .session) (opening .initiator) o)
-      → PairOk at (length s - at) x → ShapeParts (floodedOf s opening n at x)
+      → PairOk at (length s - at) x → ShapeParts 9 (floodedOf s opening n at x)
   unfolding floodedOf
   flooded-of n at opening (PairRead.Bad place) low make h = tt
   flooded-of n at opening (PairRead.Got first tag size bad long) low make h =
       flooded-by at n (at + size) opening first _ (make first (objective-in low (h .0))) (pairs-ran s (n - 1) (at + size) bad long (omega arith)) (omega arith)
 
-  flood-parts : (n at : ℕ) → ShapeParts (floodAt s n at)
+  flood-parts : (n at : ℕ) → ShapeParts 9 (floodAt s n at)
   unfolding floodAt floodBy floodedAt
-  flood-parts n at = both ShapeParts (ltb n 5) tt (by (openingAt s at) (opening-parts at))
+  flood-parts n at = both (ShapeParts 9) (ltb n 5) tt (by (openingAt s at) (opening-parts at))
     where
-      by : (x : OpeningRead) → OpeningParts x → ShapeParts (floodBy s n x)
+      by : (x : OpeningRead) → OpeningParts x → ShapeParts 9 (floodBy s n x)
       by (OpeningRead.Bad place) h = tt
       by (OpeningRead.Got opening next) (low, make) = flooded-of (n - 4) next opening (pairAt s next) low make (pair-within s next next _ _ refl refl)
 
   -- Response
-  rest-parts : (opening : Opening) (targets : Targets) (left at bad : ℕ) → TargetsSix s targets → ShapeParts (restAt s opening targets left at bad)
+  rest-parts : (opening : Opening) (targets : Targets) (left at bad : ℕ) → TargetsSix s targets → ShapeParts 2 (restAt s opening targets left at bad)
   unfolding restAt restOf
-  rest-parts opening targets left at bad six = both ShapeParts (eqb left 0) six (by (objectiveAt objectiveLevels s at))
+  rest-parts opening targets left at bad six = both (ShapeParts 2) (eqb left 0) (tt, six) (by (objectiveAt objectiveLevels s at))
     where
-      by : (x : ObjectiveRead) → ShapeParts (restOf s opening targets left at bad x)
+      by : (x : ObjectiveRead) → ShapeParts 2 (restOf s opening targets left at bad x)
       by (ObjectiveRead.Bad place) = tt
-      by (ObjectiveRead.Got o size bad′ long) = both ShapeParts (eqb left 1) six tt
+      by (ObjectiveRead.Got o size bad′ long) = both (ShapeParts 2) (eqb left 1) (tt, six) tt
 
-  located-parts : (opening : Opening) (n at : ℕ) (x : LocatorsRead) → LocatorsRan s n at x → ShapeParts (locatedOf s opening n at x)
+  located-parts : (opening : Opening) (n at : ℕ) (x : LocatorsRead) → LocatorsRan s n at x → ShapeParts 2 (locatedOf s opening n at x)
   unfolding locatedOf
   located-parts opening n at (LocatorsRead.Bad place) h = tt
-  located-parts opening n at (LocatorsRead.Ran end left bad) h = both ShapeParts (leb n left) tt (rest-parts opening _ left end bad (omega arith))
+  located-parts opening n at (LocatorsRead.Ran end left bad) h = both (ShapeParts 2) (leb n left) tt (rest-parts opening _ left end bad (omega arith))
 
-  divert-parts : (opening : Opening) (left many from : ℕ) (x : LocatorsRead) → LocatorsRan s many from x → ShapeParts (divertOf s opening left many from x)
+  divert-parts : (opening : Opening) (left many from : ℕ) (x : LocatorsRead) → LocatorsRan s many from x → ShapeParts 2 (divertOf s opening left many from x)
   unfolding divertOf
   divert-parts opening left many from (LocatorsRead.Bad place) h = tt
   divert-parts opening left many from (LocatorsRead.Ran end over bad) h =
-      pick-case ShapeParts (eqb over 0) (λ e. rest-parts opening _ left end bad (omega (arith, eqb-true over 0 e))) (λ _. tt)
+      pick-case (ShapeParts 2) (eqb over 0) (λ e. rest-parts opening _ left end bad (omega (arith, eqb-true over 0 e))) (λ _. tt)
 
-  response-parts : (n at : ℕ) → ShapeParts (responseAt s n at)
+  response-parts : (n at : ℕ) → ShapeParts 2 (responseAt s n at)
   unfolding responseAt responseBy targetsAt divertAt locatedAt
-  response-parts n at = both ShapeParts (ltb n 5) tt (by (openingAt s at) (opening-parts at))
+  response-parts n at = both (ShapeParts 2) (ltb n 5) tt (by (openingAt s at) (opening-parts at))
     where
-      by : (x : OpeningRead) → OpeningParts x → ShapeParts (responseBy s n x)
+      by : (x : OpeningRead) → OpeningParts x → ShapeParts 2 (responseBy s n x)
       by (OpeningRead.Bad place) h = tt
       by (OpeningRead.Got opening next) (low, make) =
           let o = tokenAt s next in
           let located = located-parts opening (n - 4) next _ (locators-ran s (n - 4) next 0 low) in
-          both ShapeParts (eqb (itemsIn o) 0) located
-          (both ShapeParts _ (both ShapeParts (ltb (o .arg) 2) tt (divert-parts opening _ _ _ _ (locators-ran s (o .arg - 1) _ 0 (token-end s (o .next))))) located)
+          both (ShapeParts 2) (eqb (itemsIn o) 0) located
+          (both (ShapeParts 2) _ (both (ShapeParts 2) (ltb (o .arg) 2) tt (divert-parts opening _ _ _ _ (locators-ran s (o .arg - 1) _ 0 (token-end s (o .next))))) located)
 
   -- the other kinds
-  option-parts : (session at : ℕ) → ShapeParts (optionAt s session at)
+  option-parts : (session at : ℕ) → ShapeParts 6 (optionAt s session at)
   unfolding optionAt
   option-parts session at =
-      both ShapeParts _ tt (both ShapeParts _ tt (both ShapeParts _ tt (both ShapeParts _ (both ShapeParts _ tt tt) (both ShapeParts _ tt (both ShapeParts _ (both ShapeParts _ tt tt) tt)))))
-
-  exchange-parts : (kind n at : ℕ) → ShapeParts (exchangeAt s kind n at)
-  unfolding exchangeAt exchanged exchangeOf
-  exchange-parts kind n at = both ShapeParts (eqb n 3) (both ShapeParts _ tt (by (objectiveAt objectiveLevels s (tokenAt s at .next)))) tt
+      both Parts _ tt (both Parts _ tt (both Parts _ tt (both Parts _ (both Parts _ (tt, tt) (tt, tt)) (both Parts _ tt (both Parts _ (both Parts _ (tt, tt) tt) tt)))))
     where
-      by : (x : ObjectiveRead) → ShapeParts (exchanged kind (upTo most (tokenAt s at)) (tokenAt s at .next) x)
-      by (ObjectiveRead.Bad place) = tt
-      by (ObjectiveRead.Got o size bad long) = both (MessageParts s) (eqb kind 3) tt (both (MessageParts s) (eqb kind 4) tt (both (MessageParts s) (eqb kind 5) tt tt))
+      Parts : Shape → Type 0
+      Parts = ShapeParts 6
 
-  kind-parts : (kind n at : ℕ) → ShapeParts (byKind s kind n at)
+  exchange-parts : (kind n at : ℕ) → ShapeParts kind (exchangeAt s kind n at)
+  unfolding exchangeAt exchanged exchangeOf
+  exchange-parts kind n at = both (ShapeParts kind) (eqb n 3) (both (ShapeParts kind) _ tt (by (objectiveAt objectiveLevels s (tokenAt s at .next)))) tt
+    where
+      Parts : Message → Type 0
+      Parts m = OfKind kind m × MessageParts s m
+
+      by : (x : ObjectiveRead) → ShapeParts kind (exchanged kind (upTo most (tokenAt s at)) (tokenAt s at .next) x)
+      by (ObjectiveRead.Bad place) = tt
+      by (ObjectiveRead.Got o size bad long) = both Parts (eqb kind 3) (tt, tt) (both Parts (eqb kind 4) (tt, tt) (both Parts (eqb kind 5) (tt, tt) (tt, tt)))
+
+  pub kind-parts : (kind n at : ℕ) → ShapeParts kind (byKind s kind n at)
   unfolding byKind noopAt endAt waitAt invalidAt
   kind-parts kind n at =
-      both ShapeParts _ (both ShapeParts _ tt tt)
-      (both ShapeParts _ (discovery-parts n at)
-      (both ShapeParts _ (response-parts n at)
-      (both ShapeParts _ (both ShapeParts _ (both ShapeParts _ tt (option-parts _ _)) tt)
-      (both ShapeParts _ (both ShapeParts _ (both ShapeParts _ tt (both ShapeParts _ tt tt)) tt)
-      (both ShapeParts _ (flood-parts n at)
-      (both ShapeParts _ (both ShapeParts _ tt (both ShapeParts _ tt (both ShapeParts _ tt (both ShapeParts _ tt (both ShapeParts _ tt tt)))))
+      both Parts _ (both Parts _ (tt, tt) tt)
+      (pick-case Parts _ (λ e. of-kind 1 (discoveryAt s n at) e (discovery-parts n at))
+      (λ _. pick-case Parts _ (λ e. of-kind 2 (responseAt s n at) e (response-parts n at))
+      (λ _. pick-case Parts _ (λ e. both Parts _ (both Parts _ tt (of-kind 6 (optionAt s session next) e (option-parts session next))) tt)
+      (λ _. both Parts _ (both Parts _ (both Parts _ tt (both Parts _ tt (tt, tt))) tt)
+      (pick-case Parts _ (λ e. of-kind 9 (floodAt s n at) e (flood-parts n at))
+      (λ _. both Parts _ (both Parts _ tt (both Parts _ tt (both Parts _ tt (both Parts _ (tt, tt) (both Parts _ tt (tt, tt))))))
       (exchange-parts kind n at)))))))
+    where
+      session : ℕ
+      session = upTo most (tokenAt s at)
+
+      next : ℕ
+      next = tokenAt s at .next
+
+      Parts : Shape → Type 0
+      Parts = ShapeParts kind
+
+      of-kind : (k : ℕ) (x : Shape) → eqb kind k ≡ true → ShapeParts k x → Parts x
+      of-kind k x e = subst (λ (j : ℕ). ShapeParts j x) (sym (eqb-true kind k e))
 
   -- ---- the answer
   abbrev ExaminedParts : Examined → Type 0
   ExaminedParts (Examined.Refused number place) = Unit {0}
   ExaminedParts (Examined.Accepted m end) = MessageParts s m
 
-  judged-parts : (x : Shape) → ShapeParts x → ExaminedParts (judgedShape x)
+  judged-parts : (kind : ℕ) (x : Shape) → ShapeParts kind x → ExaminedParts (judgedShape x)
   unfolding judgedShape
-  judged-parts (Shape.Bad place) h = tt
-  judged-parts (Shape.Good m end bad long) h = both ExaminedParts _ (both ExaminedParts _ h tt) tt
+  judged-parts kind (Shape.Bad place) h = tt
+  judged-parts kind (Shape.Good m end bad long) h = both ExaminedParts _ (both ExaminedParts _ (h .1) tt) tt
 
   shaped-parts : ExaminedParts (shaped s)
   unfolding shaped
   shaped-parts =
-      let read = judged-parts _ (kind-parts (tokenAt s (tokenAt s 0 .next) .arg) (tokenAt s 0 .arg) (tokenAt s (tokenAt s 0 .next) .next)) in
+      let read = judged-parts _ _ (kind-parts (tokenAt s (tokenAt s 0 .next) .arg) (tokenAt s 0 .arg) (tokenAt s (tokenAt s 0 .next) .next)) in
       both ExaminedParts _ tt (both ExaminedParts _ (both ExaminedParts _ (both ExaminedParts _ read tt) read) tt)
 
   framed-parts : (x : ItemRead) → ExaminedParts (framed s x)

@@ -9,7 +9,6 @@ use lib.Dec.{eqb}
 use Rattle.options.specs.Text.{held}
 use Rattle.base.specs.Pick.{pick}
 use Rattle.base.specs.Lists.{Every, EachPair, Distinct}
-use Rattle.base.specs.BigEndian.{Bytes}
 use Rattle.base.specs.Bits.{hasBit}
 use Rattle.contents.specs.declared.fields.Session.{Session}
 use Rattle.message.specs.declared.Reading.{Reading}
@@ -48,11 +47,6 @@ unfoldable pub finally : Record → List ℕ → List Event → Record
 finally r t [] = r
 finally r t (call c ∷ es) = finally (nodeCall r t c .called .node) (nodeCall r t c .table) es
 finally r t (links mask ∷ es) = finally (setLinks r mask .node) t es
-
--- a call's message is made of bytes, as every `&[u8]` is
-abbrev pub InBytes : Event → Type 0
-InBytes (call c) = Bytes (c .message)
-InBytes (links mask) = Unit {0}
 
 -- ---- what an answer says
 

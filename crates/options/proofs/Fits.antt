@@ -141,10 +141,10 @@ pub record ObjectiveParts (end : ℕ) (o : Objective) : Type 0 where
   pub wide : 23 < o .count → o .«count_at» + 2 ≤ o .value .at
   pub counted : o .value .at ≤ end
 
--- it has four bytes at least, and lies within so many
+-- it has four bytes at least, lies within so many, and begins before its count
 abbrev pub ObjectiveOk : ℕ → ℕ → ObjectiveRead → Type 0
 ObjectiveOk base room (ObjectiveRead.Bad place) = Unit {0}
-ObjectiveOk base room (ObjectiveRead.Got o size bad long) = ObjectiveParts (base + room) o × (4 ≤ size) × (size ≤ room)
+ObjectiveOk base room (ObjectiveRead.Got o size bad long) = ObjectiveParts (base + room) o × (4 ≤ size) × (size ≤ room) × (base ≤ o .«count_at»)
 
 -- the walk passes over an objective, of its own level and those of its value
 abbrev pub ObjectiveWalked : ℕ → List ℕ → ObjectiveRead → Type 0
@@ -165,11 +165,11 @@ objective-told levels base s =
     let array : a .major ≡ 4 = is-array a (eqb-false (itemsIn a) 0 t₁) in
     let made = got array (eqb-true (n .major) 3 t₂) (ltb-false 15 (upTo 15 f) t₅) (ltb-false 255 (upTo 255 c) t₆) in
     let (parts, four, end, three) = made len in
-    pick-case P (eqb (a .arg) 3) (λ t₇. ((made 0 .0, four, end), array-passes s 0 array (rw (eqb-true (a .arg) 3 t₇) three)))
+    pick-case P (eqb (a .arg) 3) (λ t₇. ((made 0 .0, four, end, omega arith), array-passes s 0 array (rw (eqb-true (a .arg) 3 t₇) three)))
     (λ t₇. pick-case P (eqb len 0) (λ _. (tt, tt))
     (λ t₈.
     let items : a .arg ≡ 4 = omega (arith, ltb-false (a .arg) 3 t₃, ltb-false 4 (a .arg) t₄, eqb-false (a .arg) 3 t₇) in (
-      (parts, omega arith, omega (arith, size-le levels s (c .next))),
+      (parts, omega arith, omega (arith, size-le levels s (c .next)), omega arith),
       array-passes s 0 array (rw items (passes-then three (size-passes levels s (c .next) (eqb-false len 0 t₈)))),
     ))))))))
     (λ _. (tt, tt)))
@@ -224,10 +224,10 @@ pub objective-walked : (levels base : ℕ) (s : List ℕ) → ObjectiveWalked le
 objective-walked levels base s = objective-told levels base s .1
 
 -- ---- pairs
--- a pair has six bytes at least, and lies within so many
+-- a pair has six bytes at least, lies within so many, and begins before its objective's count
 abbrev pub PairOk : ℕ → ℕ → PairRead → Type 0
 PairOk base room (PairRead.Bad place) = Unit {0}
-PairOk base room (PairRead.Got o t size bad long) = ObjectiveParts (base + room) o × (6 ≤ size) × (size ≤ room)
+PairOk base room (PairRead.Got o t size bad long) = ObjectiveParts (base + room) o × (6 ≤ size) × (size ≤ room) × (base ≤ o .«count_at»)
 
 -- at a part
 pub locator-fits : (s : List ℕ) (base at : ℕ) (r x : LocatorRead) → r ≡ locatorIn base (take (length s - at) (drop at s)) → r ≡ x → LocatorOk (length s - at) x
@@ -280,11 +280,11 @@ module _ (base : ℕ) (s : List ℕ) where
   Second at = (e : ℕ) → Passes (suc (leftUnder pairLevels)) 1 s at e → Passes (suc (suc (leftUnder pairLevels))) 1 s 0 e
 
   -- a pair with its tag
-  tagged-told : (at : ℕ) (o : Objective) (bad long : ℕ) (x : LocatorRead) → ObjectiveParts (base + length s) o → LocatorOk (length s - at) x → LocatorWalked (drop at s) x → Second at
+  tagged-told : (at : ℕ) (o : Objective) (bad long : ℕ) (x : LocatorRead) → ObjectiveParts (base + length s) o → base ≤ o .«count_at» → LocatorOk (length s - at) x → LocatorWalked (drop at s) x → Second at
       → Told (pairTagged at o bad long x)
   unfolding pairTagged
-  tagged-told at o bad long (LocatorRead.Bad place) parts h walked close = (tt, tt)
-  tagged-told at o bad long (LocatorRead.Got l size b) parts h walked close = ((parts, omega arith, omega arith), close (at + size) (passes-within (walked (leftUnder pairLevels))))
+  tagged-told at o bad long (LocatorRead.Bad place) parts later h walked close = (tt, tt)
+  tagged-told at o bad long (LocatorRead.Got l size b) parts later h walked close = ((parts, omega arith, omega arith, later), close (at + size) (passes-within (walked (leftUnder pairLevels))))
 
   -- a pair from its objective on
   led-told : (n at : ℕ) (x : ObjectiveRead) → 1 ≤ at → at ≤ length s → ObjectiveOk (base + at) (length s - at) x → ObjectiveWalked pairLevels (drop at s) x
@@ -301,8 +301,8 @@ module _ (base : ℕ) (s : List ℕ) where
       (λ e.
       let (four, none) = empty-is w e in
       let w₁ : at + size + 1 ≤ w .next = token-has s (at + size) .some (omega arith) in
-      ((parts, omega arith, token-end s (at + size)), second (w .next) (array-passes s (at + size) four (rw none passes-none))))
-      (λ _. tagged-told (at + size) o bad long _ parts (locator-within s (base + (at + size)) (at + size) _ _ refl refl) (locator-walked (base + (at + size)) (drop (at + size) s)) second))
+      ((parts, omega arith, token-end s (at + size), omega (arith, h .3)), second (w .next) (array-passes s (at + size) four (rw none passes-none))))
+      (λ _. tagged-told (at + size) o bad long _ parts (omega (arith, h .3)) (locator-within s (base + (at + size)) (at + size) _ _ refl refl) (locator-walked (base + (at + size)) (drop (at + size) s)) second))
       (λ _. (tt, tt))
     where
       w : Token

@@ -6,10 +6,12 @@ use mathlib.Core.Logic.{_≢_}
 use mathlib.Core.List.{List}
 use mathlib.Core.Bool.{Bool, true, false}
 use Prim.Native.Nat.{ℕ, _≤_, _<_}
+use native.Mathlib.Omega.{arith}
 use lib.ListN.{length}
-use lib.Dec.{eqb}
-use borrow.Author.Tests.{eq-eqb, ne-eqb, lt-ltb, le-ltb}
+use lib.Dec.{ltb, eqb}
+use borrow.Author.Tests.{eqb-true, eqb-false, eq-eqb, ne-eqb, lt-ltb, le-ltb}
 use Rattle.base.specs.Pick.{pick}
+use Rattle.base.proofs.Picks.{pick-case}
 use Rattle.cbor.specs.declared.item.ItemRead.{ItemRead}
 use Rattle.cbor.specs.Item.{firstItem}
 use Rattle.message.specs.declared.Message.{Message}
@@ -64,3 +66,27 @@ pub read-refused : (s : List ℕ) (r : Examined) (number place n : ℕ) → leng
 unfolding readOf walkedFirst
 read-refused s r number place n some most is found same =
     ap Reading.Refused same ∙ sym (ap placeless (fitting s r some most is) ∙ due-later s number place (sym is ∙ found) (firstItem 0 s))
+
+-- a message that was read is the whole that its parts make up
+pub read-shaped : (s : List ℕ) (m : Message) → readOf s ≡ Reading.Read m → (length s ≢ 0) × (shaped s ≡ E.Accepted m (length s))
+unfolding readOf examined framed placeless
+read-shaped s m =
+    pick-case P (eqb (length s) 0) (λ _ q. absurd (let z : _≡_ {A = ℕ} 0 1 = cc in omega arith))
+    (λ e. pick-case P (ltb mostBytes (length s)) (λ _ q. absurd (let z : _≡_ {A = ℕ} 0 1 = cc in omega arith)) (λ _. by (eqb-false (length s) 0 e) (firstItem 0 s) refl))
+  where
+    P : Examined → Type 0
+    P x = placeless x ≡ Reading.Read m → (length s ≢ 0) × (shaped s ≡ E.Accepted m (length s))
+
+    found : length s ≢ 0 → firstItem 0 s ≡ ItemRead.Ends (length s) → (x : Examined) → shaped s ≡ x → P x
+    found some w (E.Refused number place) e q = absurd (let z : _≡_ {A = ℕ} 0 1 = cc in omega arith)
+    found some w (E.Accepted m′ end) e q =
+        let same : m′ ≡ m = cc in
+        let ends : ItemRead.Ends end ≡ ItemRead.Ends (length s) = sym (parts-walked s e) ∙ w in
+        let full : end ≡ length s = cc in
+        (some, rw (same, full) at e)
+
+    by : length s ≢ 0 → (x : ItemRead) → firstItem 0 s ≡ x → P (framed s x)
+    by some (ItemRead.Refused number place) w = λ q. absurd (let z : _≡_ {A = ℕ} 0 1 = cc in omega arith)
+    by some (ItemRead.Ends end) w =
+        pick-case P (eqb end (length s)) (λ t. found some (w ∙ ap ItemRead.Ends (eqb-true end (length s) t)) (shaped s) refl)
+        (λ _ q. absurd (let z : _≡_ {A = ℕ} 0 1 = cc in omega arith))

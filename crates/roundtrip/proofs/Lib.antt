@@ -9,6 +9,8 @@ pub mod Places
 pub mod Moved
 -- For the proofs of this crate: where the count stands; messages that are encoded alike are the same; what the judge passes; bytes
 -- handed over.
+mod Recounted
+mod Lowered
 mod Counts
 mod Script
 mod Once

@@ -16,7 +16,7 @@ use Rattle.message.specs.declared.sequence.PairsRead.{PairsRead}
 use Rattle.message.specs.Sequence.{pairThen, pairsFrom}
 
 -- pairs without fault have none before them
-none-before : (s : List ℕ) (n at bad long end : ℕ) → pairsFrom s n at bad long ≡ PairsRead.Ran end 0 0 → (bad ≡ 0) × (long ≡ 0)
+pub none-before : (s : List ℕ) (n at bad long end : ℕ) → pairsFrom s n at bad long ≡ PairsRead.Ran end 0 0 → (bad ≡ 0) × (long ≡ 0)
 unfolding pairsFrom pairThen
 none-before s zero at bad long end q = (cc, cc)
 none-before s (suc n) at bad long end q = by (pairAt s at) (none-before s n) q

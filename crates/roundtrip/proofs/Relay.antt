@@ -7,37 +7,35 @@ use mathlib.Core.List.{List, [], _∷_, _++_, flatMap, append-assoc}
 use Prim.Native.Nat.{ℕ, _+_, _-_, _≤_}
 use native.Mathlib.Omega.{arith}
 use lib.Dec.{lit<}
-use lib.ListN.{length, take, drop, length-append, length-drop}
+use lib.ListN.{length, take, drop, length-append, length-drop, take-append-drop}
 use borrow.Author.Tests.{ne-eqb, le-ltb}
-use lib.Seq.{length-take-le, take-at, drop-append-add, drop-at}
-use Rattle.options.specs.Text.{held}
+use lib.Seq.{length-take-le, take-at, drop-append-add, drop-at, drop-drop}
 use Rattle.base.specs.Pick.{pick}
-use Rattle.base.specs.BigEndian.{Bytes}
 use Rattle.cbor.specs.Put.{head, written}
 use Rattle.cbor.specs.Tree.{Item, shortest, headBytes, encode, Good}
 use Rattle.cbor.proofs.HeadExact.{length-head, shortest-case, shortest-right}
-use Rattle.options.specs.declared.Span.{Span}
 use Rattle.options.specs.declared.objective.Objective.{Objective}
 use Rattle.options.proofs.Fits.{ObjectiveParts}
 use Rattle.syntax.specs.Message.{Msg}
 use Rattle.grammar.specs.Cddl.{Value}
 use Rattle.grammar.specs.Limits.{TextsGood, NamesGood, textsOf, namesOf, pairTexts}
-use Rattle.grammar.proofs.Bridge.{text-token}
 use Rattle.message.specs.declared.Extra.{Extra}
 use Rattle.message.specs.declared.Message.{Message}
 use Rattle.message.specs.declared.Message.the-variants as M
 use Rattle.message.specs.declared.Reading.{Reading}
-use Rattle.contents.specs.Fields.{kindOf, sessionOf, initiatorOf, objectiveOf}
-use Rattle.message.specs.Read.{mostBytes, readOf}
+use Rattle.contents.specs.Fields.{kindOf, objectiveOf}
+use Rattle.message.specs.Read.{mostBytes, shaped, readOf}
 use Rattle.message.proofs.Parts.{MessageParts, read-parts}
 use Rattle.exact.specs.Accepted.{Accepted}
-use Rattle.exact.specs.Describes.{InitiatorIs, Describes}
-use Rattle.exact.proofs.Exact.{accepted-exactly, accepted-bytes, accepted-described}
+use Rattle.exact.proofs.Exact.{accepted-described}
 use Rattle.description.specs.Encoding.{encodeMsg}
 use Rattle.writer.specs.declared.Written.{Written}
 use Rattle.writer.specs.Write.{lowered, passes, passAnswer, passOut, okLower, lowerAnswer, lowerOut}
 use Rattle.roundtrip.specs.Plain.{plain}
 use Rattle.roundtrip.specs.Lower.{withCount, lowerObj, lowerMsg, Lowers, onward, Relays}
+use Rattle.reader.proofs.Answers.{read-whole, read-shaped}
+use Rattle.roundtrip.proofs.Recounted.{CountAt}
+use Rattle.roundtrip.proofs.Lowered.{MessageRecounted, message-recounted}
 use Rattle.roundtrip.proofs.Hand.{handed}
 use Rattle.roundtrip.proofs.Read.{read-encoded}
 use Rattle.roundtrip.proofs.Counts.{Hole, hole}
@@ -75,6 +73,46 @@ shorter s o h =
     (λ l _. absurd (omega (arith, h .limit))) (λ l _. absurd (omega (arith, h .limit))) (λ l. absurd (omega (arith, h .limit))) in
     let front : length (take (o .«count_at») s) ≡ o .«count_at» = length-take-le (o .«count_at») s (omega (arith, h .some, h .counted)) in
     simp length-append (omega (arith, front, length-head 0 (shortest n) n, length-drop (o .value .at) s, h .counted))
+
+-- the bytes before the count, its head, and those after it
+module _ (s : List ℕ) (o : Objective) (h : ObjectiveParts (length s) o) where
+  abbrev before : List ℕ
+  before = take (o .«count_at») s
+
+  abbrev between : List ℕ
+  between = take (o .value .at - o .«count_at») (drop (o .«count_at») s)
+
+  -- are the message,
+  spelt-whole : before ++ (between ++ drop (o .value .at) s) ≡ s
+  spelt-whole =
+      let sum : o .«count_at» + (o .value .at - o .«count_at») ≡ o .value .at = omega (arith, h .some) in
+      let rest : drop (o .value .at - o .«count_at») (drop (o .«count_at») s) ≡ drop (o .value .at) s = rw sum at (drop-drop (o .value .at - o .«count_at») (o .«count_at») s) in
+      ap (λ (x : List ℕ). before ++ (between ++ x)) (sym rest) ∙ ap (λ (x : List ℕ). before ++ x) (take-append-drop (o .value .at - o .«count_at») (drop (o .«count_at») s)) ∙ take-append-drop (o .«count_at») s
+
+  -- and stand where the objective says
+  count-at : CountAt before between 0 o
+  count-at =
+      let front : length before ≡ o .«count_at» = length-take-le (o .«count_at») s (omega (arith, h .some, h .counted)) in
+      let head : length between ≡ o .value .at - o .«count_at» = length-take-le (o .value .at - o .«count_at») (drop (o .«count_at») s) (omega (arith, h .counted, length-drop (o .«count_at») s)) in
+      record { from = omega arith; end = omega (arith, h .some) }
+
+  -- so it is read, where it is with the new count
+  reads-lower : {m : Message} (few : o .count - 1 ≤ 255) → MessageRecounted before between (drop (o .value .at) s) (o .count - 1) few m o (length s) → length s ≤ mostBytes
+      → (m′ : Message) × (readOf (onward s o) ≡ Reading.Read m′) × Relays s m o (onward s o) m′
+  unfolding lowered head
+  reads-lower {m} few x most =
+      let r : List ℕ = drop (o .value .at) s in
+      let new : List ℕ = before ++ (head 0 (o .count - 1) ++ r) in
+      let is : new ≡ onward s o = sym (append-assoc before (head 0 (o .count - 1)) r) in
+      let size : length s ≡ length before + (length between + length r) = sym (ap length spelt-whole) ∙ simp length-append in
+      let size′ : length new ≡ length before + (length (head 0 (o .count - 1)) + length r) = simp length-append in
+      let some : 1 ≤ length (head 0 (o .count - 1)) = omega (arith, length-head 0 (shortest (o .count - 1)) (o .count - 1)) in
+      let read : readOf new ≡ Reading.Read (x .message) =
+      sym (read-whole new (shaped new) (λ z. omega arith) (omega (arith, shorter s o h, ap length is)) refl (x .message) _ (x .read) (omega (arith, x .sized))) in (
+        x .message,
+        subst (λ (l : List ℕ). readOf l ≡ Reading.Read (x .message)) is read,
+        subst (λ (l : List ℕ). Relays l m o (onward s o) (x .message)) spelt-whole (subst (λ (l : List ℕ). Relays (before ++ (between ++ r)) m o l (x .message)) is (x .relays)),
+      )
 
 module _ {s : List ℕ} {at end n : ℕ} {msg : Msg Value} (h : Hole s at end n msg) where
   -- the item with the count one lower
@@ -126,36 +164,6 @@ module _ {s : List ℕ} {at end n : ℕ} {msg : Msg Value} (h : Hole s at end n 
     refl,
   )
 
--- ---- what the two readings share
--- an initiator's span holds its bytes
-initiator-held : {s : List ℕ} {p e : ℕ} {i : Span} {from : List ℕ} → InitiatorIs s p e i from → held s i ≡ from
-initiator-held {s} {e = e} {from = from} i =
-    let c = text-token (i .stands) in
-    let at : e - length from ≡ c .body = omega (arith, c .end) in
-    ap (held s) (i .held) ∙ ap (λ (k : ℕ). take (length from) (drop k s)) at ∙ c .content
-
--- the two readings
-relays : {s l : List ℕ} {m m′ : Message} {o : Objective} {msg : Msg Value} → Lowers m o → Describes s m msg → Describes l m′ (lowerMsg msg) → Relays s m o l m′
-unfolding lowerMsg lowerObj withCount sessionOf initiatorOf
-relays Lowers.discovery (Describes.discovery k n i o) (Describes.discovery {o = o′} k′ n′ i′ j) =
-    record {
-      kind = refl;
-      session = refl;
-      initiator = initiator-held i′ ∙ sym (initiator-held i);
-      objective = o′;
-      lowers = Lowers.discovery;
-      lower = j .count ∙ ap (λ (c : ℕ). c - 1) (sym (o .count));
-    }
-relays Lowers.flood (Describes.flood k n i t s a o) (Describes.flood {o = o′} k′ n′ i′ t′ s′ a′ j) =
-    record {
-      kind = refl;
-      session = refl;
-      initiator = initiator-held i′ ∙ sym (initiator-held i);
-      objective = o′;
-      lowers = Lowers.flood;
-      lower = j .count ∙ ap (λ (c : ℕ). c - 1) (sym (o .count));
-    }
-
 -- the count of a message that was read
 count-hole : (s : List ℕ) (m : Message) (o : Objective) → readOf s ≡ Reading.Read m → Lowers m o → (a : Accepted s)
     → Hole s (o .«count_at») (o .value .at) (o .count) (a .message .msg)
@@ -195,14 +203,16 @@ lowered-accepts s m o q low a =
     lowered-accepted (count-hole s m o q low a) (omega (arith, a .message .one .most, lowered-shorter s m o q low)) (a .texts) (a .names)
 
 -- It is read, with the kind, the session and the initiator that it had, and a count one lower.
-pub lowered-reads : (s : List ℕ) (m : Message) (o : Objective) → Bytes s → readOf s ≡ Reading.Read m → Lowers m o
+pub lowered-reads : (s : List ℕ) (m : Message) (o : Objective) → readOf s ≡ Reading.Read m → Lowers m o
     → (m′ : Message) × (readOf (onward s o) ≡ Reading.Read m′) × Relays s m o (onward s o) m′
-lowered-reads s m o b q low =
-    let a = accepted-exactly s b .0 (m, q) in
-    let (a′, same) = lowered-accepts s m o q low a in
-    let l = accepted-bytes (onward s o) a′ in
-    let (m′, q′) = accepted-exactly (onward s o) l .1 a′ in
-    (m′, q′, relays low (accepted-described s m q a) (subst (Describes (onward s o) m′) same (accepted-described (onward s o) m′ q′ a′)))
+lowered-reads s m o q low =
+    let (most, parts) = read-parts s m q in
+    let h = lowers-parts s low parts in
+    let few : o .count - 1 ≤ 255 = omega (arith, h .limit) in
+    reads-lower s o h few
+    (message-recounted (before s o h) (between s o h) (drop (o .value .at) s) (o .count - 1) few (length s) low (count-at s o h) refl
+    (ap shaped (spelt-whole s o h) ∙ read-shaped s m q .1))
+    most
 
 -- It is what the writer writes for that message.
 pub lowered-written : (s : List ℕ) (m : Message) (o : Objective) → readOf s ≡ Reading.Read m → Lowers m o → (a : Accepted s)
