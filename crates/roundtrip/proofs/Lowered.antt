@@ -94,7 +94,7 @@ led s {m} {end} =
     read t₁ t₂ q = record { filled = t₁; number = t₂; shape = judged-good (byKind s (k .arg) (a .arg) (k .next)) q }
 
 -- what stands before the count, its head and what follows it, and the new count
-module _ (u h r : List ℕ) (n : ℕ) (few : n ≤ 255) where
+module _ (u h r : List ℕ) (n : ℕ) where
   abbrev old : List ℕ
   old = u ++ (h ++ r)
 
@@ -108,10 +108,10 @@ module _ (u h r : List ℕ) (n : ℕ) (few : n ≤ 255) where
     pub within : i .at + i .len ≤ length u
     pub shape : Recounted u h n read (λ o e. S.Good (make o) e 0 0) end
 
-  discovery-recounted : (m at session : ℕ) (i : Span) (o : Objective) (end : ℕ) → CountAt u h 0 o → discoveryAt old m at ≡ S.Good (M.Discovery session i o) end 0 0
+  discovery-recounted : n ≤ 255 → (m at session : ℕ) (i : Span) (o : Objective) (end : ℕ) → CountAt u h 0 o → discoveryAt old m at ≡ S.Good (M.Discovery session i o) end 0 0
       → ShapeRecounted at i (discoveryAt new m at) (M.Discovery session i) end
   unfolding discoveryAt discovered pick
-  discovery-recounted m at session i o end place =
+  discovery-recounted few m at session i o end place =
       pick-case P (eqb m 4)
       (λ t₁. pick-case P (ltb most (upTo most k)) (λ _ q. absurd (no-shape q))
       (λ t₂. pick-case P (isInitiator j) (λ t₃. by t₁ t₂ t₃ (objectiveAt objectiveLevels old (j .next)) refl) (λ _ q. absurd (no-shape q))))
@@ -196,11 +196,11 @@ module _ (u h r : List ℕ) (n : ℕ) (few : n ≤ 255) where
       initiatorIn (OpeningRead.Bad place) = contentOf j
       initiatorIn (OpeningRead.Got opening end) = opening .initiator
 
-  flood-recounted : (m at session : ℕ) (i : Span) (ttl : ℕ) (o : Objective) (series : Series) (end : ℕ) → CountAt u h 0 o
+  flood-recounted : n ≤ 255 → (m at session : ℕ) (i : Span) (ttl : ℕ) (o : Objective) (series : Series) (end : ℕ) → CountAt u h 0 o
       → floodAt old m at ≡ S.Good (M.Flood session i ttl o series) end 0 0
       → ShapeRecounted at i (floodAt new m at) (λ o. M.Flood session i ttl o series) end
   unfolding floodAt floodBy floodedAt floodedOf floodedBy pick
-  flood-recounted m at session i ttl o series end place = pick-case P (ltb m 5) (λ _ q. absurd (no-shape q)) (λ t. opened t (openingAt old at) refl)
+  flood-recounted few m at session i ttl o series end place = pick-case P (ltb m 5) (λ _ q. absurd (no-shape q)) (λ t. opened t (openingAt old at) refl)
     where
       Found : Type 0
       Found = ShapeRecounted at i (floodAt new m at) (λ o. M.Flood session i ttl o series) end
@@ -300,15 +300,15 @@ module _ (u h r : List ℕ) (n : ℕ) (few : n ≤ 255) where
   of-kind : (m : Message) (end : ℕ) → Led old m end → OfKind (kind .arg) m
   of-kind m end l = subst (ShapeParts old (kind .arg)) (l .shape) (kind-parts old (kind .arg) (array .arg) (kind .next)) .0
 
-  pub message-recounted : {m : Message} {o : Objective} (end : ℕ) → Lowers m o → CountAt u h 0 o → n ≡ o .count - 1 → shaped old ≡ E.Accepted m end → MessageRecounted m o end
+  pub message-recounted : n ≤ 255 → {m : Message} {o : Objective} (end : ℕ) → Lowers m o → CountAt u h 0 o → n ≡ o .count - 1 → shaped old ≡ E.Accepted m end → MessageRecounted m o end
   unfolding byKind sessionOf initiatorOf pick
-  message-recounted end (Lowers.discovery {session} {i} {o}) place lower q =
+  message-recounted few end (Lowers.discovery {session} {i} {o}) place lower q =
       let l = led old q in
       let one : kind .arg ≡ 1 = of-kind (M.Discovery session i o) end l in
-      whole (M.Discovery session i) o end i l (omega arith) (rw one (discovery-recounted (array .arg) (kind .next) session i o end place (rw one at (l .shape))))
+      whole (M.Discovery session i) o end i l (omega arith) (rw one (discovery-recounted few (array .arg) (kind .next) session i o end place (rw one at (l .shape))))
       (λ o′ same e. record { kind = refl; session = refl; initiator = same; objective = o′; lowers = Lowers.discovery; lower = e ∙ lower })
-  message-recounted end (Lowers.flood {session} {ttl} {i} {o} {series}) place lower q =
+  message-recounted few end (Lowers.flood {session} {ttl} {i} {o} {series}) place lower q =
       let l = led old q in
       let nine : kind .arg ≡ 9 = of-kind (M.Flood session i ttl o series) end l in
-      whole (λ o. M.Flood session i ttl o series) o end i l (omega arith) (rw nine (flood-recounted (array .arg) (kind .next) session i ttl o series end place (rw nine at (l .shape))))
+      whole (λ o. M.Flood session i ttl o series) o end i l (omega arith) (rw nine (flood-recounted few (array .arg) (kind .next) session i ttl o series end place (rw nine at (l .shape))))
       (λ o′ same e. record { kind = refl; session = refl; initiator = same; objective = o′; lowers = Lowers.flood; lower = e ∙ lower })

@@ -107,6 +107,10 @@ module _ (h r : List ℕ) (n : ℕ) where
   abbrev new : List ℕ → List ℕ
   new u = u ++ (head 0 n ++ r)
 
+  -- the token of the other count
+  abbrev counted : List ℕ → Token
+  counted u = record { at = length u; major = 0; arg = n; body = length u + length (head 0 n); next = length u + length (head 0 n) }
+
   -- what stands after the count
   pub rest-kept : (u : List ℕ) (x : ℕ) → drop (length u + length (head 0 n) + x) (new u) ≡ drop (length u + length h + x) (old u)
   rest-kept u x = after-two u (head 0 n) r x ∙ sym (after-two u h r x)
@@ -167,13 +171,10 @@ module _ (h r : List ℕ) (n : ℕ) where
           let (l′, g) = subst (λ (x : LocatorRead). LocatorMoves x (locatorIn (base + at′) (drop at (old u)))) f (locator-moves (base + at) (base + at′) (drop at (old u))) (cc) in
           found e l′ size₁ (cc) g
 
+  -- a count of a byte
   module _ (few : n ≤ 255) where
-    -- the token of the new count
-    counted : List ℕ → Token
-    counted u = record { at = length u; major = 0; arg = n; body = length u + length (head 0 n); next = length u + length (head 0 n) }
-
     count-token : (u : List ℕ) → tokenAt (new u) (length u) ≡ counted u
-    unfolding encode head counted
+    unfolding encode head
     count-token u =
         number-token {w = shortest n}
         (record {
@@ -187,7 +188,7 @@ module _ (h r : List ℕ) (n : ℕ) where
     named-recounted : (u : List ℕ) (levels base items at : ℕ) (o : Objective) (size : ℕ) → CountAt u h base o → tokenAt (old u) at .major ≡ 3
         → objectiveNamed levels base (old u) items (tokenAt (old u) at) ≡ ObjectiveRead.Got o size 0 0
         → (tokenAt (old u) at .next ≤ length u) × Recounted u h n (objectiveNamed levels base (new u) items (tokenAt (old u) at)) (λ o e. ObjectiveRead.Got o e 0 0) size
-    unfolding objectiveNamed objectiveFrom sizeAt upTo pick counted
+    unfolding objectiveNamed objectiveFrom sizeAt upTo pick
     named-recounted u levels base items at o size place is-text =
         pick-case P (ltb 15 (upTo 15 f)) (λ _ q. absurd (no-objective q))
         (λ t₁. pick-case P (ltb 255 (upTo 255 c)) (λ _ q. absurd (no-objective q))

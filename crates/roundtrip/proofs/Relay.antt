@@ -74,44 +74,44 @@ shorter s o h =
     let front : length (take (o .«count_at») s) ≡ o .«count_at» = length-take-le (o .«count_at») s (omega (arith, h .some, h .counted)) in
     simp length-append (omega (arith, front, length-head 0 (shortest n) n, length-drop (o .value .at) s, h .counted))
 
--- the bytes before the count, its head, and those after it
+-- the bytes before the count, and its head,
+abbrev before : List ℕ → Objective → List ℕ
+before s o = take (o .«count_at») s
+
+abbrev between : List ℕ → Objective → List ℕ
+between s o = take (o .value .at - o .«count_at») (drop (o .«count_at») s)
+
 module _ (s : List ℕ) (o : Objective) (h : ObjectiveParts (length s) o) where
-  abbrev before : List ℕ
-  before = take (o .«count_at») s
-
-  abbrev between : List ℕ
-  between = take (o .value .at - o .«count_at») (drop (o .«count_at») s)
-
-  -- are the message,
-  spelt-whole : before ++ (between ++ drop (o .value .at) s) ≡ s
+  -- are the message with what follows,
+  spelt-whole : before s o ++ (between s o ++ drop (o .value .at) s) ≡ s
   spelt-whole =
       let sum : o .«count_at» + (o .value .at - o .«count_at») ≡ o .value .at = omega (arith, h .some) in
       let rest : drop (o .value .at - o .«count_at») (drop (o .«count_at») s) ≡ drop (o .value .at) s = rw sum at (drop-drop (o .value .at - o .«count_at») (o .«count_at») s) in
-      ap (λ (x : List ℕ). before ++ (between ++ x)) (sym rest) ∙ ap (λ (x : List ℕ). before ++ x) (take-append-drop (o .value .at - o .«count_at») (drop (o .«count_at») s)) ∙ take-append-drop (o .«count_at») s
+      ap (λ (x : List ℕ). before s o ++ (between s o ++ x)) (sym rest) ∙ ap (λ (x : List ℕ). before s o ++ x) (take-append-drop (o .value .at - o .«count_at») (drop (o .«count_at») s)) ∙ take-append-drop (o .«count_at») s
 
   -- and stand where the objective says
-  count-at : CountAt before between 0 o
+  count-at : CountAt (before s o) (between s o) 0 o
   count-at =
-      let front : length before ≡ o .«count_at» = length-take-le (o .«count_at») s (omega (arith, h .some, h .counted)) in
-      let head : length between ≡ o .value .at - o .«count_at» = length-take-le (o .value .at - o .«count_at») (drop (o .«count_at») s) (omega (arith, h .counted, length-drop (o .«count_at») s)) in
+      let front : length (before s o) ≡ o .«count_at» = length-take-le (o .«count_at») s (omega (arith, h .some, h .counted)) in
+      let head : length (between s o) ≡ o .value .at - o .«count_at» = length-take-le (o .value .at - o .«count_at») (drop (o .«count_at») s) (omega (arith, h .counted, length-drop (o .«count_at») s)) in
       record { from = omega arith; end = omega (arith, h .some) }
 
   -- so it is read, where it is with the new count
-  reads-lower : {m : Message} (few : o .count - 1 ≤ 255) → MessageRecounted before between (drop (o .value .at) s) (o .count - 1) few m o (length s) → length s ≤ mostBytes
+  reads-lower : {m : Message} → MessageRecounted (before s o) (between s o) (drop (o .value .at) s) (o .count - 1) m o (length s) → length s ≤ mostBytes
       → (m′ : Message) × (readOf (onward s o) ≡ Reading.Read m′) × Relays s m o (onward s o) m′
   unfolding lowered head
-  reads-lower {m} few x most =
+  reads-lower {m} x most =
       let r : List ℕ = drop (o .value .at) s in
-      let new : List ℕ = before ++ (head 0 (o .count - 1) ++ r) in
-      let is : new ≡ onward s o = sym (append-assoc before (head 0 (o .count - 1)) r) in
-      let size : length s ≡ length before + (length between + length r) = sym (ap length spelt-whole) ∙ simp length-append in
-      let size′ : length new ≡ length before + (length (head 0 (o .count - 1)) + length r) = simp length-append in
+      let new : List ℕ = before s o ++ (head 0 (o .count - 1) ++ r) in
+      let is : new ≡ onward s o = sym (append-assoc (before s o) (head 0 (o .count - 1)) r) in
+      let size : length s ≡ length (before s o) + (length (between s o) + length r) = sym (ap length spelt-whole) ∙ simp length-append in
+      let size′ : length new ≡ length (before s o) + (length (head 0 (o .count - 1)) + length r) = simp length-append in
       let some : 1 ≤ length (head 0 (o .count - 1)) = omega (arith, length-head 0 (shortest (o .count - 1)) (o .count - 1)) in
       let read : readOf new ≡ Reading.Read (x .message) =
       sym (read-whole new (shaped new) (λ z. omega arith) (omega (arith, shorter s o h, ap length is)) refl (x .message) _ (x .read) (omega (arith, x .sized))) in (
         x .message,
         subst (λ (l : List ℕ). readOf l ≡ Reading.Read (x .message)) is read,
-        subst (λ (l : List ℕ). Relays l m o (onward s o) (x .message)) spelt-whole (subst (λ (l : List ℕ). Relays (before ++ (between ++ r)) m o l (x .message)) is (x .relays)),
+        subst (λ (l : List ℕ). Relays l m o (onward s o) (x .message)) spelt-whole (subst (λ (l : List ℕ). Relays (before s o ++ (between s o ++ r)) m o l (x .message)) is (x .relays)),
       )
 
 module _ {s : List ℕ} {at end n : ℕ} {msg : Msg Value} (h : Hole s at end n msg) where
@@ -208,9 +208,8 @@ pub lowered-reads : (s : List ℕ) (m : Message) (o : Objective) → readOf s �
 lowered-reads s m o q low =
     let (most, parts) = read-parts s m q in
     let h = lowers-parts s low parts in
-    let few : o .count - 1 ≤ 255 = omega (arith, h .limit) in
-    reads-lower s o h few
-    (message-recounted (before s o h) (between s o h) (drop (o .value .at) s) (o .count - 1) few (length s) low (count-at s o h) refl
+    reads-lower s o h
+    (message-recounted (before s o) (between s o) (drop (o .value .at) s) (o .count - 1) (omega (arith, h .limit)) (length s) low (count-at s o h) refl
     (ap shaped (spelt-whole s o h) ∙ read-shaped s m q .1))
     most
 
