@@ -160,12 +160,12 @@ module _ (s : List ℕ) where
   flooded-by from n at opening first (PairsRead.Bad place) h k six = tt
   flooded-by from n at opening first (PairsRead.Ran end bad long) h k six = (refl, (h, omega arith))
 
-  flooded-of : (n at : ℕ) (opening : Opening) (x : PairRead) → at ≤ length s → ((o : Objective) → ObjectiveParts (length s) o → SpreadParts s (opening .session) (opening .initiator) o)
+  flooded-of : (n at : ℕ) (opening : Opening) (x : PairRead) → ((o : Objective) → ObjectiveParts (length s) o → SpreadParts s (opening .session) (opening .initiator) o)
       → PairOk at (length s - at) x → ShapeParts 9 (floodedOf s opening n at x)
   unfolding floodedOf
-  flooded-of n at opening (PairRead.Bad place) low make h = tt
-  flooded-of n at opening (PairRead.Got first tag size bad long) low make h =
-      flooded-by at n (at + size) opening first _ (make first (objective-in low (h .0))) (pairs-ran s (n - 1) (at + size) bad long (omega arith)) (omega arith)
+  flooded-of n at opening (PairRead.Bad place) make h = tt
+  flooded-of n at opening (PairRead.Got first tag size bad long) make h =
+      flooded-by at n (at + size) opening first _ (make first (objective-in (omega arith) (h .0))) (pairs-ran s (n - 1) (at + size) bad long (omega arith)) (omega arith)
 
   flood-parts : (n at : ℕ) → ShapeParts 9 (floodAt s n at)
   unfolding floodAt floodBy floodedAt
@@ -173,7 +173,7 @@ module _ (s : List ℕ) where
     where
       by : (x : OpeningRead) → OpeningParts x → ShapeParts 9 (floodBy s n x)
       by (OpeningRead.Bad place) h = tt
-      by (OpeningRead.Got opening next) (low, make) = flooded-of (n - 4) next opening (pairAt s next) low make (pair-within s next next _ _ refl refl)
+      by (OpeningRead.Got opening next) (low, make) = flooded-of (n - 4) next opening (pairAt s next) make (pair-within s next next _ _ refl refl)
 
   -- Response
   rest-parts : (opening : Opening) (targets : Targets) (left at bad : ℕ) → TargetsSix s targets → ShapeParts 2 (restAt s opening targets left at bad)

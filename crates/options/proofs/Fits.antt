@@ -287,11 +287,11 @@ module _ (base : ℕ) (s : List ℕ) where
   tagged-told at o bad long (LocatorRead.Got l size b) parts later h walked close = ((parts, omega arith, omega arith, later), close (at + size) (passes-within (walked (leftUnder pairLevels))))
 
   -- a pair from its objective on
-  led-told : (n at : ℕ) (x : ObjectiveRead) → 1 ≤ at → at ≤ length s → ObjectiveOk (base + at) (length s - at) x → ObjectiveWalked pairLevels (drop at s) x
+  led-told : (n at : ℕ) (x : ObjectiveRead) → 1 ≤ at → ObjectiveOk (base + at) (length s - at) x → ObjectiveWalked pairLevels (drop at s) x
       → ((e : ℕ) → Passes (suc (leftUnder pairLevels)) n s at e → Passes (suc (suc (leftUnder pairLevels))) 1 s 0 e) → Told (pairLed base s n at x)
   unfolding pairLed pairTail isEmpty
-  led-told n at (ObjectiveRead.Bad place) some low h walked close = (tt, tt)
-  led-told n at (ObjectiveRead.Got o size bad long) some low h walked close =
+  led-told n at (ObjectiveRead.Bad place) some h walked close = (tt, tt)
+  led-told n at (ObjectiveRead.Got o size bad long) some h walked close =
       let end : base + at + (length s - at) ≡ base + length s = omega arith in
       let parts = subst (λ (e : ℕ). ObjectiveParts e o) end (h .0) in
       pick-case Told (eqb n 2)
@@ -316,7 +316,7 @@ module _ (base : ℕ) (s : List ℕ) where
       pick-case Told (eqb (itemsIn a) 0) (λ _. (tt, tt))
       (λ t.
       let four = is-array a (eqb-false (itemsIn a) 0 t) in
-      led-told (a .arg) (a .next) _ (token-has s 0 .some (omega arith)) (token-end s 0) (objective-within pairLevels s (base + a .next) (a .next) _ _ refl refl)
+      led-told (a .arg) (a .next) _ (token-has s 0 .some (omega arith)) (objective-within pairLevels s (base + a .next) (a .next) _ _ refl refl)
       (objective-walked pairLevels (base + a .next) (drop (a .next) s)) (λ e items. array-passes s 0 four items))
 
   -- a pair that is read lies within the part

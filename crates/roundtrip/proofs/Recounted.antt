@@ -185,11 +185,11 @@ module _ (h r : List ℕ) (n : ℕ) where
         })
 
     -- an objective from its name on, which stands at `at`
-    named-recounted : (u : List ℕ) (levels base items at : ℕ) (o : Objective) (size : ℕ) → CountAt u h base o → tokenAt (old u) at .major ≡ 3
+    named-recounted : (u : List ℕ) (levels base items at : ℕ) (o : Objective) (size : ℕ) → CountAt u h base o
         → objectiveNamed levels base (old u) items (tokenAt (old u) at) ≡ ObjectiveRead.Got o size 0 0
         → (tokenAt (old u) at .next ≤ length u) × Recounted u h n (objectiveNamed levels base (new u) items (tokenAt (old u) at)) (λ o e. ObjectiveRead.Got o e 0 0) size
     unfolding objectiveNamed objectiveFrom sizeAt upTo pick
-    named-recounted u levels base items at o size place is-text =
+    named-recounted u levels base items at o size place =
         pick-case P (ltb 15 (upTo 15 f)) (λ _ q. absurd (no-objective q))
         (λ t₁. pick-case P (ltb 255 (upTo 255 c)) (λ _ q. absurd (no-objective q))
         (λ _. pick-case P (eqb items 3) (λ t₂ q. got t₁ 0 (cc) (let all : c .next ≡ size = cc in omega arith) (cc) (cc) (rw (t₂, add-zero)))
@@ -250,7 +250,7 @@ module _ (h r : List ℕ) (n : ℕ) where
         (λ t₁. pick-case P (eqb (m .major) 3)
         (λ t₂. pick-case P (ltb (a .arg) 3) (λ _ q. absurd (no-objective q))
         (λ t₃. pick-case P (ltb 4 (a .arg)) (λ _ q. absurd (no-objective q))
-        (λ t₄ q. shown t₁ t₂ t₃ t₄ (named-recounted u levels base (a .arg) (a .next) o size place (eqb-true (m .major) 3 t₂) q))))
+        (λ t₄ q. shown t₁ t₂ t₃ t₄ (named-recounted u levels base (a .arg) (a .next) o size place q))))
         (λ _ q. absurd (no-objective q)))
       where
         a : Token
