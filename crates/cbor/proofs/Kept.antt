@@ -18,6 +18,7 @@ use Rattle.cbor.specs.Token.{nothingAt, tokenOf, tokenFrom, tokenAt}
 use Rattle.cbor.proofs.Bounds.{HeadOk, head-ok}
 use Rattle.cbor.proofs.HeadExact.{judged-case}
 use Rattle.cbor.proofs.Followed.{big-endian-stays}
+use Rattle.cbor.proofs.Tokens.{token-has}
 
 -- the answer y, where a head x of no more than so many bytes was read: the same
 abbrev HeadKept : ℕ → HeadRead → HeadRead → Type 0
@@ -48,7 +49,7 @@ head-kept [] v w = none (headAt v) (head-ok v)
 head-kept (first ∷ x) v w = head-by-kept first x v w (initialOf first)
 
 -- a token that ends before the place
-module _ (u v w : List ℕ) (p : ℕ) (low : p ≤ length u) where
+module _ (u v w : List ℕ) (p : ℕ) where
   abbrev Kept : Token → Type 0
   Kept t = t .major < 8 → t .next ≤ length u → tokenAt (u ++ w) p ≡ t
 
@@ -59,20 +60,23 @@ module _ (u v w : List ℕ) (p : ℕ) (low : p ≤ length u) where
       pick-case Kept (ltb 1 major)
       (λ e. pick-case Kept (ltb major 4)
       (λ f. pick-case Kept (leb arg (length (drop p u ++ v) - len))
-      (λ _ _ few. rw (front, same (omega (arith, size)), e, f, le-leb arg (length (drop p u ++ w) - len) (omega (arith, size, length-append (drop p u) w))))
+      (λ _ _ few. rw (front (omega arith), same (omega (arith, size)), e, f, le-leb arg (length (drop p u ++ w) - len) (omega (arith, size, length-append (drop p u) w))))
       (λ _ high. absurd (omega arith)))
-      (λ f _ few. rw (front, same (omega (arith, size)), e, f)))
-      (λ e _ few. rw (front, same (omega (arith, size)), e))
+      (λ f _ few. rw (front (omega arith), same (omega (arith, size)), e, f)))
+      (λ e _ few. rw (front (omega arith), same (omega (arith, size)), e))
     where
-      front : drop p (u ++ w) ≡ drop p u ++ w
-      front = drop-append-le p u w low
+      front : p ≤ length u → drop p (u ++ w) ≡ drop p u ++ w
+      front = drop-append-le p u w
 
       size : length (drop p u) ≡ length u - p
       size = length-drop p u
 
   pub token-kept : Kept (tokenAt (u ++ v) p)
   unfolding tokenAt tokenFrom nothingAt
-  token-kept = rw (drop-append-le p u v low) (by (headAt (drop p u ++ v)) (head-kept (drop p u) v w))
+  token-kept there few =
+      let low : p ≤ length u = omega (arith, token-has (u ++ v) p .some there) in
+      let kept : Kept (tokenAt (u ++ v) p) = rw (drop-append-le p u v low) (by (headAt (drop p u ++ v)) (head-kept (drop p u) v w)) in
+      kept there few
     where
       by : (z : HeadRead) → HeadKept (length (drop p u)) z (headAt (drop p u ++ w)) → Kept (tokenFrom p (length (drop p u ++ v)) z)
       by (HeadRead.Refused number place) same = λ high _. absurd (omega arith)

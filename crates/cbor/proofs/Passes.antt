@@ -153,7 +153,7 @@ module _ (s : List ℕ) (p : ℕ) where
 
 -- ---- an item of any sort
 -- where a walk ends, the same walk goes on with what is open around it, as long as as many levels may open
-module _ (left most from e k : ℕ) (s stack : List ℕ) (levels : most ≡ left + length stack) where
+module _ (left most from e k : ℕ) (s stack : List ℕ) where
   -- with c items left, and what is open above them
   abbrev Around : ℕ → List ℕ → ℕ → Type 0
   Around p above c = runs most (from + p) (drop p s) (above ++ (c + k) ∷ stack) ≡ runs most (from + e) (drop e s) (k ∷ stack)
@@ -168,26 +168,27 @@ module _ (left most from e k : ℕ) (s stack : List ℕ) (levels : most ≡ left
   stepped f p c above (Step.Passed len) go q = rw (add-assoc from p len, drop-drop len p s) (go len [] (rw (drop-drop len p s) at q))
   stepped f p c above (Step.Opened len n pairs) go q = rw (add-assoc from p len, drop-drop len p s) (go len (itemsOf n pairs ∷ []) (rw (drop-drop len p s) at q))
 
-  -- turn by turn
-  around : (f p : ℕ) (above : List ℕ) (c : ℕ) → run left f p (drop p s) (above ++ c ∷ []) ≡ ItemRead.Ends e → Around p above c
-  unfolding run
-  around zero p above c q = absurd (never 0 0 e q)
-  around (suc zero) p [] zero q = absurd (never 0 0 e q)
-  around (suc (suc f)) p [] zero q =
-      let same : p ≡ e = cc in
-      rw (zero-add k, same)
-  around (suc f) p [] (suc c) q =
-      let here : most - length stack ≡ left - 0 = omega arith in
-      let more : suc c + k ≡ suc (c + k) = omega arith in
-      rw more
-      (runs-step most (from + p) (c + k) (drop p s) stack
-      ∙ rw here (stepped f p c [] (stepAt (left - 0) (drop p s)) (λ len new. around f (p + len) (new ++ []) c) q))
-  around (suc f) p (zero ∷ above) c q = runs-close most (from + p) (drop p s) (above ++ (c + k) ∷ stack) ∙ around f p above c q
-  around (suc f) p (suc n ∷ above) c q =
-      let here : most - length (above ++ (c + k) ∷ stack) ≡ left - length (above ++ c ∷ []) = simp length-append (omega arith) in
-      runs-step most (from + p) n (drop p s) (above ++ (c + k) ∷ stack)
-      ∙ rw here (stepped f p c (n ∷ above) (stepAt (left - length (above ++ c ∷ [])) (drop p s))
-      (λ len new. around f (p + len) (new ++ n ∷ above) c) q)
+  module _ (levels : most ≡ left + length stack) where
+    -- turn by turn
+    around : (f p : ℕ) (above : List ℕ) (c : ℕ) → run left f p (drop p s) (above ++ c ∷ []) ≡ ItemRead.Ends e → Around p above c
+    unfolding run
+    around zero p above c q = absurd (never 0 0 e q)
+    around (suc zero) p [] zero q = absurd (never 0 0 e q)
+    around (suc (suc f)) p [] zero q =
+        let same : p ≡ e = cc in
+        rw (zero-add k, same)
+    around (suc f) p [] (suc c) q =
+        let here : most - length stack ≡ left - 0 = omega arith in
+        let more : suc c + k ≡ suc (c + k) = omega arith in
+        rw more
+        (runs-step most (from + p) (c + k) (drop p s) stack
+        ∙ rw here (stepped f p c [] (stepAt (left - 0) (drop p s)) (λ len new. around f (p + len) (new ++ []) c) q))
+    around (suc f) p (zero ∷ above) c q = runs-close most (from + p) (drop p s) (above ++ (c + k) ∷ stack) ∙ around f p above c q
+    around (suc f) p (suc n ∷ above) c q =
+        let here : most - length (above ++ (c + k) ∷ stack) ≡ left - length (above ++ c ∷ []) = simp length-append (omega arith) in
+        runs-step most (from + p) n (drop p s) (above ++ (c + k) ∷ stack)
+        ∙ rw here (stepped f p c (n ∷ above) (stepAt (left - length (above ++ c ∷ [])) (drop p s))
+        (λ len new. around f (p + len) (new ++ n ∷ above) c) q)
 
 -- the first item is passed
 item-passes : (levels : ℕ) (s : List ℕ) (e : ℕ) → firstItem levels s ≡ ItemRead.Ends e → Passes (leftUnder levels) 1 s 0 e

@@ -19,7 +19,6 @@ use Rattle.cbor.specs.Head.{headAt}
 use Rattle.cbor.specs.Item.{opens, stepOf, stepFrom, stepAt, itemsOf}
 use Rattle.cbor.specs.Tree.{Item, Items, headBytes, Right, count, encode, encodes, depth, depths, Good, Goods}
 use Rattle.cbor.specs.Fault.{Fault, placeOf, itemsHeld}
-use Rattle.cbor.proofs.Bounds.{HeadOk, head-ok}
 use Rattle.cbor.proofs.HeadExact.{Spelt, HeadIs, head-is}
 use Rattle.cbor.proofs.HeadFault.{head-fault}
 
@@ -67,7 +66,7 @@ one-of m low lo hi = by (eqb m (1 + low)) refl
     by true e = eqb-true m (1 + low) e
     by false e = omega (arith, eqb-false m (1 + low) e)
 
-module _ (left : ℕ) (s : List ℕ) (b : Bytes s) (major arg len : ℕ) (h : Spelt s major arg len) (within : len ≤ length s) where
+module _ (left : ℕ) (s : List ℕ) (major arg len : ℕ) (h : Spelt s major arg len) where
   -- the head, by its major type
   of : (m : ℕ) → major ≡ m → Spelt s m arg len
   of m e = subst (λ (k : ℕ). Spelt s k arg len) e h
@@ -88,9 +87,9 @@ module _ (left : ℕ) (s : List ℕ) (b : Bytes s) (major arg len : ℕ) (h : Sp
       let k = of 7 e in
       record { item = Item.simple (k .width) arg; good = k .right; flat = refl; bytes = sym (k .bytes) }
 
-  string : (text : Bool) → major ≡ cond text 3 2 → arg ≤ length s - len → LeafIs s (len + arg)
+  string : Bytes s → (text : Bool) → major ≡ cond text 3 2 → arg ≤ length s - len → LeafIs s (len + arg)
   unfolding encode depth
-  string text e room =
+  string b text e room =
       let k = of (cond text 3 2) e in
       let there : arg ≤ length (drop len s) = omega (arith, length-drop len s) in
       let long : length (take arg (drop len s)) ≡ arg = length-take-le arg (drop len s) there in
@@ -145,9 +144,9 @@ module _ (left : ℕ) (s : List ℕ) (b : Bytes s) (major arg len : ℕ) (h : Sp
   unfolding placeOf pick
   short lo hi less = record { fault = Fault.short major (h .width) arg (drop len s) split (h .right) lo hi (rw (length-drop len s) less); at = refl }
 
-  step-of-is : StepIs left s (stepOf left (length s) major arg len)
+  step-of-is : Bytes s → StepIs left s (stepOf left (length s) major arg len)
   unfolding stepOf
-  step-of-is =
+  step-of-is b =
       pick-case (StepIs left s) _ (λ e. simple (eqb-true major 7 e))
       (λ e.
       pick-case (StepIs left s) _
@@ -160,14 +159,14 @@ module _ (left : ℕ) (s : List ℕ) (b : Bytes s) (major arg len : ℕ) (h : Sp
       pick-case (StepIs left s) _
       (λ g.
       let lo = leb-true 2 major g in
-      pick-case (StepIs left s) _ (λ t. string (eqb major 3) (one-of major 2 lo hi) (leb-true arg (length s - len) t))
+      pick-case (StepIs left s) _ (λ t. string b (eqb major 3) (one-of major 2 lo hi) (leb-true arg (length s - len) t))
       (λ t. short lo hi (leb-false arg (length s - len) t)))
       (λ g. number (eqb major 1) (one-of major 0 zero-le (leb-false 2 major g)))))
 
 pub step-is : (left : ℕ) (s : List ℕ) → Bytes s → StepIs left s (stepAt left s)
 unfolding stepAt stepFrom
-step-is left s b = by (headAt s) refl (head-is s b) (head-ok s)
+step-is left s b = by (headAt s) refl (head-is s b)
   where
-    by : (x : HeadRead) → headAt s ≡ x → HeadIs s x → HeadOk (length s) x → StepIs left s (stepFrom left (length s) x)
-    by (HeadRead.Refused number place) e i o = let f = head-fault left s number place b e in record { fault = f .0; at = f .1 }
-    by (HeadRead.Head major arg len) e i o = step-of-is left s b major arg len i (o .1)
+    by : (x : HeadRead) → headAt s ≡ x → HeadIs s x → StepIs left s (stepFrom left (length s) x)
+    by (HeadRead.Refused number place) e i = let f = head-fault left s number place b e in record { fault = f .0; at = f .1 }
+    by (HeadRead.Head major arg len) e i = step-of-is left s major arg len i b

@@ -55,6 +55,10 @@ counted : (most at : ℕ) (r : List ℕ) (m k : ℕ) (below : List ℕ) → leng
 counted most at r m k below short (inl e) = ap (λ (n : ℕ). runs most at r (n ∷ below)) e
 counted most at r m k below short (inr h) = runs-many most at r m k below (omega arith) (omega arith)
 
+-- an answer lies within the bytes left, and opens a level only where one may
+pub fits : (s : List ℕ) (left at : ℕ) (x : Step) → stepAt left (drop at s) ≡ x → StepOk left (length s - at) x
+fits s left at x answer = rw (length-drop at s) at (subst (StepOk left (length (drop at s))) answer (step-ok left (drop at s)))
+
 module _ (levels : ℕ) (s : List ℕ) (most : ℕ) (outer : List ℕ) (depth lacking at : ℕ) (i : Inv levels s most outer depth lacking at) where
   -- the innermost level lacks nothing more, and there is no other
   pub done : lacking ≡ 0 → depth ≡ 0 → ItemRead.Ends at ≡ firstItem levels s
@@ -84,11 +88,6 @@ module _ (levels : ℕ) (s : List ℕ) (most : ℕ) (outer : List ℕ) (depth la
         ∙ ap (λ (k : ℕ). next (runs most) at (drop at s) (n ∷ below) (stepAt (most - k) (drop at s))) (length-stack outer depth))
         ∙ rw e at (i .same)
 
-    -- an answer lies within the bytes left, and opens a level only where one may
-    pub fits : (x : Step) → stepAt (most - depth) (drop at s) ≡ x → StepOk (most - depth) (length s - at) x
-    fits x answer =
-        rw (length-drop at s) at (subst (StepOk (most - depth) (length (drop at s))) answer (step-ok (most - depth) (drop at s)))
-
     -- the walk after an answer
     after : (x : Step) → stepAt (most - depth) (drop at s) ≡ x → next (runs most) at (drop at s) ((lacking - 1) ∷ stackOf outer depth) x ≡ firstItem levels s
     after x answer = sym (ap (next (runs most) at (drop at s) ((lacking - 1) ∷ stackOf outer depth)) answer) ∙ stepped
@@ -100,7 +99,7 @@ module _ (levels : ℕ) (s : List ℕ) (most : ℕ) (outer : List ℕ) (depth la
     pub passed : (len : ℕ) → stepAt (most - depth) (drop at s) ≡ Step.Passed len → Inv levels s most outer depth (lacking - 1) (at + len)
     unfolding next
     passed len answer =
-        let ok : (1 ≤ len) × (len ≤ length s - at) = fits (Step.Passed len) answer in
+        let ok : (1 ≤ len) × (len ≤ length s - at) = fits s (most - depth) at (Step.Passed len) answer in
         record {
           most-is = i .most-is;
           eight = i .eight;
@@ -113,7 +112,7 @@ module _ (levels : ℕ) (s : List ℕ) (most : ℕ) (outer : List ℕ) (depth la
         → Counts n pairs m → Inv levels s most (set outer depth (lacking - 1)) (depth + 1) m (at + len)
     unfolding next Counts
     opened len n pairs m answer short count =
-        let ok : ((1 ≤ len) × (len ≤ length s - at)) × (1 ≤ most - depth) = fits (Step.Opened len n pairs) answer in
+        let ok : ((1 ≤ len) × (len ≤ length s - at)) × (1 ≤ most - depth) = fits s (most - depth) at (Step.Opened len n pairs) answer in
         let here : depth < length outer = omega (arith, i .eight, i .most-is) in
         let short′ : length (drop len (drop at s)) < 2 ^ 63 = simp length-drop (omega arith) in
         record {

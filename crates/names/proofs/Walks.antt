@@ -23,25 +23,27 @@ front-at [] i h = absurd (omega arith)
 front-at (x ∷ l) zero h = refl
 front-at (x ∷ l) (suc i) h = let shorter : i < length l = omega arith in front-at l i shorter
 
+-- a later difference
+later : (t : Bool) {u : Bool} → false ≡ u → false ≡ (t && u)
+later true h = h
+later false h = refl
+
 pub same-lengths : (a b : List ℕ) → (length a ≡ length b → ⊥) → false ≡ sameBytes a b
 unfolding sameBytes
 same-lengths [] [] ne = absurd (ne refl)
 same-lengths [] (y ∷ ys) ne = refl
 same-lengths (x ∷ xs) [] ne = refl
-same-lengths (x ∷ xs) (y ∷ ys) ne = go (eqb x y) (same-lengths xs ys (λ e. ne (ap suc e)))
-  where
-    go : (t : Bool) → false ≡ sameBytes xs ys → false ≡ (t && sameBytes xs ys)
-    go true h = h
-    go false h = refl
+same-lengths (x ∷ xs) (y ∷ ys) ne = later (eqb x y) (same-lengths xs ys (λ e. ne (ap suc e)))
+
+pub same-differ : (a b : List ℕ) (i : ℕ) → (getD a i 0 ≡ getD b i 0 → ⊥) → false ≡ sameBytes a b
+unfolding sameBytes
+same-differ [] [] i ne = absurd (ne refl)
+same-differ [] (y ∷ ys) i ne = refl
+same-differ (x ∷ xs) [] i ne = refl
+same-differ (x ∷ xs) (y ∷ ys) zero ne = rw (ne-eqb x y ne) refl
+same-differ (x ∷ xs) (y ∷ ys) (suc i) ne = later (eqb x y) (same-differ xs ys i ne)
 
 module _ (a b : List ℕ) (i : ℕ) (same : length a ≡ length b) where
-  pub same-differ : i < length a → (getD a i 0 ≡ getD b i 0 → ⊥) → sameBytes (drop i a) (drop i b) ≡ sameBytes a b → false ≡ sameBytes a b
-  unfolding sameBytes
-  same-differ h ne e =
-      let there : i < length b = omega arith in
-      let differs : sameBytes (drop i a) (drop i b) ≡ false = rw (front-at a i h, front-at b i there, ne-eqb (getD a i 0) (getD b i 0) ne) refl in
-      sym differs ∙ e
-
   pub same-next : i < length a → getD a i 0 ≡ getD b i 0 → sameBytes (drop i a) (drop i b) ≡ sameBytes a b → sameBytes (drop (i + 1) a) (drop (i + 1) b) ≡ sameBytes a b
   unfolding sameBytes
   same-next h q e =

@@ -117,7 +117,7 @@ module _ (h r : List ℕ) (n : ℕ) where
 
   -- a token before the count
   pub front-token : (u : List ℕ) (at : ℕ) → tokenAt (old u) at .major < 8 → tokenAt (old u) at .next ≤ length u → tokenAt (new u) at ≡ tokenAt (old u) at
-  front-token u at there low = token-kept u (h ++ r) (head 0 n ++ r) at (omega (arith, token-has (old u) at .some there)) there low
+  front-token u = token-kept u (h ++ r) (head 0 n ++ r)
 
   -- the second item of a pair, after an objective
   tail-recounted : (u : List ℕ) (base : ℕ) (o o′ : Objective) (rest : ℕ) {t : Tag} {size : ℕ} → pairTail base (old u) (length u + length h + rest) o 0 0 ≡ PairRead.Got o t size 0 0

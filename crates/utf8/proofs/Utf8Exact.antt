@@ -50,13 +50,13 @@ joined b s =
 -- a byte with nothing due, where what is accepted after it is what the state asks for
 begun : (b low high : ℕ) (s : List ℕ) → ((due low high : ℕ) → goesOn due low high s ≡ true → Rest due low high s) → goesOn 0 low high (b ∷ s) ≡ true → Text (b ∷ s)
 unfolding goesOn
-begun b low high s rest = pick-case (λ x. x ≡ true → Text (b ∷ s)) (ltb b 0x80) alone led
+begun b low high s rest = pick-case (λ x. x ≡ true → Text (b ∷ s)) (ltb b 0x80) alone (λ _. led)
   where
     alone : ltb b 0x80 ≡ true → goesOn 0 low high s ≡ true → Text (b ∷ s)
     alone t e = put (b ∷ []) s (spells-one b (ltb-true b 0x80 t)) (rest 0 low high e)
 
-    led : ltb b 0x80 ≡ false → pick (eqb (tailsOf b) 0) false (goesOn (tailsOf b) (leastTail b) (greatestTail b) s) ≡ true → Text (b ∷ s)
-    led _ e =
+    led : pick (eqb (tailsOf b) 0) false (goesOn (tailsOf b) (leastTail b) (greatestTail b) s) ≡ true → Text (b ∷ s)
+    led e =
         let p = past (eqb (tailsOf b) 0) e false≢true in
         joined b s (eqb-false (tailsOf b) 0 (p .0)) (rest (tailsOf b) (leastTail b) (greatestTail b) (p .1))
 

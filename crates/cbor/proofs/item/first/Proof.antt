@@ -65,7 +65,7 @@ abbrev Gives : Met → Step → Type 0
 Gives k x = stepAt (most k - depth k) (drop (at k) (bytes k)) ≡ x
 
 within : (k : Met) (x : Step) → Gives k x → StepOk (most k - depth k) (length (bytes k) - at k) x
-within k x e = fits (levels k) (bytes k) (most k) (outer k) (depth k) (lacking k) (at k) (inv k) (some k) x e
+within k x e = fits (bytes k) (most k - depth k) (at k) x e
 
 -- what `turn_at` answered
 answer : (k : Met) (x : Turn) → k .turn-at .result ≡ x → TurnIs (stepAt (most k - depth k) (drop (at k) (bytes k))) x
