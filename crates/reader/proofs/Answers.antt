@@ -31,25 +31,24 @@ pub read-long : (s : List ℕ) → length s ≢ 0 → mostBytes < length s → R
 unfolding readOf examined placeless pick
 read-long s some h = rw (ne-eqb (length s) 0 some, lt-ltb mostBytes (length s) h)
 
-module _ (s : List ℕ) (r : Examined) (some : length s ≢ 0) (most : length s ≤ mostBytes) (is : r ≡ shaped s) where
-  -- neither: the walk is asked first
-  fitting : examined s ≡ framed s (firstItem 0 s)
-  unfolding examined pick
-  fitting = rw (ne-eqb (length s) 0 some, le-ltb mostBytes (length s) most)
+-- neither: the walk is asked first
+fitting : (s : List ℕ) → length s ≢ 0 → length s ≤ mostBytes → examined s ≡ framed s (firstItem 0 s)
+unfolding examined pick
+fitting s some most = rw (ne-eqb (length s) 0 some, le-ltb mostBytes (length s) most)
 
-  -- a message
-  module _ (m : Message) (end : ℕ) (found : r ≡ E.Accepted m end) where
-    walked : examined s ≡ framed s (ItemRead.Ends end)
-    walked = fitting ∙ ap (framed s) (parts-walked s (sym is ∙ found))
+-- a message
+module _ (s : List ℕ) (r : Examined) (some : length s ≢ 0) (most : length s ≤ mostBytes) (is : r ≡ shaped s) (m : Message) (end : ℕ) (found : r ≡ E.Accepted m end) where
+  walked : examined s ≡ framed s (ItemRead.Ends end)
+  walked = fitting s some most ∙ ap (framed s) (parts-walked s (sym is ∙ found))
 
-    pub read-whole : end ≡ length s → Reading.Read m ≡ readOf s
-    unfolding readOf framed placeless pick
-    read-whole full = sym (ap placeless walked ∙ rw (eq-eqb end (length s) full, sym is ∙ found))
+  pub read-whole : end ≡ length s → Reading.Read m ≡ readOf s
+  unfolding readOf framed placeless pick
+  read-whole full = sym (ap placeless walked ∙ rw (eq-eqb end (length s) full, sym is ∙ found))
 
-    -- and bytes after it
-    pub read-over : end ≢ length s → Reading.Refused 7 ≡ readOf s
-    unfolding readOf framed placeless pick
-    read-over more = sym (ap placeless walked ∙ rw (ne-eqb end (length s) more))
+  -- and bytes after it
+  pub read-over : end ≢ length s → Reading.Refused 7 ≡ readOf s
+  unfolding readOf framed placeless pick
+  read-over more = sym (ap placeless walked ∙ rw (ne-eqb end (length s) more))
 
 -- a refusal by the parts comes after the walk's
 due-later : (s : List ℕ) (number place : ℕ) → shaped s ≡ E.Refused number place → (x : ItemRead) → placeless (framed s x) ≡ Reading.Refused (walkedBy number (length s) x)
@@ -65,7 +64,7 @@ pub read-refused : (s : List ℕ) (r : Examined) (number place n : ℕ) → leng
     → Reading.Refused n ≡ readOf s
 unfolding readOf walkedFirst
 read-refused s r number place n some most is found same =
-    ap Reading.Refused same ∙ sym (ap placeless (fitting s r some most is) ∙ due-later s number place (sym is ∙ found) (firstItem 0 s))
+    ap Reading.Refused same ∙ sym (ap placeless (fitting s some most) ∙ due-later s number place (sym is ∙ found) (firstItem 0 s))
 
 -- a message that was read is the whole that its parts make up
 pub read-shaped : (s : List ℕ) (m : Message) → readOf s ≡ Reading.Read m → (length s ≢ 0) × (shaped s ≡ E.Accepted m (length s))
