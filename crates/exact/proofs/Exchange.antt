@@ -32,7 +32,7 @@ discovered-sound : {s : List ℕ} {at p q session : ℕ} {i : Span} → Kinded s
 unfolding discovered count textsOf namesOf
 discovered-sound k i j (ObjectiveRead.Bad place) e = ShapeOk.bad
 discovered-sound {s} {q = q} k i j (ObjectiveRead.Got o size bad long) e =
-    let x = objective-sound objectiveLevels s q o size bad long (j .stands .within) (k .bytes) e in
+    let x = objective-sound objectiveLevels s q o size bad long (k .bytes) e in
     built k _ _ (Msg.discovery _ (j .content) (x .obj)) refl (join (i .stands) (join (j .stands) (last (x .stands))))
     (λ w v. MessageItem.discovery (Number.number (i .low)) (Initiator.initiator (j .size)) (x .is))
     (λ full. Describes.discovery (kind-is k) (number-is-here i) (initiator-is j) (subst (λ (e : ℕ). ObjectiveIs s q e o (x .obj)) full (x .described))) (single (x .texts)) (single (x .names))
@@ -45,8 +45,8 @@ discovery-sound {s} {n} {at} k =
     (λ four. past-case _
     (λ e. held-case _
     (λ e′.
-    let i = number-at-most (k .bytes) (k .lead .within) e in
-    let j = initiator-at (k .bytes) (i .stands .within) e′ in
+    let i = number-at-most (k .bytes) e in
+    let j = initiator-at (k .bytes) e′ in
     discovered-sound (subst (λ (n : ℕ). Kinded s 1 n at) (eqb-true n 4 four) k) i j _ refl)))
 
 -- an objective that stands is read
@@ -81,7 +81,7 @@ exchanged-sound : {s : List ℕ} {kind at p session : ℕ} → Exchange kind →
 unfolding exchanged count
 exchanged-sound c k i (ObjectiveRead.Bad place) e = ShapeOk.bad
 exchanged-sound {s} {kind} {at} {p} {session} c k i (ObjectiveRead.Got o size bad long) e =
-    let x = objective-sound objectiveLevels s p o size bad long (i .stands .within) (k .bytes) e in
+    let x = objective-sound objectiveLevels s p o size bad long (k .bytes) e in
     built k _ _ (c .msg session (x .obj)) refl (join (i .stands) (last (x .stands)))
     (λ w v. c .item w v session _ _ (x .obj) (Number.number (i .low)) (x .is))
     (λ full. c .tells s at p session o (x .obj) (kind-is k) (number-is-here i) (subst (λ (e : ℕ). ObjectiveIs s p e o (x .obj)) full (x .described)))
@@ -93,7 +93,7 @@ unfolding exchangeAt
 exchange-sound {s} {kind} {n} {at} c k =
     held-case _
     (λ three. past-case _
-    (λ e. exchanged-sound c (subst (λ (n : ℕ). Kinded s kind n at) (eqb-true n 3 three) k) (number-at-most (k .bytes) (k .lead .within) e) _ refl))
+    (λ e. exchanged-sound c (subst (λ (n : ℕ). Kinded s kind n at) (eqb-true n 3 three) k) (number-at-most (k .bytes) e) _ refl))
 
 -- Request Negotiation
 pub request-negotiation-sound : {s : List ℕ} {n at : ℕ} → Kinded s 3 n at → ShapeOk s (exchangeAt s 3 n at)

@@ -67,12 +67,12 @@ one-more i (PairsOk.ran h) =
 
 module _ {s : List ℕ} (b : Bytes s) where
   -- the next pair, and then others
-  next-sound : {p n bad long : ℕ} → p ≤ length s → ((p′ bad′ long′ : ℕ) → p′ ≤ length s → PairsOk s p′ n bad′ long′ (pairsFrom s n p′ bad′ long′))
+  next-sound : {p n bad long : ℕ} → ((p′ bad′ long′ : ℕ) → p′ ≤ length s → PairsOk s p′ n bad′ long′ (pairsFrom s n p′ bad′ long′))
       → (x : PairRead) → pairAt s p ≡ x → PairsOk s p (suc n) bad long (pairThen (pairsFrom s n) p bad long x)
   unfolding pairThen
-  next-sound low go (PairRead.Bad place) e = PairsOk.refused
-  next-sound {p} {bad = bad} {long} low go (PairRead.Got o t size bad′ long′) e =
-      let i = pair-sound s p o t size bad′ long′ low b e in
+  next-sound go (PairRead.Bad place) e = PairsOk.refused
+  next-sound {p} {bad = bad} {long} go (PairRead.Got o t size bad′ long′) e =
+      let i = pair-sound s p o t size bad′ long′ b e in
       one-more i (go (p + size) (firstOf bad bad′) (firstOf long long′) (i .stands .within))
 
   -- pairs stand one after the other where they are read
@@ -80,7 +80,7 @@ module _ {s : List ℕ} (b : Bytes s) where
   unfolding pairsFrom count flatMap
   pairs-sound zero p bad long low =
       PairsOk.ran (record { items = Items.done; pairs = []; are = PairItems.empty; stand = none low; counted = refl; texts = none-noted; names = none-noted })
-  pairs-sound (suc n) p bad long low = next-sound low (pairs-sound n) _ refl
+  pairs-sound (suc n) p bad long low = next-sound (pairs-sound n) _ refl
 
 module _ {s : List ℕ} {n at next : ℕ} (k : Kinded s 9 n at) {opening : Opening} (h : OpeningHere s at next opening) {parts : ℕ} (counted : n ≡ 4 + parts) (some : 1 ≤ parts) where
   -- the first pair and the others are the message
@@ -104,7 +104,7 @@ module _ {s : List ℕ} {n at next : ℕ} (k : Kinded s 9 n at) {opening : Openi
   unfolding floodedOf
   flooded-of-sound (PairRead.Bad place) e = ShapeOk.bad
   flooded-of-sound (PairRead.Got first t size bad long) e =
-      let i = pair-sound s next first t size bad long (h .ttl .stands .within) (k .bytes) e in
+      let i = pair-sound s next first t size bad long (k .bytes) e in
       flooded-by-sound i _ (pairs-sound (k .bytes) (parts - 1) (next + size) bad long (i .stands .within))
 
 -- after the opening
@@ -116,7 +116,7 @@ flood-by-sound k five _ (OpeningOk.got h) = flooded-of-sound k h (omega arith) (
 -- what is read is a Flood
 pub flood-sound : {s : List ℕ} {n at : ℕ} → Kinded s 9 n at → ShapeOk s (floodAt s n at)
 unfolding floodAt
-flood-sound {n = n} k = past-case _ (λ e. flood-by-sound k (ltb-false n 5 e) _ (opening-sound (k .bytes) (k .lead .within)))
+flood-sound {n = n} k = past-case _ (λ e. flood-by-sound k (ltb-false n 5 e) _ (opening-sound (k .bytes)))
 
 -- ---- what stands there is read
 -- pairs are read, whatever is noted

@@ -54,9 +54,9 @@ pub record InitiatorHere (s : List ℕ) (p e : ℕ) (span : Span) : Type 0 where
 pub initiator-is : {s : List ℕ} {p e : ℕ} {span : Span} (h : InitiatorHere s p e span) → InitiatorIs s p e span (h .content)
 initiator-is h = record { width = h .width; stands = h .stands; held = h .held }
 
-module _ {s : List ℕ} {p : ℕ} (b : Bytes s) (low : p ≤ length s) where
+module _ {s : List ℕ} {p : ℕ} (b : Bytes s) where
   heading : tokenAt s p .major < 8 → Heading s p (tokenAt s p)
-  heading h = token-heading s p (tokenAt s p) b low refl h
+  heading h = token-heading s p (tokenAt s p) b refl h
 
   -- an unsigned number
   pub uint-at : tokenAt s p .major ≡ 0 → Some s p (tokenAt s p .next) (λ w. uint w (tokenAt s p .arg))
@@ -66,7 +66,7 @@ module _ {s : List ℕ} {p : ℕ} (b : Bytes s) (low : p ≤ length s) where
   pub number-at-most : ltb most (upTo most (tokenAt s p)) ≡ false → NumberHere s p (tokenAt s p .next) (upTo most (tokenAt s p))
   number-at-most e =
       let small = ltb-false most (upTo most (tokenAt s p)) e in
-      let i = number-here most (tokenAt s p) b low refl small in
+      let i = number-here most (tokenAt s p) b refl small in
       record { width = i .width; low = small; stands = i .stands }
 
   -- a byte string, or a text

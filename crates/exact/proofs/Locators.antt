@@ -71,12 +71,12 @@ one-more i (LocatorsOk.ran {left = left} h) =
 
 module _ {s : List ℕ} (b : Bytes s) where
   -- the next locator, and then others
-  next-sound : {p n bad : ℕ} → p ≤ length s → ((p′ bad′ : ℕ) → p′ ≤ length s → LocatorsOk s p′ n bad′ (locatorsFrom s n p′ bad′))
+  next-sound : {p n bad : ℕ} → ((p′ bad′ : ℕ) → p′ ≤ length s → LocatorsOk s p′ n bad′ (locatorsFrom s n p′ bad′))
       → (x : LocatorRead) → locatorAt s p ≡ x → LocatorsOk s p (suc n) bad (locatorThen (locatorsFrom s n) p bad x)
   unfolding locatorThen
-  next-sound low go (LocatorRead.Bad place) e = LocatorsOk.refused
-  next-sound {p} {bad = bad} low go (LocatorRead.Got l size bad′) e =
-      let i = locator-sound s p l size bad′ low b e in
+  next-sound go (LocatorRead.Bad place) e = LocatorsOk.refused
+  next-sound {p} {bad = bad} go (LocatorRead.Got l size bad′) e =
+      let i = locator-sound s p l size bad′ b e in
       one-more i (go (p + size) (firstOf bad bad′) (i .stands .within))
 
   -- locators stand one after the other where they are read
@@ -84,7 +84,7 @@ module _ {s : List ℕ} (b : Bytes s) where
   unfolding locatorsFrom
   locators-sound zero p bad low = stopped 0 bad low
   locators-sound (suc n) p bad low =
-      pick-case (LocatorsOk s p (suc n) bad) _ (λ _. stopped (suc n) bad low) (λ _. next-sound low (locators-sound n) _ refl)
+      pick-case (LocatorsOk s p (suc n) bad) _ (λ _. stopped (suc n) bad low) (λ _. next-sound (locators-sound n) _ refl)
 
 -- ---- what stands there is read
 -- an array that a number leads

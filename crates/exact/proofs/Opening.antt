@@ -2,8 +2,7 @@
 -- Assumes nothing.
 use mathlib.Core.Path.{_≡_}
 use mathlib.Core.List.{List}
-use Prim.Native.Nat.{ℕ, _≤_}
-use lib.ListN.{length}
+use Prim.Native.Nat.{ℕ}
 use Rattle.base.specs.Pick.{pick}
 use Rattle.base.specs.BigEndian.{Bytes}
 use Rattle.base.proofs.Picks.{pick-case}
@@ -32,17 +31,17 @@ pub data OpeningOk (s : List ℕ) (at : ℕ) : OpeningRead → Type 0 where
   got : {o : Opening} {next : ℕ} → OpeningHere s at next o → OpeningOk s at (Got o next)
 
 -- what is read stands there
-pub opening-sound : {s : List ℕ} {at : ℕ} → Bytes s → at ≤ length s → OpeningOk s at (openingAt s at)
+pub opening-sound : {s : List ℕ} {at : ℕ} → Bytes s → OpeningOk s at (openingAt s at)
 unfolding openingAt
-opening-sound {s} {at} b low =
+opening-sound {s} {at} b =
     pick-case (OpeningOk s at) _ (λ _. OpeningOk.bad)
     (λ e.
-    let i = number-at-most b low e in
+    let i = number-at-most b e in
     pick-case (OpeningOk s at) _
     (λ e′.
-    let j = initiator-at b (i .stands .within) e′ in
+    let j = initiator-at b e′ in
     pick-case (OpeningOk s at) _ (λ _. OpeningOk.bad)
-    (λ e″. OpeningOk.got (record { mid = _; before = _; session = i; initiator = j; ttl = number-at-most b (j .stands .within) e″ })))
+    (λ e″. OpeningOk.got (record { mid = _; before = _; session = i; initiator = j; ttl = number-at-most b e″ })))
     (λ _. OpeningOk.bad))
 
 -- what stands there is read, and the items after it follow

@@ -14,7 +14,7 @@ use Rattle.base.specs.Lists.{Every}
 use Rattle.base.proofs.Picks.{pick-case}
 use Rattle.cbor.specs.Token.{tokenAt, sizeAt, itemsIn, upTo}
 use Rattle.cbor.specs.Tree.{Item, Items, count, depth}
-use Rattle.cbor.proofs.Tokens.{token-is, token-end, is-array}
+use Rattle.cbor.proofs.Tokens.{token-is, is-array}
 use Rattle.options.specs.Text.{contentIn, contentOf}
 use Rattle.syntax.specs.Message.{Ending, Msg}
 use Rattle.grammar.specs.Cddl.{uint, list, Number, EndingItem, MessageItem}
@@ -55,8 +55,8 @@ wait-sound {n = n} k =
     (λ three. past-case _
     (λ e. past-case _
     (λ e′.
-    let i = number-at-most (k .bytes) (k .lead .within) e in
-    let t = number-at-most (k .bytes) (i .stands .within) e′ in
+    let i = number-at-most (k .bytes) e in
+    let t = number-at-most (k .bytes) e′ in
     built k _ _ (Msg.wait _ _) (eqb-true n 3 three) (join (i .stands) (last (t .stands)))
     (λ w v. MessageItem.wait (Number.number (i .low)) (Number.number (t .low))) (λ _. Describes.wait) (clean tt) (clean tt))))
 
@@ -77,7 +77,7 @@ invalid-sound {s} {n} {at} k =
     (λ lo. past-case _
     (λ hi. past-case _
     (λ e.
-    let i = number-at-most (k .bytes) (k .lead .within) e in
+    let i = number-at-most (k .bytes) e in
     let p : ℕ = tokenAt s at .next in
     let few : 2 ≤ n = ltb-false n 2 lo in
     let most : n ≤ 3 = ltb-false 3 n hi in
@@ -125,10 +125,10 @@ module _ {s : List ℕ} {at p session : ℕ} (k : Kinded s 6 3 at) (i : NumberHe
       (λ lo. past-case _
       (λ hi.
       let array = is-array o (eqb-false (itemsIn o) 0 filled) in
-      let h = token-heading s p o (k .bytes) (i .stands .within) refl (omega arith) in
+      let h = token-heading s p o (k .bytes) refl (omega arith) in
       let least : 101 ≤ upTo 102 x = ltb-false (upTo 102 x) 101 lo in
       let small : upTo 102 x ≤ 102 = ltb-false 102 (upTo 102 x) hi in
-      let number = number-here 102 x (k .bytes) (token-end s p) refl small in
+      let number = number-here 102 x (k .bytes) refl small in
       let lead : (v : ℕ) → upTo 102 x ≡ v → Stands s (o .next) (x .next) (uint (number .width) v)
       = λ v e. subst (λ (v : ℕ). Stands s (o .next) (x .next) (uint (number .width) v)) e (number .stands) in
       pick-case (ShapeOk s) _
@@ -140,7 +140,7 @@ module _ {s : List ℕ} {at p session : ℕ} (k : Kinded s 6 3 at) (i : NumberHe
       (λ two. held-case _
       (λ text.
       let t = tokenAt s (x .next) in
-      let string = string-at (k .bytes) (token-end s (o .next)) true (eqb-true (t .major) 3 text) in
+      let string = string-at (k .bytes) true (eqb-true (t .major) 3 text) in
       let here : t .at ≡ x .next = token-is s (x .next) t refl .here in
       let place : t .at ≢ 0 = λ z. omega (arith, advances (number .stands)) in
       ended (array-at h array (eqb-true (o .arg) 2 two) (join (lead 102 (omega (arith, eqb-false (upTo 102 x) 101 e))) (last (string .stands)))) EndingItem.reason
@@ -152,7 +152,7 @@ unfolding endAt
 end-sound {s} {n} {at} k =
     held-case _
     (λ three. past-case _
-    (λ e. option-sound (subst (λ (n : ℕ). Kinded s 6 n at) (eqb-true n 3 three) k) (number-at-most (k .bytes) (k .lead .within) e)))
+    (λ e. option-sound (subst (λ (n : ℕ). Kinded s 6 n at) (eqb-true n 3 three) k) (number-at-most (k .bytes) e)))
 
 -- the head of an accept or a decline, led by 101 or 102, and the items after the lead
 record Led (s : List ℕ) (p n : ℕ) (xs : Items) : Type 0 where

@@ -10,12 +10,13 @@ use lib.ListN.{length}
 use lib.Dec.{eqb}
 use borrow.Author.Tests.{leb-true, leb-false, ltb-false, eqb-true, eqb-false, le-ltb, lt-leb, eq-eqb, ne-eqb}
 use Rattle.base.specs.Pick.{pick}
+use Rattle.base.specs.BigEndian.{Bytes}
 use Rattle.base.specs.Lists.{Every}
 use Rattle.base.proofs.Picks.{pick-case, both}
 use Rattle.cbor.specs.declared.token.Token.{Token}
 use Rattle.cbor.specs.Token.{tokenAt, itemsIn, upTo}
 use Rattle.cbor.specs.Tree.{Item, Items, count, depth, depths}
-use Rattle.cbor.proofs.Tokens.{token-end, is-array}
+use Rattle.cbor.proofs.Tokens.{is-array}
 use Rattle.options.specs.declared.objective.ObjectiveRead.{ObjectiveRead}
 use Rattle.options.specs.Text.{firstOf}
 use Rattle.options.specs.Objective.{objectiveAt}
@@ -67,26 +68,14 @@ record RestHere (s : List ℕ) (p left bad end bad′ long : ℕ) (extra : Extra
   texts : bad′ ≡ 0 ↔ (bad ≡ 0) × Every Utf8 (optionalNames obj)
   names : long ≡ 0 ↔ Every Short (optionalNames obj)
 
-module _ {s : List ℕ} {n at next : ℕ} (k : Kinded s 2 n at) {opening : Opening} (h : OpeningHere s at next opening) where
-  -- the opening and what follows it are the message
-  responded : {e e′ bad long : ℕ} {xs : Items} {aim : Aim} {obj : Option (Obj Value)} {targets : Targets} {extra : Extra} → n ≡ 4 + count xs → StandAll s next e xs → AimItems xs aim obj
-      → AimIs s next e′ targets aim → (e ≡ length s → ExtraIs s e′ extra obj) → bad ≡ 0 ↔ Every Utf8 (aimTexts aim ++ optionalNames obj) → long ≡ 0 ↔ Every Short (optionalNames obj)
-      → ShapeOk s (S.Good (responseOf opening targets extra) e bad long)
-  unfolding count textsOf namesOf
-  responded {aim = aim} {obj} counted stand are pointed followed texts names =
-      built k _ _ (Msg.response _ (h .initiator .content) _ aim obj) (counted ∙ omega arith)
-      (join (h .session .stands) (join (h .initiator .stands) (join (h .ttl .stands) stand)))
-      (λ w v. MessageItem.response (Number.number (h .session .low)) (Initiator.initiator (h .initiator .size)) (Number.number (h .ttl .low)) are)
-      (λ full. Describes.response (kind-is k) (number-is-here (h .session)) (initiator-is (h .initiator)) (number-is-here (h .ttl)) pointed (followed full)) texts names
-
+-- where a message is made with whatever follows the locators or the divert
+module _ {s : List ℕ} {opening : Opening} {targets : Targets} {left p bad : ℕ} (bytes : Bytes s) (go : (extra : Extra) (end bad′ long : ℕ) → RestHere s p left bad end bad′ long extra → ShapeOk s (S.Good (responseOf opening targets extra) end bad′ long)) where
   -- one objective, and then the end
-  rest-of-sound : {targets : Targets} {left p bad : ℕ} → p ≤ length s
-      → ((extra : Extra) (end bad′ long : ℕ) → RestHere s p left bad end bad′ long extra → ShapeOk s (S.Good (responseOf opening targets extra) end bad′ long))
-      → (x : ObjectiveRead) → objectiveAt objectiveLevels s p ≡ x → ShapeOk s (restOf s opening targets left p bad x)
+  rest-of-sound : (x : ObjectiveRead) → objectiveAt objectiveLevels s p ≡ x → ShapeOk s (restOf s opening targets left p bad x)
   unfolding restOf count optionalNames
-  rest-of-sound low go (ObjectiveRead.Bad place) e = ShapeOk.bad
-  rest-of-sound {left = left} {p} {bad} low go (ObjectiveRead.Got o size bad′ long) e =
-      let x = objective-sound objectiveLevels s p o size bad′ long low (k .bytes) e in
+  rest-of-sound (ObjectiveRead.Bad place) e = ShapeOk.bad
+  rest-of-sound (ObjectiveRead.Got o size bad′ long) e =
+      let x = objective-sound objectiveLevels s p o size bad′ long bytes e in
       held-case _
       (λ one. go (Extra.With o) (p + size) (firstOf bad bad′) long
       (record {
@@ -101,11 +90,9 @@ module _ {s : List ℕ} {n at next : ℕ} (k : Kinded s 2 n at) {opening : Openi
       }))
 
   -- what follows the locators or the divert
-  rest-sound : {targets : Targets} {left p bad : ℕ} → p ≤ length s
-      → ((extra : Extra) (end bad′ long : ℕ) → RestHere s p left bad end bad′ long extra → ShapeOk s (S.Good (responseOf opening targets extra) end bad′ long))
-      → ShapeOk s (restAt s opening targets left p bad)
+  rest-sound : p ≤ length s → ShapeOk s (restAt s opening targets left p bad)
   unfolding restAt count optionalNames
-  rest-sound {left = left} {p} {bad} low go =
+  rest-sound low =
       pick-case (ShapeOk s) _
       (λ zero. go Extra.Without p bad 0
       (record {
@@ -118,7 +105,19 @@ module _ {s : List ℕ} {n at next : ℕ} (k : Kinded s 2 n at) {opening : Openi
         texts = none-noted;
         names = clean tt;
       }))
-      (λ _. rest-of-sound low go _ refl)
+      (λ _. rest-of-sound _ refl)
+
+module _ {s : List ℕ} {n at next : ℕ} (k : Kinded s 2 n at) {opening : Opening} (h : OpeningHere s at next opening) where
+  -- the opening and what follows it are the message
+  responded : {e e′ bad long : ℕ} {xs : Items} {aim : Aim} {obj : Option (Obj Value)} {targets : Targets} {extra : Extra} → n ≡ 4 + count xs → StandAll s next e xs → AimItems xs aim obj
+      → AimIs s next e′ targets aim → (e ≡ length s → ExtraIs s e′ extra obj) → bad ≡ 0 ↔ Every Utf8 (aimTexts aim ++ optionalNames obj) → long ≡ 0 ↔ Every Short (optionalNames obj)
+      → ShapeOk s (S.Good (responseOf opening targets extra) e bad long)
+  unfolding count textsOf namesOf
+  responded {aim = aim} {obj} counted stand are pointed followed texts names =
+      built k _ _ (Msg.response _ (h .initiator .content) _ aim obj) (counted ∙ omega arith)
+      (join (h .session .stands) (join (h .initiator .stands) (join (h .ttl .stands) stand)))
+      (λ w v. MessageItem.response (Number.number (h .session .low)) (Initiator.initiator (h .initiator .size)) (Number.number (h .ttl .low)) are)
+      (λ full. Describes.response (kind-is k) (number-is-here (h .session)) (initiator-is (h .initiator)) (number-is-here (h .ttl)) pointed (followed full)) texts names
 
   -- locators, and what follows them
   located-finish : {many p′ left bad end bad′ long : ℕ} {extra : Extra} {xs : Items} {ls : List Loc} → n ≡ 4 + (count xs + left) → many ≡ count xs → (count xs ≡ 0 → ⊥)
@@ -139,8 +138,9 @@ module _ {s : List ℕ} {n at next : ℕ} (k : Kinded s 2 n at) {opening : Openi
   located-of-sound counted _ LocatorsOk.refused = ShapeOk.bad
   located-of-sound {parts} counted _ (LocatorsOk.ran {left = left} l) =
       past-case _
-      (λ more. rest-sound (l .stand .within)
-      (λ extra end bad′ long r. located-finish (omega (arith, l .sum)) (omega (arith, l .sum)) (λ z. omega (arith, l .sum, leb-false parts left more)) (l .are) (l .stand) (first-noted (l .texts)) r))
+      (λ more. rest-sound (k .bytes)
+      (λ extra end bad′ long r. located-finish (omega (arith, l .sum)) (omega (arith, l .sum)) (λ z. omega (arith, l .sum, leb-false parts left more)) (l .are) (l .stand) (first-noted (l .texts)) r)
+      (l .stand .within))
 
   -- locators first
   located-sound : (parts : ℕ) → n ≡ 4 + parts → ShapeOk s (locatedAt s opening parts next)
@@ -169,7 +169,7 @@ module _ {s : List ℕ} {n at next : ℕ} (k : Kinded s 2 n at) {opening : Openi
       (λ zero.
       let same : many ≡ count (l .items) = omega (arith, l .sum, eqb-true over 0 zero) in
       let whole = close e (l .items) same (l .stand) in
-      rest-sound (l .stand .within) (λ extra end bad′ long r. divert-finish counted same (λ z. filled (same ∙ z)) (l .are) (l .stand) whole head lead (first-noted (l .texts)) r))
+      rest-sound (k .bytes) (λ extra end bad′ long r. divert-finish counted same (λ z. filled (same ∙ z)) (l .are) (l .stand) whole head lead (first-noted (l .texts)) r) (l .stand .within))
 
   -- a divert first
   divert-sound : (left : ℕ) → n ≡ 5 + left → (itemsIn (tokenAt s next) ≡ 0 → ⊥) → upTo 100 (tokenAt s (tokenAt s next .next)) ≡ 100
@@ -179,8 +179,8 @@ module _ {s : List ℕ} {n at next : ℕ} (k : Kinded s 2 n at) {opening : Openi
       let o = tokenAt s next in
       let x = tokenAt s (o .next) in
       let array = is-array o filled in
-      let head = token-heading s next o (k .bytes) (h .ttl .stands .within) refl (omega arith) in
-      let number = number-here 100 x (k .bytes) (token-end s next) refl (omega arith) in
+      let head = token-heading s next o (k .bytes) refl (omega arith) in
+      let number = number-here 100 x (k .bytes) refl (omega arith) in
       let lead = subst (λ (n : ℕ). Stands s (o .next) (x .next) (uint (number .width) n)) hundred (number .stands) in
       past-case _
       (λ e.
@@ -209,7 +209,7 @@ response-by-sound {n = n} k five _ (OpeningOk.got h) = targets-sound k h (n - 4)
 -- what is read is a Response
 pub response-sound : {s : List ℕ} {n at : ℕ} → Kinded s 2 n at → ShapeOk s (responseAt s n at)
 unfolding responseAt
-response-sound {n = n} k = past-case _ (λ e. response-by-sound k (ltb-false n 5 e) _ (opening-sound (k .bytes) (k .lead .within)))
+response-sound {n = n} k = past-case _ (λ e. response-by-sound k (ltb-false n 5 e) _ (opening-sound (k .bytes)))
 
 -- ---- what stands there is read
 -- xs stand, and then ys

@@ -16,7 +16,7 @@ use Rattle.cbor.specs.declared.token.Token.{Token}
 use Rattle.cbor.specs.Item.{mostLevels}
 use Rattle.cbor.specs.Token.{tokenAt, itemsIn}
 use Rattle.cbor.specs.Tree.{Item, Items, Right, headBytes, count, encode, encodes, depth}
-use Rattle.cbor.proofs.Tokens.{token-end, is-array}
+use Rattle.cbor.proofs.Tokens.{is-array}
 use Rattle.syntax.specs.Message.{Msg}
 use Rattle.grammar.specs.Cddl.{uint, MessageItem, Value}
 use Rattle.grammar.specs.Stands.{Stands, StandAll}
@@ -147,13 +147,13 @@ unknown-there {s} {e} {x} stands u = unknown-array stands (array-there s 0 e x s
 module _ {s : List ℕ} (one : OneItem s) where
   -- the head of an array, and a kind after it
   heading : (itemsIn (tokenAt s 0) ≡ 0 → ⊥) → Heading s 0 (tokenAt s 0)
-  heading filled = token-heading s 0 (tokenAt s 0) (one-bytes one) zero-le refl (omega (arith, is-array (tokenAt s 0) filled))
+  heading filled = token-heading s 0 (tokenAt s 0) (one-bytes one) refl (omega (arith, is-array (tokenAt s 0) filled))
 
   kinded : (itemsIn (tokenAt s 0) ≡ 0 → ⊥) → tokenAt s (tokenAt s 0 .next) .major ≡ 0
       → Kinded s (tokenAt s (tokenAt s 0 .next) .arg) (tokenAt s 0 .arg) (tokenAt s (tokenAt s 0 .next) .next)
   kinded filled number =
       let h = heading filled in
-      let i = uint-at (one-bytes one) (token-end s 0) number in
+      let i = uint-at (one-bytes one) number in
       record {
         bytes = one-bytes one;
         from = tokenAt s 0 .next;

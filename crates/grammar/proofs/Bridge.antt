@@ -101,18 +101,18 @@ advances {x = x} a = omega (arith, a .end, some x)
     some (Item.simple w n) = omega (arith, length-head 7 w n)
 
 -- ---- a part of the message from `base` on, and the message
-pub lift : {m : List ℕ} {base p e : ℕ} {x : Item} → base ≤ length m → Stands (drop base m) p e x → Stands m (base + p) (base + e) x
-lift {m} {base} {p} {e} {x} h a =
+pub lift : {m : List ℕ} (base : ℕ) {p e : ℕ} {x : Item} → Stands (drop base m) p e x → Stands m (base + p) (base + e) x
+lift {m} base {p} {e} {x} a =
     record {
       good = a .good;
       is = sym (drop-drop p base m) ∙ a .is ∙ ap (λ (r : List ℕ). encode x ++ r) (drop-drop e base m);
       end = omega (arith, a .end);
-      within = omega (arith, a .within, length-drop base m);
+      within = omega (arith, a .within, advances a, length-drop base m);
     }
 
 -- the item that the part begins with
-pub lift-first : {m : List ℕ} {base e : ℕ} {x : Item} → base ≤ length m → Stands (drop base m) 0 e x → Stands m base (base + e) x
-lift-first {m} {base} {e} {x} h a = subst (λ (k : ℕ). Stands m k (base + e) x) (add-zero base) (lift h a)
+pub lift-first : {m : List ℕ} {base e : ℕ} {x : Item} → Stands (drop base m) 0 e x → Stands m base (base + e) x
+lift-first {m} {base} {e} {x} a = subst (λ (k : ℕ). Stands m k (base + e) x) (add-zero base) (lift base a)
 
 -- and back: between two places, of a size, and what the part begins with
 pub sink : (m : List ℕ) (base p e : ℕ) {x : Item} → Stands m (base + p) (base + e) x → Stands (drop base m) p e x
@@ -238,7 +238,7 @@ not-leaf : {m : ℕ} → (m < 2) ⊎ (4 ≤ m) → 1 < m → m < 4 → ⊥
 not-leaf (inl h) lo hi = omega arith
 not-leaf (inr h) lo hi = omega arith
 
-module _ (s : List ℕ) (p : ℕ) (low : p ≤ length s) (major arg len : ℕ) (spelt : Spelt (drop p s) major arg len) (fits : len ≤ length (drop p s)) where
+module _ (s : List ℕ) (p major arg len : ℕ) (spelt : Spelt (drop p s) major arg len) (fits : len ≤ length (drop p s)) where
   size : len ≡ 1 + spelt .width
   size = sym (length-take-le len (drop p s) fits) ∙ ap length (spelt .bytes) ∙ length-head major (spelt .width) arg
 
@@ -262,7 +262,7 @@ module _ (s : List ℕ) (p : ℕ) (low : p ≤ length s) (major arg len : ℕ) (
       (λ e. pick-case by (ltb major 4)
       (λ f. pick-case by (leb arg (length (drop p s) - len))
       (λ g q h. subst (Heading s p) (sym q)
-      (heading (p + len + arg) (omega (arith, length-drop p s, leb-true arg (length (drop p s) - len) g))
+      (heading (p + len + arg) (omega (arith, size, length-drop p s, leb-true arg (length (drop p s) - len) g))
       (λ either. absurd (not-leaf either (ltb-true 1 major e) (ltb-true major 4 f))) (λ _ _. refl)))
       (λ g q h. absurd (omega (arith, h, ap (λ (v : Token). v .major) q))))
       (λ f. leaf (λ lo hi. omega (arith, ltb-false major 4 f))))
@@ -272,7 +272,7 @@ module _ (s : List ℕ) (p : ℕ) (low : p ≤ length s) (major arg len : ℕ) (
       by v = w ≡ v → w .major < 8 → Heading s p w
 
       leaf : (2 ≤ major → major < 4 → ⊥) → by (record { at = p; major = major; arg = arg; body = p + len; next = p + len })
-      leaf other q h = subst (Heading s p) (sym q) (heading (p + len) (omega (arith, length-drop p s)) (λ _. refl) (λ lo hi. absurd (other lo hi)))
+      leaf other q h = subst (Heading s p) (sym q) (heading (p + len) (omega (arith, size, length-drop p s)) (λ _. refl) (λ lo hi. absurd (other lo hi)))
 
 -- a token has the numbers of its head
 token-numbers : (p room major arg len : ℕ) (w : Token) → w ≡ tokenOf p room major arg len → w .major < 8 → (major ≡ w .major) × (arg ≡ w .arg)
@@ -291,22 +291,22 @@ headed-major s p major width arg r right is h = token-numbers p (length (drop p 
 
 -- one that was read has its head there, where that is spelt so
 spelt-heading : (s : List ℕ) (p : ℕ) (w : Token) → ((major arg len : ℕ) → headAt (drop p s) ≡ HeadRead.Head major arg len → major ≡ w .major → arg ≡ w .arg → Spelt (drop p s) major arg len)
-    → p ≤ length s → w ≡ tokenAt s p → w .major < 8 → Heading s p w
+    → w ≡ tokenAt s p → w .major < 8 → Heading s p w
 unfolding tokenAt tokenFrom nothingAt
-spelt-heading s p w spelt low = go (headAt (drop p s)) refl
+spelt-heading s p w spelt = go (headAt (drop p s)) refl
   where
     go : (x : HeadRead) → headAt (drop p s) ≡ x → w ≡ tokenFrom p (length (drop p s)) x → w .major < 8 → Heading s p w
     go (HeadRead.Refused number place) e q h = absurd (omega (arith, h, ap (λ (v : Token). v .major) q))
     go (HeadRead.Head major arg len) e q h =
         let fits : len ≤ length s - p = head-fits s p major arg len (headAt (drop p s)) (ap headAt (sym (rest-is p s))) e in
         let (same, same′) = token-numbers p (length (drop p s)) major arg len w q h in
-        token-of s p low major arg len (spelt major arg len e same same′) (omega (arith, length-drop p s)) w q h
+        token-of s p major arg len (spelt major arg len e same same′) (omega (arith, length-drop p s)) w q h
 
 -- so of bytes,
-pub token-heading : (s : List ℕ) (p : ℕ) (w : Token) → Bytes s → p ≤ length s → w ≡ tokenAt s p → w .major < 8 → Heading s p w
+pub token-heading : (s : List ℕ) (p : ℕ) (w : Token) → Bytes s → w ≡ tokenAt s p → w .major < 8 → Heading s p w
 token-heading s p w b = spelt-heading s p w (λ major arg len e _ _. subst (HeadIs (drop p s)) e (head-is (drop p s) (bytes-drop p s b)))
 
 -- and of any numbers where the argument is below 256
-pub small-heading : (s : List ℕ) (p : ℕ) (w : Token) → p ≤ length s → w ≡ tokenAt s p → w .major < 7 → w .arg < 2 ^ 8 → Heading s p w
-small-heading s p w low e major arg =
-    spelt-heading s p w (λ major′ arg′ len q same same′. subst (SmallIs (drop p s)) q (small-is (drop p s)) (omega arith) (omega arith)) low e (omega arith)
+pub small-heading : (s : List ℕ) (p : ℕ) (w : Token) → w ≡ tokenAt s p → w .major < 7 → w .arg < 2 ^ 8 → Heading s p w
+small-heading s p w e major arg =
+    spelt-heading s p w (λ major′ arg′ len q same same′. subst (SmallIs (drop p s)) q (small-is (drop p s)) (omega arith) (omega arith)) e (omega arith)

@@ -101,7 +101,7 @@ shape-texts m at len pn qn text place same far Address.uri = one-text text place
 abbrev pub Here : (s : List ℕ) (p e : ℕ) (P : Item → ℕ → Type 0) (for-null kind n : ℕ) → Type 0
 Here s p e P for-null kind n = Is s p e (λ x. OfKind P for-null kind x n)
 
-module _ (s : List ℕ) (p : ℕ) (w : Token) (bytes : Bytes s) (low : p ≤ length s) (read : w ≡ tokenAt s p) where
+module _ (s : List ℕ) (p : ℕ) (w : Token) (bytes : Bytes s) (read : w ≡ tokenAt s p) where
   null-here : isNull w ≡ true → Stands s p (w .next) null
   unfolding isNull
   null-here q₀ =
@@ -109,13 +109,13 @@ module _ (s : List ℕ) (p : ℕ) (w : Token) (bytes : Bytes s) (low : p ≤ len
       let (e₂, q₂) = both-hold (eqb (w .arg) 22) q₁ in
       let (e₃, q₃) = both-hold (ltb (w .at) (w .body)) q₂ in
       let major : w .major ≡ 7 = eqb-true (w .major) 7 e₁ in
-      let h = token-heading s p w bytes low read (omega arith) in
+      let h = token-heading s p w bytes read (omega arith) in
       null-at h major (eqb-true (w .arg) 22 e₂) (omega (arith, token-is s p w read .here, h .body, eqb-true (w .body - w .at) 1 q₃))
 
   number-of : (P : Item → ℕ → Type 0) (for-null kind n : ℕ) → eqb (w .major) 0 ≡ true → w .arg ≡ n → ((k : ℕ) → P (uint k n) n) → Here s p (w .next) P for-null kind n
   number-of P for-null kind n e same made =
       let major : w .major ≡ 0 = eqb-true (w .major) 0 e in
-      let i = number-at (token-heading s p w bytes low read (omega arith)) major in
+      let i = number-at (token-heading s p w bytes read (omega arith)) major in
       record { item = uint (i .width) n; stands = subst (λ (v : ℕ). Stands s p (w .next) (uint (i .width) v)) same (i .stands); is = OfKind.given (made (i .width)) }
 
   null-of : (P : Item → ℕ → Type 0) (for-null kind : ℕ) → eqb kind 106 ≡ true → isNull w ≡ true → Here s p (w .next) P for-null kind for-null
@@ -127,28 +127,28 @@ module _ (s : List ℕ) (p : ℕ) (w : Token) (bytes : Bytes s) (low : p ≤ len
   protocol-here kind =
       pick-case by (eqb (w .major) 0)
       (λ e. pick-case by (eqb (w .arg) 6) (λ f _. number-of Protocol 0 kind 6 e (eqb-true (w .arg) 6 f) (λ k. Protocol.tcp))
-      (λ _. pick-case by (eqb (w .arg) 17) (λ f _. number-of Protocol 0 kind 17 e (eqb-true (w .arg) 17 f) (λ k. Protocol.udp)) nothing))
-      (λ _. pick-case by (eqb kind 106) (λ e. pick-case by (isNull w) (λ z _. null-of Protocol 0 kind e z) nothing) nothing)
+      (λ _. pick-case by (eqb (w .arg) 17) (λ f _. number-of Protocol 0 kind 17 e (eqb-true (w .arg) 17 f) (λ k. Protocol.udp)) (λ _. nothing)))
+      (λ _. pick-case by (eqb kind 106) (λ e. pick-case by (isNull w) (λ z _. null-of Protocol 0 kind e z) (λ _. nothing)) (λ _. nothing))
     where
       by : ℕ → Type 0
       by n = (n ≡ 255 → ⊥) → Here s p (w .next) Protocol 0 kind n
 
-      nothing : {t : Bool} → t ≡ false → by 255
-      nothing _ other = absurd (other refl)
+      nothing : by 255
+      nothing other = absurd (other refl)
 
   -- a port that was read
   pub port-here : (kind : ℕ) → portOf kind w ≤ 65536 → Here s p (w .next) Port 65536 kind (portOf kind w)
   unfolding portOf
   port-here kind =
       pick-case by (eqb (w .major) 0)
-      (λ e. pick-case by (leb (w .arg) 65535) (λ f _. number-of Port 65536 kind (w .arg) e refl (λ k. Port.port (leb-true (w .arg) 65535 f))) nothing)
-      (λ _. pick-case by (eqb kind 106) (λ e. pick-case by (isNull w) (λ z _. null-of Port 65536 kind e z) nothing) nothing)
+      (λ e. pick-case by (leb (w .arg) 65535) (λ f _. number-of Port 65536 kind (w .arg) e refl (λ k. Port.port (leb-true (w .arg) 65535 f))) (λ _. nothing))
+      (λ _. pick-case by (eqb kind 106) (λ e. pick-case by (isNull w) (λ z _. null-of Port 65536 kind e z) (λ _. nothing)) (λ _. nothing))
     where
       by : ℕ → Type 0
       by n = n ≤ 65536 → Here s p (w .next) Port 65536 kind n
 
-      nothing : {t : Bool} → t ≡ false → by 65537
-      nothing _ low = absurd (omega arith)
+      nothing : by 65537
+      nothing low = absurd (omega arith)
 
 -- an address that fits its kind
 pub record AddressIs (kind : ℕ) (w : Token) : Type 0 where

@@ -5,7 +5,7 @@ use mathlib.Core.Path.{_≡_, refl, sym, ap, _∙_, subst}
 use mathlib.Core.Logic.{_↔_}
 use mathlib.Core.List.{List}
 use mathlib.Core.Bool.{true, cond}
-use Prim.Native.Nat.{ℕ, _+_, _-_, _≤_, zero-le}
+use Prim.Native.Nat.{ℕ, _+_, _-_, _≤_}
 use native.Mathlib.Omega.{arith}
 use lib.ListN.{length, take, drop}
 use lib.Seq.{drop-drop}
@@ -19,7 +19,7 @@ use Rattle.base.proofs.Parts.{bytes-drop}
 use Rattle.cbor.specs.declared.token.Token.{Token}
 use Rattle.cbor.specs.Tree.{Item, count}
 use Rattle.cbor.specs.Token.{tokenAt, itemsIn, upTo}
-use Rattle.cbor.proofs.Tokens.{token-is, token-end, is-array}
+use Rattle.cbor.proofs.Tokens.{token-is, is-array}
 use Rattle.options.specs.declared.locator.Locator.{Locator}
 use Rattle.options.specs.declared.locator.LocatorRead.{LocatorRead}
 use Rattle.options.specs.Text.{contentIn}
@@ -47,9 +47,9 @@ abbrev Sound : List ℕ → ℕ → LocatorRead → Type 0
 Sound m base (LocatorRead.Bad place) = Unit {0}
 Sound m base (LocatorRead.Got l size bad) = LocatorStands m base (base + size) l bad
 
-sound : (m : List ℕ) (base : ℕ) → base ≤ length m → Bytes m → Sound m base (locatorAt m base)
+sound : (m : List ℕ) (base : ℕ) → Bytes m → Sound m base (locatorAt m base)
 unfolding locatorIn locatorReached count
-sound m base low by =
+sound m base by =
     pick-case P (eqb (itemsIn a) 0) (λ _. tt)
     (λ t₁. pick-case P (ltb kind 103) (λ _. tt)
     (λ t₂. pick-case P (ltb 106 kind) (λ _. tt)
@@ -92,29 +92,29 @@ sound m base low by =
     got : a .major ≡ 4 → a .arg ≡ 4 → kind ≤ 106 → AddressIs kind b → (protocolOf kind p ≡ 255 → ⊥) → portOf kind q ≤ 65536
         → P (LocatorRead.Got (locatorOf kind (base + b .body) (b .next - b .body) (protocolOf kind p) (portOf kind q)) (q .next) (textOf kind (contentIn s b) (base + b .at)))
     got array four hi fits some-protocol some-port =
-        let ha = token-heading s 0 a bytes zero-le refl (omega arith) in
-        let lead = number-here 106 k bytes (token-end s 0) refl hi in
-        let hb = token-heading s (k .next) b bytes (token-end s (a .next)) refl (omega (arith, fits .major, string-major (fits .text))) in
+        let ha = token-heading s 0 a bytes refl (omega arith) in
+        let lead = number-here 106 k bytes refl hi in
+        let hb = token-heading s (k .next) b bytes refl (omega (arith, fits .major, string-major (fits .text))) in
         let (string, long) = text-at hb (fits .text) (fits .major) (content-bytes s b bytes) in
         let size = text-size hb (fits .text) (fits .major) ∙ sym long in
-        let protocol = protocol-here s (b .next) p bytes (token-end s (k .next)) refl kind some-protocol in
-        let port = port-here s (p .next) q bytes (token-end s (b .next)) refl kind some-port in
+        let protocol = protocol-here s (b .next) p bytes refl kind some-protocol in
+        let port = port-here s (p .next) q bytes refl kind some-port in
         let address = fits .is (contentIn s b) long in
         let content : take (b .next - b .body) (drop (base + b .body) m) ≡ contentIn s b = sym (ap (take (b .next - b .body)) (drop-drop (b .body) base m)) in
         let far : base + b .at ≡ 0 → ⊥ = (λ z. omega (arith, token-is s (k .next) b refl .here, advances (lead .stands))) in
         record {
           item = _;
           loc = _;
-          stands = lift-first low (array-at ha array four (join (lead .stands) (join (string .stands) (join (protocol .stands) (last (port .stands))))));
+          stands = lift-first (array-at ha array four (join (lead .stands) (join (string .stands) (join (protocol .stands) (last (port .stands))))));
           is = shape-item m (base + b .body) (b .next - b .body) size content address (protocol .is) (port .is);
           described = refl;
           texts = shape-texts m (base + b .body) (b .next - b .body) (protocolOf kind p) (portOf kind q) (contentIn s b) (base + b .at) (sym content) far address;
         }
 
 -- what is read stands there
-pub locator-sound : (m : List ℕ) (base : ℕ) (l : Locator) (size bad : ℕ) → base ≤ length m → Bytes m → locatorAt m base ≡ LocatorRead.Got l size bad
+pub locator-sound : (m : List ℕ) (base : ℕ) (l : Locator) (size bad : ℕ) → Bytes m → locatorAt m base ≡ LocatorRead.Got l size bad
     → LocatorStands m base (base + size) l bad
-locator-sound m base l size bad low by q = subst (Sound m base) q (sound m base low by)
+locator-sound m base l size bad by q = subst (Sound m base) q (sound m base by)
 
 -- ---- read
 -- the reader's tests, over plain tokens

@@ -6,7 +6,7 @@ use mathlib.Core.Logic.{_↔_, inr}
 use mathlib.Core.List.{List}
 use mathlib.Core.Bool.{true}
 use mathlib.Core.Option.{none, some}
-use Prim.Native.Nat.{ℕ, suc, _+_, _-_, _≤_, zero-le}
+use Prim.Native.Nat.{ℕ, suc, _+_, _-_, _≤_}
 use native.Mathlib.Nat.{add-assoc}
 use native.Mathlib.Omega.{arith}
 use lib.ListN.{length, drop}
@@ -56,9 +56,9 @@ abbrev Sound : List ℕ → ℕ → ObjectiveRead → Type 0
 Sound m base (ObjectiveRead.Bad place) = Unit {0}
 Sound m base (ObjectiveRead.Got o size bad long) = ObjectiveStands m base (base + size) o bad long
 
-sound : (levels : ℕ) (m : List ℕ) (base : ℕ) → base ≤ length m → Bytes m → Sound m base (objectiveAt levels m base)
+sound : (levels : ℕ) (m : List ℕ) (base : ℕ) → Bytes m → Sound m base (objectiveAt levels m base)
 unfolding objectiveIn objectiveNamed objectiveFrom count
-sound levels m base low by =
+sound levels m base by =
     pick-case P (eqb (itemsIn a) 0) (λ _. tt)
     (λ t₁. pick-case P (eqb (n .major) 3)
     (λ t₂. pick-case P (ltb (a .arg) 3) (λ _. tt)
@@ -75,7 +75,7 @@ sound levels m base low by =
     (λ t₈.
     let (value, there) = sized-item levels s (c .next) bytes (eqb-false len 0 t₈) in
     made len (c .next + len) (some value) (Items.more value Items.done) refl (omega (arith, ltb-false (a .arg) 3 t₃, ltb-false 4 (a .arg) t₄, eqb-false (a .arg) 3 t₇)) refl (last there)
-    (ValueIs.present (subst (λ (e : ℕ). Stands m (base + c .next) e value) (sym (add-assoc base (c .next) len)) (lift low there)))
+    (ValueIs.present (subst (λ (e : ℕ). Stands m (base + c .next) e value) (sym (add-assoc base (c .next) len)) (lift base there)))
     (λ w u v k. ObjectiveItem.valued few byte))))))))
     (λ _. tt))
   where
@@ -111,12 +111,12 @@ sound levels m base low by =
         (record { name = contentIn s n; flags = upTo 15 f; count = upTo 255 c; value = v }))
         → P (answer base s n f c len size)
     got array is-text few byte len size v xs sum many counted rest value is =
-        let ha = token-heading s 0 a bytes zero-le refl (omega arith) in
-        let hn = token-heading s (a .next) n bytes (token-end s 0) refl (omega arith) in
+        let ha = token-heading s 0 a bytes refl (omega arith) in
+        let hn = token-heading s (a .next) n bytes refl (omega arith) in
         let (name, long) = text-at hn true is-text (content-bytes s n bytes) in
         let name-size : n .next - n .body ≡ length (contentIn s n) = text-size hn true is-text ∙ sym long in
-        let flags = number-here 15 f bytes (token-end s (a .next)) refl few in
-        let number = number-here 255 c bytes (token-end s (n .next)) refl byte in
+        let flags = number-here 15 f bytes refl few in
+        let number = number-here 255 c bytes refl byte in
         let opened : a .next ≡ 1 + ha .width = ha .leaf (inr (omega arith)) ∙ ha .body ∙ omega arith in
         let at-n : n .at ≡ a .next = token-is s (a .next) n refl .here in
         let at-c : f .next ≡ c .at = sym (token-is s (f .next) c refl .here) in
@@ -124,7 +124,7 @@ sound levels m base low by =
         record {
           item = _;
           obj = _;
-          stands = lift-first low (array-at ha array many (join (name .stands) (join (flags .stands) (join (number .stands) rest))));
+          stands = lift-first (array-at ha array many (join (name .stands) (join (flags .stands) (join (number .stands) rest))));
           is = is (ha .width) (name .width) (flags .width) (number .width);
           described =
               record {
@@ -134,11 +134,11 @@ sound levels m base low by =
                 name-at = base + a .next;
                 flags-at = base + n .next;
                 opened = subst (ArrayHead m base (base + a .next)) (many ∙ counted) (lift-head (array-head ha array));
-                name-item = lift low (name .stands);
+                name-item = lift base (name .stands);
                 name = ap₂ spanOf (omega (arith, token-is s (a .next) n refl .start)) name-size;
-                flags-item = subst (λ (k : ℕ). Stands m (base + n .next) (base + k) (uint (flags .width) (upTo 15 f))) at-c (lift low (flags .stands));
+                flags-item = subst (λ (k : ℕ). Stands m (base + n .next) (base + k) (uint (flags .width) (upTo 15 f))) at-c (lift base (flags .stands));
                 flags = refl;
-                count-item = subst (λ (k : ℕ). Stands m (base + k) (base + c .next) (uint (number .width) (upTo 255 c))) at-c (lift low (number .stands));
+                count-item = subst (λ (k : ℕ). Stands m (base + k) (base + c .next) (uint (number .width) (upTo 255 c))) at-c (lift base (number .stands));
                 count = refl;
                 value = value;
                 ends = omega arith;
@@ -148,9 +148,9 @@ sound levels m base low by =
         }
 
 -- what is read stands there
-pub objective-sound : (levels : ℕ) (m : List ℕ) (base : ℕ) (o : Objective) (size bad long : ℕ) → base ≤ length m → Bytes m
+pub objective-sound : (levels : ℕ) (m : List ℕ) (base : ℕ) (o : Objective) (size bad long : ℕ) → Bytes m
     → objectiveAt levels m base ≡ ObjectiveRead.Got o size bad long → ObjectiveStands m base (base + size) o bad long
-objective-sound levels m base o size bad long low by q = subst (Sound m base) q (sound levels m base low by)
+objective-sound levels m base o size bad long by q = subst (Sound m base) q (sound levels m base by)
 
 -- ---- read
 -- the reader's tests but for the value, over plain tokens
@@ -183,7 +183,6 @@ begun : (levels : ℕ) {m : List ℕ} {base e w u i j flags number : ℕ} {name 
 unfolding count objectiveFrom
 begun levels {m} {base} {e} {u = u} {i} {j} {flags} {number} {name} {rest} st few byte short =
     let s : List ℕ = drop base m in
-    let low : base ≤ length m = omega (arith, st .within, advances st) in
     let top = array-token (sink-first st) in
     let c₁ = split (top .items) in
     let c₂ = split (c₁ .rest) in
@@ -211,11 +210,11 @@ begun levels {m} {base} {e} {u = u} {i} {j} {flags} {number} {name} {rest} st fe
             name-at = base + top .body;
             flags-at = base + c₁ .mid;
             opened = subst (ArrayHead m base (base + top .body)) counted (lift-head (top .head));
-            name-item = lift low (c₁ .first);
+            name-item = lift base (c₁ .first);
             name = ap₂ spanOf (omega (arith, string .end)) size;
-            flags-item = lift low (c₂ .first);
+            flags-item = lift base (c₂ .first);
             flags = number-is 15 f refl few;
-            count-item = lift low (c₃ .first);
+            count-item = lift base (c₃ .first);
             count = number-is 255 c refl byte;
             value = value;
             ends = ends;
@@ -253,14 +252,13 @@ objective-read levels {m} {base} {e} st d (ObjectiveItem.valued {x = x} few byte
     let b = begun levels st few byte (omega arith) in
     let value = only (b .left) in
     let (size, has-value) = item-sized levels value (omega arith) in
-    let low : base ≤ length m = omega (arith, st .within, advances st) in
     let sum : base + (e - base) ≡ base + b .c .next + sizeAt levels (drop base m) (b .c .next) = omega (arith, advances value) in (
       _,
       _,
       _,
       b .read ∙ ends-valued levels base (drop base m) (b .n) (b .f) (b .c) has-value (omega (arith, advances value)),
       b .described (sizeAt levels (drop base m) (b .c .next)) (some x) refl
-          (ValueIs.present (subst (λ (k : ℕ). Stands m (base + b .c .next) k x) sum (lift low value))) (omega (arith, sum, advances st)),
+          (ValueIs.present (subst (λ (k : ℕ). Stands m (base + b .c .next) k x) sum (lift base value))) (omega (arith, sum, advances st)),
       b .texts,
       b .names,
     )

@@ -6,9 +6,9 @@ use mathlib.Core.Logic.{_↔_}
 use mathlib.Core.List.{List, [], _∷_}
 use mathlib.Core.Bool.{Bool, true, false}
 use mathlib.Core.Option.{Option, none, some}
-use Prim.Native.Nat.{ℕ, suc, _+_, _-_, _≤_, zero-le}
+use Prim.Native.Nat.{ℕ, suc, _+_, _-_, _≤_}
 use native.Mathlib.Omega.{arith}
-use lib.ListN.{length, drop, length-drop}
+use lib.ListN.{drop}
 use lib.Seq.{drop-drop}
 use lib.Dec.{eqb}
 use borrow.Author.Tests.{eqb-true, eqb-false, eq-eqb, ne-eqb}
@@ -45,8 +45,8 @@ use Rattle.grammar.proofs.Locators.{locator-sound, locator-read}
 use Rattle.grammar.proofs.Objectives.{ObjectiveStands, objective-sound, objective-read}
 
 -- how many levels a pair may have, in a message
-abbrev pub pairLevels : ℕ
-pairLevels = leftUnder 1
+abbrev pub pairDepth : ℕ
+pairDepth = leftUnder 1
 
 -- the pair of o and t, read from p to e of the message m with a bad text at `bad` or a name too long at `long`: the item that stands there, and the pair
 -- that it is
@@ -69,27 +69,24 @@ abbrev Sound : List ℕ → ℕ → PairRead → Type 0
 Sound m base (PairRead.Bad place) = Unit {0}
 Sound m base (PairRead.Got o t size bad long) = PairStands m base (base + size) o t bad long
 
-module _ (m : List ℕ) (base : ℕ) (low : base ≤ length m) (by : Bytes m) (a : Token) (ha : Heading (drop base m) 0 a) (major : a .major ≡ 4) where
+-- the objective is read: now its tag
+module _ (m : List ℕ) (base : ℕ) (a : Token) (n : ℕ) where
   abbrev s : List ℕ
   s = drop base m
 
-  abbrev P : PairRead → Type 0
-  P = Sound m base
+  abbrev at : ℕ
+  at = a .next + n
 
-  -- the objective is read: now its tag
-  module _ (two : a .arg ≡ 2) (n : ℕ) (o : Objective) (bad long : ℕ) (i : ObjectiveStands m (base + a .next) (base + a .next + n) o bad long) where
-    abbrev at : ℕ
-    at = a .next + n
-
+  module _ (ha : Heading s 0 a) (major : a .major ≡ 4) (two : a .arg ≡ 2) {o : Objective} {bad long : ℕ} (i : ObjectiveStands m (base + a .next) (base + a .next + n) o bad long) where
     made : (size : ℕ) (y : Item) (t : Tag) (l : Option Loc) (bad′ : ℕ) → Stands s at size y → ((w : ℕ) → PairItem (array w (i .item ∷ y ∷ [])) (i .obj, l)) → tagLoc m t ≡ l
-        → bad′ ≡ 0 ↔ (bad ≡ 0) × Every Utf8 (tagTexts l) → P (PairRead.Got o t size bad′ long)
+        → bad′ ≡ 0 ↔ (bad ≡ 0) × Every Utf8 (tagTexts l) → PairStands m base (base + size) o t bad′ long
     unfolding count pairTexts
     made size y t l bad′ second is tag texts =
         let (there, back) = i .texts in
         record {
           item = _;
           pair = (i .obj, l);
-          stands = lift-first low (array-at ha major two (join (sink-sized m base (a .next) n (i .stands)) (last second)));
+          stands = lift-first (array-at ha major two (join (sink-sized m base (a .next) n (i .stands)) (last second)));
           is = is (ha .width);
           at = base + a .next;
           mid = base + a .next + n;
@@ -100,42 +97,42 @@ module _ (m : List ℕ) (base : ℕ) (low : base ≤ length m) (by : Bytes m) (a
           names = i .names;
         }
 
-    tagged : (r : LocatorRead) → locatorAt m (base + at) ≡ r → P (pairTagged at o bad long r)
+    tagged : Bytes m → (r : LocatorRead) → locatorAt m (base + at) ≡ r → Sound m base (pairTagged at o bad long r)
     unfolding pairTagged tagLoc tagTexts
-    tagged (LocatorRead.Bad place) q = tt
-    tagged (LocatorRead.Got l size bad′) q =
-        let j = locator-sound m (base + at) l size bad′ (omega (arith, i .stands .within)) by q in
+    tagged by (LocatorRead.Bad place) q = tt
+    tagged by (LocatorRead.Got l size bad′) q =
+        let j = locator-sound m (base + at) l size bad′ by q in
         let (there, back) = first-zero bad bad′ in
         made (at + size) (j .item) (Tag.At l) (some (j .loc)) (firstOf bad bad′) (sink-sized m base at size (j .stands)) (λ w. PairItem.tagged (i .is) (j .is))
         (ap some (j .described))
         (λ z. let (x, y) = there z in (x, j .texts .0 y), λ h. back (h .0, j .texts .1 (h .1)))
 
-    tailed : P (pairTail base s at o bad long)
+    tailed : Bytes m → Sound m base (pairTail base s at o bad long)
     unfolding pairTail tagLoc tagTexts count
-    tailed =
-        pick-case P (isEmpty w)
+    tailed by =
+        pick-case (Sound m base) (isEmpty w)
         (λ e. let (four, zero) = empty-is w e in
-        let h = token-heading s at w (bytes-drop base m by) (sink-sized m base (a .next) n (i .stands) .within) refl (omega arith) in
+        let h = token-heading s at w (bytes-drop base m by) refl (omega arith) in
         made (w .next) _ Tag.Empty none bad (array-at h four zero (no-more (h .within))) (λ k. PairItem.untagged (i .is)) refl (λ z. (z, tt), λ z. z .0))
-        (λ _. tagged (locatorIn (base + at) (drop at s)) (ap (locatorIn (base + at)) (sym (drop-drop at base m))))
+        (λ _. tagged by (locatorIn (base + at) (drop at s)) (ap (locatorIn (base + at)) (sym (drop-drop at base m))))
       where
         w : Token
         w = tokenAt s at
 
-  led : (r : ObjectiveRead) → objectiveAt 3 m (base + a .next) ≡ r → P (pairLed base s (a .arg) (a .next) r)
-  unfolding pairLed
-  led (ObjectiveRead.Bad place) q = tt
-  led (ObjectiveRead.Got o n bad long) q =
-      pick-case P (eqb (a .arg) 2)
-      (λ e. tailed (eqb-true (a .arg) 2 e) n o bad long (objective-sound 3 m (base + a .next) o n bad long (omega (arith, ha .within, length-drop base m)) by q))
-      (λ _. tt)
+led : (m : List ℕ) (base : ℕ) (a : Token) → Heading (drop base m) 0 a → a .major ≡ 4 → Bytes m → (r : ObjectiveRead) → objectiveAt 3 m (base + a .next) ≡ r
+    → Sound m base (pairLed base (drop base m) (a .arg) (a .next) r)
+unfolding pairLed
+led m base a ha major by (ObjectiveRead.Bad place) q = tt
+led m base a ha major by (ObjectiveRead.Got o n bad long) q =
+    pick-case (Sound m base) (eqb (a .arg) 2)
+    (λ e. tailed m base a n ha major (eqb-true (a .arg) 2 e) (objective-sound 3 m (base + a .next) o n bad long by q) by) (λ _. tt)
 
-sound : (m : List ℕ) (base : ℕ) → base ≤ length m → Bytes m → Sound m base (pairAt m base)
+sound : (m : List ℕ) (base : ℕ) → Bytes m → Sound m base (pairAt m base)
 unfolding pairIn
-sound m base low by =
+sound m base by =
     pick-case (Sound m base) (eqb (itemsIn a) 0) (λ _. tt)
     (λ e. let major : a .major ≡ 4 = is-array a (eqb-false (itemsIn a) 0 e) in
-    led m base low by a (token-heading s₀ 0 a (bytes-drop base m by) zero-le refl (omega arith)) major (objectiveIn 3 (base + a .next) (drop (a .next) s₀))
+    led m base a (token-heading s₀ 0 a (bytes-drop base m by) refl (omega arith)) major by (objectiveIn 3 (base + a .next) (drop (a .next) s₀))
     (ap (objectiveIn 3 (base + a .next)) (sym (drop-drop (a .next) base m))))
   where
     s₀ : List ℕ
@@ -145,9 +142,9 @@ sound m base low by =
     a = tokenAt s₀ 0
 
 -- what is read stands there
-pub pair-sound : (m : List ℕ) (base : ℕ) (o : Objective) (t : Tag) (size bad long : ℕ) → base ≤ length m → Bytes m
-    → pairAt m base ≡ PairRead.Got o t size bad long → PairStands m base (base + size) o t bad long
-pair-sound m base o t size bad long low by q = subst (Sound m base) q (sound m base low by)
+pub pair-sound : (m : List ℕ) (base : ℕ) (o : Objective) (t : Tag) (size bad long : ℕ) → Bytes m → pairAt m base ≡ PairRead.Got o t size bad long
+    → PairStands m base (base + size) o t bad long
+pair-sound m base o t size bad long by q = subst (Sound m base) q (sound m base by)
 
 -- ---- read
 -- the reader's tests, over plain tokens
@@ -194,10 +191,9 @@ begun : {m : List ℕ} {base e w : ℕ} {x y : Item} {obj : Obj Value} → Stand
 unfolding count
 begun {m} {base} {e} st d is =
     let s : List ℕ = drop base m in
-    let low : base ≤ length m = omega (arith, st .within, advances st) in
     let top = array-token (sink-first st) in
     let c = split (top .items) in
-    let (o, bad, long, got, described, texts, names) = objective-read 3 (lift low (c .first)) d is in
+    let (o, bad, long, got, described, texts, names) = objective-read 3 (lift base (c .first)) d is in
     let size : ℕ = base + c .mid - (base + top .body) in
     let sum : top .body + size ≡ c .mid = omega (arith, advances (c .first)) in
     record {
@@ -231,10 +227,10 @@ untagged-read {m} {base} b =
     let read = b .read _ (empty-tail base (drop base m) (b .mid) (b .objective) (b .bad) (b .long) _ (sym (empty .token)) refl refl (none-end (empty .items))) in
     (b .objective, Tag.Empty, b .bad, b .long, read, b .at, base + b .mid, b .opened, b .described, refl, (λ z. (there z, tt), λ h. back (h .0)), b .names)
 
-tagged-read : {m : List ℕ} {base e : ℕ} {y : Item} {obj : Obj Value} {loc : Loc} → base ≤ length m → Begun m base e obj y → LocatorItem y loc → Read m base e (obj, some loc)
+tagged-read : {m : List ℕ} {base e : ℕ} {y : Item} {obj : Obj Value} {loc : Loc} → Begun m base e obj y → LocatorItem y loc → Read m base e (obj, some loc)
 unfolding tagLoc tagTexts pairTexts
-tagged-read {m} {base} {e} low b is =
-    let (l, bad′, got, located, texts) = locator-read (lift low (b .second)) is in
+tagged-read {m} {base} {e} b is =
+    let (l, bad′, got, located, texts) = locator-read (lift base (b .second)) is in
     let n : ℕ = base + (e - base) - (base + b .mid) in
     let sum : e - base ≡ b .mid + n = omega (arith, advances (b .second)) in
     let tail = tagged-tail base (drop base m) (b .mid) (b .objective) (b .bad) (b .long) l n bad′ (locator-items (b .second) (shape-of is))
@@ -256,10 +252,10 @@ tagged-read {m} {base} {e} low b is =
 
 -- for readers
 -- an item that is a pair is read, and as the pair that it is
-pub pair-read : {m : List ℕ} {base e : ℕ} {x : Item} {pair : Pair Value} → Stands m base e x → depth x ≤ pairLevels → PairItem x pair
+pub pair-read : {m : List ℕ} {base e : ℕ} {x : Item} {pair : Pair Value} → Stands m base e x → depth x ≤ pairDepth → PairItem x pair
     → (o : Objective) × (t : Tag) × (bad : ℕ) × (long : ℕ) × (pairAt m base ≡ PairRead.Got o t (e - base) bad long)
     × (at : ℕ) × (mid : ℕ) × ArrayHead m base at 2 × ObjectiveIs m at mid o (pair .0) × (tagLoc m t ≡ pair .1)
     × (bad ≡ 0 ↔ Every Utf8 (pairTexts pair)) × (long ≡ 0 ↔ Short (pair .0 .name))
 unfolding depth
 pair-read st d (PairItem.untagged is) = untagged-read (begun st (omega arith) is)
-pair-read st d (PairItem.tagged is loc) = tagged-read (omega (arith, st .within, advances st)) (begun st (omega arith) is) loc
+pair-read st d (PairItem.tagged is loc) = tagged-read (begun st (omega arith) is) loc

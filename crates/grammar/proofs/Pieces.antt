@@ -119,11 +119,11 @@ module _ {s : List ℕ} {p : ℕ} {w : Token} (h : Heading s p w) where
       }
 
 -- a number within its limit
-pub number-here : (limit : ℕ) {s : List ℕ} {p : ℕ} (w : Token) → Bytes s → p ≤ length s → w ≡ tokenAt s p → upTo limit w ≤ limit
+pub number-here : (limit : ℕ) {s : List ℕ} {p : ℕ} (w : Token) → Bytes s → w ≡ tokenAt s p → upTo limit w ≤ limit
     → Some s p (w .next) (λ k. Item.number false k (upTo limit w))
-number-here limit {s} {p} w b low e h =
+number-here limit {s} {p} w b e h =
     let (number, same) = is-number limit w h in
-    subst (λ (v : ℕ). Some s p (w .next) (λ k. Item.number false k v)) (sym same) (number-at (token-heading s p w b low e (omega arith)) number)
+    subst (λ (v : ℕ). Some s p (w .next) (λ k. Item.number false k v)) (sym same) (number-at (token-heading s p w b e (omega arith)) number)
 
 -- the head of an array
 pub array-head : {s : List ℕ} {p : ℕ} {a : Token} → Heading s p a → a .major ≡ 4 → ArrayHead s p (a .next) (a .arg)

@@ -3,7 +3,7 @@
 use mathlib.Core.Path.{_≡_, refl, sym, ap, _∙_, subst}
 use mathlib.Core.List.{List, _++_, append-nil, List·Memᴰ}
 use mathlib.Core.Bool.{true, false, not, _||_}
-use Prim.Native.Nat.{ℕ, _≤_, zero-le}
+use Prim.Native.Nat.{ℕ, _≤_}
 use native.Mathlib.Omega.{arith}
 use lib.ListN.{length, drop}
 use lib.Dec.{ltb, eqb}
@@ -99,7 +99,7 @@ array-own {s} most all good =
     let front = or-left (not kind || over) (not named) good in
     let four : a .major ≡ 4 = eqb-true (a .major) 4 (not-false kind (or-left (not kind) over front)) in
     let few : a .arg ≤ mostNames = ltb-false mostNames (a .arg) (or-right (not kind) over front) in
-    let h = small-heading s 0 a zero-le refl (omega arith) (omega arith) in
+    let h = small-heading s 0 a refl (omega arith) (omega arith) in
     let n = names-sound (a .arg) (a .next) (h .within) (not-false named (or-right (not kind || over) (not named) good)) in
     let stand = array-at h four (n .many) (n .stand) in
     let shallow : depth (Item.array (h .width) (n .items)) ≤ mostLevels = omega (arith, texts-flat (n .are)) in

@@ -57,16 +57,16 @@ pub record NamesHere (s : List ℕ) (p n : ℕ) : Type 0 where
   pub short : Every Short names
 
 -- a good name, and then others
-name-sound : {s : List ℕ} {p n : ℕ} (t : Token) → p ≤ length s → t ≡ tokenAt s p → goodName s t ≡ true → (t .next ≤ length s → NamesHere s (t .next) n) → NamesHere s p (suc n)
+name-sound : {s : List ℕ} {p n : ℕ} (t : Token) → t ≡ tokenAt s p → goodName s t ≡ true → (t .next ≤ length s → NamesHere s (t .next) n) → NamesHere s p (suc n)
 unfolding goodName count
-name-sound {s} {p} {n} t low is good others =
+name-sound {s} {p} {n} t is good others =
     let kind = eqb (t .major) 3 in
     let fits = leb (t .arg) mostName in
     let utf8 = isUtf8 (contentIn s t) in
     let front = and-left (kind && fits) utf8 good in
     let text : t .major ≡ 3 = eqb-true (t .major) 3 (and-left kind fits front) in
     let few : t .arg ≤ mostName = leb-true (t .arg) mostName (and-right kind fits front) in
-    let h = small-heading s p t low is (omega arith) (omega arith) in
+    let h = small-heading s p t is (omega arith) (omega arith) in
     let (item, long) = text-at h true text (bytes-utf8 (contentIn s t) (and-right (kind && fits) utf8 good)) in
     let rest = others (h .within) in
     record {
@@ -85,7 +85,7 @@ unfolding goodNames count
 names-sound zero p low good = record { end = p; items = Items.done; names = []; stand = none low; are = TextItems.empty; many = refl; utf8 = tt; short = tt }
 names-sound {s} (suc n) p low good =
     let t = tokenAt s p in
-    name-sound t low refl (and-left (goodName s t) (goodNames s n (t .next)) good)
+    name-sound t refl (and-left (goodName s t) (goodNames s n (t .next)) good)
     (λ within. names-sound n (t .next) within (and-right (goodName s t) (goodNames s n (t .next)) good))
 
 -- ---- what stands there is read

@@ -13,7 +13,7 @@ use Rattle.cbor.specs.Tree.{Item, Items, encode, depth, depths, Good}
 use Rattle.syntax.specs.Message.{Loc, Obj, Pair, Aim, Ending, Msg, valuedObj, valuedPair, valued}
 use Rattle.grammar.specs.Cddl.{LocatorItems, Value, PairItems, MessageItem}
 use Rattle.grammar.specs.Stands.{StandAll}
-use Rattle.grammar.proofs.Pairs.{pairLevels}
+use Rattle.grammar.proofs.Pairs.{pairDepth}
 use Rattle.message.specs.declared.Series.{Series}
 use Rattle.message.specs.declared.Targets.{Targets}
 use Rattle.message.specs.declared.Extra.{Extra}
@@ -72,7 +72,7 @@ module _ (s : List ℕ) where
       subst (λ (l : List ℕ). Placed l ls) (sym (lent chain (series .many) list (ltb (length list / placeRow) (series .many)) many room)) (placed-rows chain)
 
   -- of a series of pairs
-  pairs-lent : {e : ℕ} {series : Series} {xs : Items} {ps : List (Pair Value)} (list : List ℕ) → depths xs ≤ pairLevels → StandAll s (series .at) e xs → PairItems xs ps
+  pairs-lent : {e : ℕ} {series : Series} {xs : Items} {ps : List (Pair Value)} (list : List ℕ) → depths xs ≤ pairDepth → StandAll s (series .at) e xs → PairItems xs ps
       → series .many ≡ length ps → R.seriesEnd pairRow series list ≤ length list → Paired (take (R.seriesEnd pairRow series list) (R.seriesFilled pairRow (R.pairNext s) (R.pairStored s) series list)) (map (valuedPair valueBytes) ps)
   unfolding R.seriesEnd R.seriesFilled
   pairs-lent {series = series} {ps = ps} list d a i many room =
