@@ -5,8 +5,9 @@ use mathlib.Core.List.{List, _∷_}
 use mathlib.Core.Logic.{_≢_}
 use mathlib.Core.Bool.{Bool, true, false}
 use Prim.Native.Nat.{ℕ, suc, _+_, _-_, _*_, _/_, _%_, _≤_, _<_, zero-le}
+use native.Mathlib.Decide.{decLt}
 use native.Mathlib.Omega.{arith}
-use lib.ListN.{length, drop, getD, length-drop}
+use lib.ListN.{length, drop, getD, length-drop, List·getD-eq-default}
 use lib.Seq.{drop-cons, getD-drop}
 use lib.Dec.{ltb, eqb}
 use borrow.Author.Tests.{lt-ltb, le-ltb, le-leb, lt-leb, ne-eqb}
@@ -33,6 +34,14 @@ short first s low =
     rw (ne-eqb (first % 32) 31 (λ e. omega arith), lt-leb 28 (first % 32) (omega arith), lt-ltb (first % 32) 24 low, le-ltb (length s) 0 zero-le)
     (judged-short (first / 32) (first % 32))
 
+-- a number other than 0 stands in the list
+there : (s : List ℕ) (at : ℕ) → 1 ≤ getD s at 0 → at < length s
+there s at some = go (decLt at (length s))
+  where
+    go : Dec (at < length s) → at < length s
+    go (yes h) = h
+    go (no h) = absurd (omega (arith, List·getD-eq-default s 0 {n = at} (omega arith)))
+
 one-spells : (s : List ℕ) → bigEndian s 1 ≡ getD s 0 0
 unfolding bigEndian
 one-spells s = omega arith
@@ -41,9 +50,9 @@ two-spell : (s : List ℕ) → bigEndian s 2 ≡ getD s 0 0 * 256 + getD s 1 0
 unfolding bigEndian
 two-spell s = omega arith
 
-in-byte : (s : List ℕ) → 1 ≤ length s → 24 ≤ getD s 0 0 → headOf 24 s ≡ HeadRead.Head 0 (getD s 0 0) 2
+in-byte : (s : List ℕ) → 24 ≤ getD s 0 0 → headOf 24 s ≡ HeadRead.Head 0 (getD s 0 0) 2
 unfolding headOf headBy initialOf headFrom argOf judged widthOf leastOf pick
-in-byte s long least = rw (le-ltb (length s) 1 long, one-spells s, le-ltb (getD s 0 0) 24 least)
+in-byte s least = rw (le-ltb (length s) 1 (there s 0 (omega arith)), one-spells s, le-ltb (getD s 0 0) 24 least)
 
 in-two : (s : List ℕ) → 2 ≤ length s → 1 ≤ getD s 0 0 → headOf 25 s ≡ HeadRead.Head 0 (getD s 0 0 * 256 + getD s 1 0) 3
 unfolding headOf headBy initialOf headFrom argOf judged widthOf leastOf pick
@@ -80,11 +89,11 @@ module _ (s : List ℕ) (at : ℕ) where
   pub one-byte : at < length s → getD s at 0 % 32 < 24 → headAt (drop at s) ≡ HeadRead.Head (getD s at 0 / 32) (getD s at 0 % 32) 1
   one-byte h low = in-place h ∙ short (getD s at 0) (drop (suc at) s) low
 
-  pub null-head : at < length s → getD s at 0 ≡ 0xF6 → headAt (drop at s) ≡ HeadRead.Head 7 22 1
-  null-head h is =
+  pub null-head : getD s at 0 ≡ 0xF6 → headAt (drop at s) ≡ HeadRead.Head 7 22 1
+  null-head is =
       let major : getD s at 0 / 32 ≡ 7 = omega arith in
       let arg : getD s at 0 % 32 ≡ 22 = omega arith in
-      rw (major, arg) at (one-byte h (omega arith))
+      rw (major, arg) at (one-byte (there s at (omega arith)) (omega arith))
 
   pub small-head : at < length s → getD s at 0 < 24 → headAt (drop at s) ≡ HeadRead.Head 0 (getD s at 0) 1
   small-head h low =
@@ -92,17 +101,14 @@ module _ (s : List ℕ) (at : ℕ) where
       let arg : getD s at 0 % 32 ≡ getD s at 0 = omega arith in
       rw (major, arg) at (one-byte h (omega arith))
 
-  pub array-head : at < length s → 128 ≤ getD s at 0 → getD s at 0 < 152 → headAt (drop at s) ≡ HeadRead.Head 4 (getD s at 0 - 128) 1
-  array-head h lo hi =
+  pub array-head : 128 ≤ getD s at 0 → getD s at 0 < 152 → headAt (drop at s) ≡ HeadRead.Head 4 (getD s at 0 - 128) 1
+  array-head lo hi =
       let major : getD s at 0 / 32 ≡ 4 = omega arith in
       let arg : getD s at 0 % 32 ≡ getD s at 0 - 128 = omega arith in
-      rw (major, arg) at (one-byte h (omega arith))
+      rw (major, arg) at (one-byte (there s at (omega arith)) (omega arith))
 
-  pub two-bytes : at + 1 < length s → getD s at 0 ≡ 24 → 24 ≤ getD s (at + 1) 0 → headAt (drop at s) ≡ HeadRead.Head 0 (getD s (at + 1) 0) 2
-  two-bytes h is least =
-      let d = length-drop (suc at) s in
-      in-place (omega arith)
-      ∙ rw (is, ← after 0) (in-byte (drop (suc at) s) (omega arith) (rw (after 0) least))
+  pub two-bytes : getD s at 0 ≡ 24 → 24 ≤ getD s (at + 1) 0 → headAt (drop at s) ≡ HeadRead.Head 0 (getD s (at + 1) 0) 2
+  two-bytes is least = in-place (there s at (omega arith)) ∙ rw (is, ← after 0) (in-byte (drop (suc at) s) (rw (after 0) least))
 
   pub three-bytes : at + 2 < length s → getD s at 0 ≡ 25 → 1 ≤ getD s (at + 1) 0
       → headAt (drop at s) ≡ HeadRead.Head 0 (getD s (at + 1) 0 * 256 + getD s (at + 2) 0) 3
@@ -120,23 +126,23 @@ module _ (s : List ℕ) (at : ℕ) where
     pub small-passed : at < length s → getD s at 0 < 24 → stepAt left (drop at s) ≡ Step.Passed 1
     small-passed h low = number _ 1 (small-head h low)
 
-    pub byte-passed : at + 1 < length s → getD s at 0 ≡ 24 → 24 ≤ getD s (at + 1) 0 → stepAt left (drop at s) ≡ Step.Passed 2
-    byte-passed h is least = number _ 2 (two-bytes h is least)
+    pub byte-passed : getD s at 0 ≡ 24 → 24 ≤ getD s (at + 1) 0 → stepAt left (drop at s) ≡ Step.Passed 2
+    byte-passed is least = number _ 2 (two-bytes is least)
 
     pub two-passed : at + 2 < length s → getD s at 0 ≡ 25 → 1 ≤ getD s (at + 1) 0 → stepAt left (drop at s) ≡ Step.Passed 3
     two-passed h is least = number _ 3 (three-bytes h is least)
 
-    pub string-passed : at < length s → 64 ≤ getD s at 0 → getD s at 0 < 128 → getD s at 0 % 32 < 24 → getD s at 0 % 32 ≤ length s - at - 1
+    pub string-passed : 64 ≤ getD s at 0 → getD s at 0 < 128 → getD s at 0 % 32 < 24 → getD s at 0 % 32 ≤ length s - at - 1
         → stepAt left (drop at s) ≡ Step.Passed (1 + getD s at 0 % 32)
     unfolding stepAt stepFrom stepOf pick
-    string-passed h lo hi low room =
+    string-passed lo hi low room =
         let first = getD s at 0 in
         rw
-        (one-byte h low, length-drop at s, ne-eqb (first / 32) 7 (λ e. omega arith), lt-leb 4 (first / 32) (omega arith), le-leb 2 (first / 32) (omega arith), le-leb (first % 32) (length s - at - 1) room)
+        (one-byte (there s at (omega arith)) low, length-drop at s, ne-eqb (first / 32) 7 (λ e. omega arith), lt-leb 4 (first / 32) (omega arith), le-leb 2 (first / 32) (omega arith), le-leb (first % 32) (length s - at - 1) room)
 
-    pub array-opened : at < length s → 128 ≤ getD s at 0 → getD s at 0 < 152 → left ≢ 0 → stepAt left (drop at s) ≡ Step.Opened 1 (getD s at 0 - 128) false
+    pub array-opened : 128 ≤ getD s at 0 → getD s at 0 < 152 → left ≢ 0 → stepAt left (drop at s) ≡ Step.Opened 1 (getD s at 0 - 128) false
     unfolding stepAt stepFrom stepOf opens pick
-    array-opened h lo hi may = rw (array-head h lo hi, ne-eqb left 0 may)
+    array-opened lo hi may = rw (array-head lo hi, ne-eqb left 0 may)
 
     -- what holds of a byte and whatever follows it holds in place
     pub by-byte : (r : Common) → at < length s → ((l : ℕ) (rest : List ℕ) → l ≢ 0 → CommonIs l (getD s at 0 ∷ rest) r) → left ≢ 0 → CommonIs left (drop at s) r

@@ -29,15 +29,19 @@ use Rattle.verdicts.proofs.Rows.{table-good}
 
 -- ---- a link bit at or above the count
 
-pub high-bit : (wide n mask : ℕ) → mask < 2 ^ wide → 2 ^ n ≤ mask → (j : ℕ) × (n ≤ j) × (hasBit mask j ≡ true)
-high-bit zero n mask h l = let some : 0 < 2 ^ n = pow-pos n in absurd (omega arith)
-high-bit (suc wide) n mask h l = go (true-or-false (hasBit mask wide)) (decLt wide n) (λ small. high-bit wide n mask small l)
+-- a mask of so many bits
+bit-within : (wide n mask : ℕ) → mask < 2 ^ wide → 2 ^ n ≤ mask → (j : ℕ) × (n ≤ j) × (hasBit mask j ≡ true)
+bit-within zero n mask h l = let some : 0 < 2 ^ n = pow-pos n in absurd (omega arith)
+bit-within (suc wide) n mask h l = go (true-or-false (hasBit mask wide)) (decLt wide n) (λ small. bit-within wide n mask small l)
   where
     go : (hasBit mask wide ≡ true) ⊎ (hasBit mask wide ≡ false) → Dec (wide < n) → (mask < 2 ^ wide → (j : ℕ) × (n ≤ j) × (hasBit mask j ≡ true))
         → (j : ℕ) × (n ≤ j) × (hasBit mask j ≡ true)
     go (inr off) d rest = rest (top-off wide mask h off)
     go (inl on) (no far) rest = (wide, omega arith, on)
     go (inl on) (yes near) rest = let wider : 2 ^ suc wide ≤ 2 ^ n = pow-mono near in absurd (omega arith)
+
+pub high-bit : (n mask : ℕ) → 2 ^ n ≤ mask → (j : ℕ) × (n ≤ j) × (hasBit mask j ≡ true)
+high-bit n mask l = bit-within mask n mask (below-power mask) l
 
 -- ---- tests
 
@@ -62,7 +66,7 @@ record-test r = (λ e. there (or-true (eqb n 0 || ltb 8 n || leb (2 ^ n) mask) (
 
     links : ((eqb n 0 || ltb 8 n) ≡ true) ⊎ (leb (2 ^ n) mask ≡ true) → BadRecord r
     links (inl e) = low (or-true (eqb n 0) (ltb 8 n) e)
-    links (inr e) = let (j, l, up) = high-bit mask n mask (below-power mask) (leb-true (2 ^ n) mask e) in high-link (j, l, up)
+    links (inr e) = let (j, l, up) = high-bit n mask (leb-true (2 ^ n) mask e) in high-link (j, l, up)
 
     there : ((eqb n 0 || ltb 8 n || leb (2 ^ n) mask) ≡ true) ⊎ (ltb (2 ^ 63) (r .tally) ≡ true) → BadRecord r
     there (inl e) = links (or-true (eqb n 0 || ltb 8 n) (leb (2 ^ n) mask) e)

@@ -17,13 +17,12 @@ use Rattle.node_state.specs.Record.{linksBad, recordBad, begun, fresh, setLinks
 use Rattle.node_state.proofs.Masks.{up-le}
 use Rattle.verdicts.specs.Bars.{HighLink, BadRecord}
 use Rattle.verdicts.specs.Settings.{FreshIs, LinksSet}
-use Rattle.verdicts.proofs.Links.{below-power}
 use Rattle.verdicts.proofs.Bars.{high-bit, either, record-test}
 
 -- the test of a mask
 mask-test : (n mask : ℕ) → leb (2 ^ n) mask ≡ true ↔ HighLink n mask
 mask-test n mask = (
-  λ e. high-bit mask n mask (below-power mask) (leb-true (2 ^ n) mask e),
+  λ e. high-bit n mask (leb-true (2 ^ n) mask e),
   λ (j, l, up). le-leb (2 ^ n) mask (le-trans (pow-mono l) (up-le mask j up)),
 )
 

@@ -29,11 +29,11 @@ string-length s n e = rw (length-append (head 2 (length s)) s, length-shortest, 
 pub string-few : (s : List ℕ) (n : ℕ) → n ≡ length (string 2 s) → n ≤ 9 + length s
 string-few s n e = omega (arith, string-length s (1 + shortest (length s)) refl, shortest-few (length s))
 
-pub lowered-length : (message : List ℕ) (at end count n : ℕ) → at ≤ end → end ≤ length message → n ≡ 1 + shortest (count - 1)
+pub lowered-length : (message : List ℕ) (at end count n : ℕ) → at ≤ length message → n ≡ 1 + shortest (count - 1)
     → at + (length message - end) + n ≡ length (lowered message at end count)
 unfolding lowered
-lowered-length message at end count n h k e =
-    rw (length-append (take at message ++ head 0 (count - 1)) (drop end message), length-append (take at message) (head 0 (count - 1)), length-take-le at message (omega arith), length-drop end message, length-shortest 0 (count - 1), e)
+lowered-length message at end count n h e =
+    rw (length-append (take at message ++ head 0 (count - 1)) (drop end message), length-append (take at message) (head 0 (count - 1)), length-take-le at message h, length-drop end message, length-shortest 0 (count - 1), e)
     (omega arith)
 
 -- the heads of an answer that are always the same

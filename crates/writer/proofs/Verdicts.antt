@@ -7,7 +7,7 @@ use mathlib.Core.Logic.{_⊎_, inl, inr, _≢_}
 use mathlib.Core.List.{List, _++_}
 use native.Mathlib.Omega.{arith}
 use lib.Dec.{ltb, leb}
-use lib.ListN.{length, take, drop}
+use lib.ListN.{length, take, drop, length-take}
 use lib.Seq.{length-take-le}
 use borrow.Author.Tests.{lt-ltb, le-ltb, lt-leb, le-leb, ltb-true, ltb-false}
 use Rattle.base.specs.Pick.{pick}
@@ -47,8 +47,8 @@ module _ (test : Bool) (bs out : List ℕ) {good : Bool} {len number : ℕ} (g :
       go false y q m = absurd (let z : _≡_ {A = ℕ} 18 0 = m in omega arith)
 
 -- no more than 2,048 bytes
-pub few : (n : ℕ) (l : List ℕ) → n ≤ length l → n ≤ mostBytes → length (take n l) ≤ mostBytes
-few n l h g = rw (length-take-le n l h) g
+pub few : (n : ℕ) (l : List ℕ) → n ≤ mostBytes → length (take n l) ≤ mostBytes
+few n l g = omega (arith, length-take n l)
 
 pub in-length : (test : Bool) (bs : List ℕ) → length bs ≤ mostBytes → test ≡ passes test bs
 unfolding passes pick

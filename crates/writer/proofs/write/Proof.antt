@@ -45,7 +45,7 @@ slice-aggregate-hand : tie.Need-slice-aggregate-hand
 slice-aggregate-hand c = sym (length-take-le _ _ (omega (arith, (c .before .before .before .before .draft2 .given))))
 
 hand-requires : tie.Need-hand-requires
-hand-requires c κs = few _ _ (omega (arith, (c .before .before .before .before .before .draft2 .given))) (c .before .before .before .before .if2 .left)
+hand-requires c κs = few _ _ (c .before .before .before .before .if2 .left)
 
 same-length : tie.Need-same-length
 same-length c = search needs

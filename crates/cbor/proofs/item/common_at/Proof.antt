@@ -45,7 +45,7 @@ add-t15 c = search needs
 
 returns-4 : tie.Need-returns-4
 unfolding CommonIs
-returns-4 c = string-passed (c .before .before .before .before .before .before .before .before .args .s .now) (c .before .before .before .before .before .before .before .before .args .at) (c .before .before .before .before .before .before .before .before .args .left) (omega arith) (c .before .before .if4 .left) (c .before .before .before .if3 .taken) (c .before .if5 .taken) (c .if6 .taken)
+returns-4 c = string-passed (c .before .before .before .before .before .before .before .before .args .s .now) (c .before .before .before .before .before .before .before .before .args .at) (c .before .before .before .before .before .before .before .before .args .left) (c .before .before .if4 .left) (c .before .before .before .if3 .taken) (c .before .if5 .taken) (c .if6 .taken)
 
 returns-5 : tie.Need-returns-5
 unfolding CommonIs
@@ -60,7 +60,7 @@ cast-t18 c = search needs
 
 returns-7 : tie.Need-returns-7
 unfolding CommonIs itemsOf pick
-returns-7 c = (_, false, array-opened (c .before .before .before .before .before .before .before .args .s .now) (c .before .before .before .before .before .before .before .args .at) (c .before .before .before .before .before .before .before .args .left) (omega arith) (c .before .before .if3 .left) (c .if8 .taken) (c .before .if7 .taken), refl)
+returns-7 c = (_, false, array-opened (c .before .before .before .before .before .before .before .args .s .now) (c .before .before .before .before .before .before .before .args .at) (c .before .before .before .before .before .before .before .args .left) (c .before .before .if3 .left) (c .if8 .taken) (c .before .if7 .taken), refl)
 
 common-other-requires : tie.Need-common-other-requires
 common-other-requires c κs = search needs

@@ -46,7 +46,7 @@ token-of-requires-2 c κs = search needs
 returns-2 : tie.Need-returns-2
 returns-2 c =
     let k = c .before .before .before .before .before .before .before .before .before in
-    token-told (k .args .s .now) (k .args .at) _ _ _ _ _ (two-bytes (k .args .s .now) (k .args .at) (omega arith) (c .before .before .before .before .if3 .taken) (c .before .if5 .taken)) refl (c .token-of2 .ensures)
+    token-told (k .args .s .now) (k .args .at) _ _ _ _ _ (two-bytes (k .args .s .now) (k .args .at) (c .before .before .before .before .if3 .taken) (c .before .if5 .taken)) refl (c .token-of2 .ensures)
 
 add-high-2 : tie.Need-add-high-2
 add-high-2 c = search needs

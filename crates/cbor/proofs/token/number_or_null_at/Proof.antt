@@ -23,7 +23,7 @@ token-of-requires c κs = search needs
 returns : tie.Need-returns
 returns c =
     let k = c .before .before .before .before .before in
-    token-told (k .args .s .now) (k .args .at) _ _ _ _ _ (null-head (k .args .s .now) (k .args .at) (c .before .before .before .if1 .taken) (c .before .if2 .taken)) refl (c .token-of .ensures)
+    token-told (k .args .s .now) (k .args .at) _ _ _ _ _ (null-head (k .args .s .now) (k .args .at) (c .before .if2 .taken)) refl (c .token-of .ensures)
 
 number-at-requires : tie.Need-number-at-requires
 number-at-requires c κs = search needs
