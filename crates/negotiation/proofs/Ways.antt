@@ -49,27 +49,28 @@ fresh-judged sender (M.Synch session objective) = refl
 fresh-judged sender (M.Flood session initiator ttl first pairs) = refl
 fresh-judged sender (M.Invalid session item) = refl
 
+-- a move of this session
+in-session : (P : Stepped → Type 0) (session named : ℕ) {x : Stepped} → P (Refused 20) → (named ≡ session → P x) → P (pick (eqb named session) x (Refused 20))
+in-session P session named refused f = pick-case P (eqb named session) (λ e. f (eqb-true named session e)) (λ _. refused)
+
+lower-judged : (turn : Side) (session count named : ℕ) (objective : Objective) → named ≡ session
+    → Judged turn (M.Negotiate named objective) (Open session count turn) (lowerStep session count turn (objective .count))
+unfolding lowerStep sessionOf objectiveOf
+lower-judged turn session count named objective same =
+    pick-case J (eqb (objective .count) 0) (λ _. refl)
+    (λ e.
+    let least = eqb-false (objective .count) 0 e in
+    pick-case J (eqb (objective .count + 1) count)
+    (λ lower.
+    Allowed.negotiate (record { ofKind = refl; ofSession = ap Session.Number same }) (record { objective = objective; has = refl; is = refl })
+    (omega arith) (eqb-true (objective .count + 1) count lower))
+    (λ _. refl))
+  where
+    J : Stepped → Type 0
+    J = Judged turn (M.Negotiate named objective) (Open session count turn)
+
 -- the side with the turn
 module _ (turn : Side) (session count : ℕ) (some : 1 ≤ count) where
-  in-session : (P : Stepped → Type 0) (named : ℕ) {x : Stepped} → P (Refused 20) → (named ≡ session → P x) → P (pick (eqb named session) x (Refused 20))
-  in-session P named refused f = pick-case P (eqb named session) (λ e. f (eqb-true named session e)) (λ _. refused)
-
-  lower-judged : (named : ℕ) (objective : Objective) → named ≡ session
-      → Judged turn (M.Negotiate named objective) (Open session count turn) (lowerStep session count turn (objective .count))
-  unfolding lowerStep sessionOf objectiveOf
-  lower-judged named objective same =
-      pick-case J (eqb (objective .count) 0) (λ _. refl)
-      (λ e.
-      let least = eqb-false (objective .count) 0 e in
-      pick-case J (eqb (objective .count + 1) count)
-      (λ lower.
-      Allowed.negotiate (record { ofKind = refl; ofSession = ap Session.Number same }) (record { objective = objective; has = refl; is = refl })
-      (omega arith) (eqb-true (objective .count + 1) count lower))
-      (λ _. refl))
-    where
-      J : Stepped → Type 0
-      J = Judged turn (M.Negotiate named objective) (Open session count turn)
-
   turn-judged : (m : Message) → Judged turn m (Open session count turn) (turnStep session count turn (moveOf m))
   unfolding moveOf turnStep sessionOf objectiveOf
   turn-judged M.Noop = refl
@@ -78,12 +79,12 @@ module _ (turn : Side) (session count : ℕ) (some : 1 ≤ count) where
   turn-judged (M.RequestNegotiation named objective) = refl
   turn-judged (M.RequestSynchronization named objective) = refl
   turn-judged (M.Negotiate named objective) =
-      in-session (Judged turn (M.Negotiate named objective) (Open session count turn)) named refl (λ same. lower-judged named objective same)
+      in-session (Judged turn (M.Negotiate named objective) (Open session count turn)) session named refl (λ same. lower-judged turn session count named objective same)
   turn-judged (M.End named outcome) =
-      in-session (Judged turn (M.End named outcome) (Open session count turn)) named refl
+      in-session (Judged turn (M.End named outcome) (Open session count turn)) session named refl
       (λ same. Allowed.end (record { ofKind = refl; ofSession = ap Session.Number same }) some)
   turn-judged (M.Wait named time) =
-      in-session (Judged turn (M.Wait named time) (Open session count turn)) named refl
+      in-session (Judged turn (M.Wait named time) (Open session count turn)) session named refl
       (λ same. Allowed.wait (record { ofKind = refl; ofSession = ap Session.Number same }) some)
   turn-judged (M.Synch named objective) = refl
   turn-judged (M.Flood named initiator ttl first pairs) = refl
