@@ -37,17 +37,16 @@ use Rattle.node_state.proofs.Rows.{of-sized, length-free, table-sized}
 
 -- ---- what was written
 
-module _ {answer : Written} {after : List ℕ} (w : Written) (after′ bytes out : List ℕ) (is : w ≡ answer) (left : after′ ≡ after)
-    (given : (answer ≡ Written.Length (length bytes)) × (after ≡ written bytes out)) where
-  pub sent-length : (n : ℕ) → w ≡ Written.Length n → (n ≡ length bytes) × (after′ ≡ written bytes out)
-  sent-length n e =
-      let same : Written.Length n ≡ Written.Length (length bytes) = sym e ∙ is ∙ given .0 in
-      (cc, left ∙ given .1)
+pub sent-length : {answer : Written} {after : List ℕ} (w : Written) (after′ bytes out : List ℕ) → w ≡ answer → after′ ≡ after
+    → (answer ≡ Written.Length (length bytes)) × (after ≡ written bytes out) → (n : ℕ) → w ≡ Written.Length n → (n ≡ length bytes) × (after′ ≡ written bytes out)
+sent-length w after′ bytes out is left given n e =
+    let same : Written.Length n ≡ Written.Length (length bytes) = sym e ∙ is ∙ given .0 in
+    (cc, left ∙ given .1)
 
-  pub sent-never : (n : ℕ) {A : Type 0} → w ≡ Written.Refused n → A
-  sent-never n e =
-      let same : Written.Refused n ≡ Written.Length (length bytes) = sym e ∙ is ∙ given .0 in
-      absurd (let z : _≡_ {A = ℕ} 0 1 = cc in omega arith)
+pub sent-never : {answer w : Written} (size n : ℕ) {A : Type 0} → w ≡ answer → answer ≡ Written.Length size → w ≡ Written.Refused n → A
+sent-never size n is given e =
+    let same : Written.Refused n ≡ Written.Length size = sym e ∙ is ∙ given in
+    absurd (let z : _≡_ {A = ℕ} 0 1 = cc in omega arith)
 
 -- ---- a Discovery or a Flood
 
@@ -64,6 +63,11 @@ names-apart r t clock i names names′ m o s NoRow = refl
 names-apart r t clock i names names′ m o s Relay = refl
 names-apart r t clock i names names′ m o s Noop = refl
 names-apart r t clock i names names′ m o s Hand = refl
+
+-- what filling gave, in a table of 256 numbers
+found-sized : (t : List ℕ) (k : Key) (clock : ℕ) {row : ℕ} {t′ : List ℕ} → length t ≡ 256 → (row ≡ whereSized t (lowestFree t) 64) × (t′ ≡ whereSized t (filled t k clock) t)
+    → (row ≡ lowestFree t) × (t′ ≡ filled t k clock)
+found-sized t k clock sized found = (found .0 ∙ of-sized t (lowestFree t) 64 sized, found .1 ∙ of-sized t (filled t k clock) t sized)
 
 module _ (r : Record) (t : List ℕ) (c : Call) (s : Spread) where
   pub own-outcome : (b : Called) → b ≡ replies (Given Own false 0 0) r → sameBytes (held (c .message) (s .initiator)) (r .address) ≡ true
@@ -99,25 +103,21 @@ module _ (r : Record) (t : List ℕ) (c : Call) (s : Spread) where
     nowhere-outcome b e none = rw (lt-leb (s .objective .count) 1 counts, eq-eqb (others r (c .interface)) 0 none, e) refl
 
     module _ (some : others r (c .interface) ≡ 0 → ⊥) where
-      module _ (sized : length t ≡ 256) (k : Key) (keyed : k ≡ keyIn (c .message) s) (row : ℕ) (t′ : List ℕ)
+      module _ (sized : length t ≡ 256) (k : Key) (row : ℕ) (t′ : List ℕ)
           (found : (row ≡ whereSized t (lowestFree t) 64) × (t′ ≡ whereSized t (filled t k (r .clock)) t)) where
-        lowest : row ≡ lowestFree t
-        lowest = found .0 ∙ of-sized t (lowestFree t) 64 sized
-
-        left : t′ ≡ filled t k (r .clock)
-        left = found .1 ∙ of-sized t (filled t k (r .clock)) t sized
-
         pub norow-outcome : (b : Called) → b ≡ replies (Given NoRow (s .flood) 0 0) r → 64 ≤ row → afterOf b t′ (c .output) ≡ carriedOut r t c s (laterVerdict r t c s)
         unfolding laterVerdict carriedOut quiet filled pick
         norow-outcome b e full =
+            let (lowest, left) = found-sized t k (r .clock) sized found in
             let none : 64 ≤ lowestFree t = rw lowest at full in
             rw (lt-leb (s .objective .count) 1 counts, ne-eqb (others r (c .interface)) 0 some, left, le-leb 64 (lowestFree t) none, le-ltb (lowestFree t) 64 none, e) refl
 
-        pub relay-outcome : (b : Called) (out : List ℕ)
+        pub relay-outcome : k ≡ keyIn (c .message) s → (b : Called) (out : List ℕ)
             → b ≡ replies (Given Relay (s .flood) (others r (c .interface)) (length (onward (c .message) (s .objective)))) (tallied r (ones (others r (c .interface))))
             → out ≡ written (onward (c .message) (s .objective)) (c .output) → row < 64 → afterOf b t′ out ≡ carriedOut r t c s (laterVerdict r t c s)
         unfolding laterVerdict carriedOut relayed filled pick
-        relay-outcome b out e g room =
+        relay-outcome keyed b out e g room =
+            let (lowest, left) = found-sized t k (r .clock) sized found in
             let free : lowestFree t < 64 = rw lowest at room in
             rw (lt-leb (s .objective .count) 1 counts, ne-eqb (others r (c .interface)) 0 some, left, keyed, lt-leb 64 (lowestFree t) free, lt-ltb (lowestFree t) 64 free, e, g) refl
 
