@@ -116,11 +116,11 @@ spent-test n = (λ e. there n (leb-true n 1 e), back)
     back (inl e) = le-leb n 1 (omega arith)
     back (inr e) = le-leb n 1 (omega arith)
 
-module _ (r : Record) (t : List ℕ) (c : Call) (p : Passed r t (c .clock) (c .interface) (length (c .output))) where
-  ours-test : (i : Span) → Decides (sameBytes (held (c .message) i) (clocked r (c .clock) .address)) (Ours r c i)
-  unfolding clocked
-  ours-test i = decides (same-bytes (held (c .message) i) (r .address))
+ours-test : (r : Record) (c : Call) (i : Span) → Decides (sameBytes (held (c .message) i) (clocked r (c .clock) .address)) (Ours r c i)
+unfolding clocked
+ours-test r c i = decides (same-bytes (held (c .message) i) (r .address))
 
+module _ (r : Record) (t : List ℕ) (c : Call) (p : Passed r t (c .clock) (c .interface) (length (c .output))) where
   known-test : (flood : Bool) (session : ℕ) (i : Span) (o : Objective)
       → Decides (isKnown (keyIn (c .message) (spreadOf flood session i o)) (freed (c .clock) t)) (Known t c (keyOf flood session (held (c .message) i)))
   unfolding keyIn
@@ -196,14 +196,14 @@ no-relay : (v : Verdict) → isRelay v ≡ false → v ≢ Relay
 unfolding isRelay
 no-relay v e q = not-both (isRelay v) (ap isRelay q) e
 
-module _ (r : Record) (t : List ℕ) (c : Call) (p : Passed r t (c .clock) (c .interface) (length (c .output))) (session : ℕ) (i : Span) (o : Objective) where
+module _ (r : Record) (t : List ℕ) (c : Call) (session : ℕ) (i : Span) (o : Objective) where
   abbrev discovery-verdict : Verdict
   discovery-verdict = verdictOn (clocked r (c .clock)) (freed (c .clock) t) c (spreadOf false session i o)
 
-  discovery-due : First (discoveryRules r t c session i o) discovery-verdict (handed false discovery-verdict)
+  discovery-due : Passed r t (c .clock) (c .interface) (length (c .output)) → First (discoveryRules r t c session i o) discovery-verdict (handed false discovery-verdict)
   unfolding verdictOn laterVerdict pick handed
-  discovery-due =
-      picked (handed false) _ _ _ (ours-test r t c p i) refl
+  discovery-due p =
+      picked (handed false) _ _ _ (ours-test r c i) refl
       (picked (handed false) _ _ _ (decides (named-test (c .names) (held (c .message) (o .name)))) refl
       (picked (handed false) _ _ _ (known-test r t c p false session i o) refl
       (picked (handed false) _ _ _ (decides (spent-test (o .count))) refl
@@ -214,10 +214,10 @@ module _ (r : Record) (t : List ℕ) (c : Call) (p : Passed r t (c .clock) (c .i
   abbrev flood-verdict : Verdict
   flood-verdict = verdictOn (clocked r (c .clock)) (freed (c .clock) t) c (spreadOf true session i o)
 
-  flood-due : First (floodRules r t c session i o) flood-verdict (handed true flood-verdict)
+  flood-due : Passed r t (c .clock) (c .interface) (length (c .output)) → First (floodRules r t c session i o) flood-verdict (handed true flood-verdict)
   unfolding verdictOn laterVerdict pick handed
-  flood-due =
-      picked (handed true) _ _ _ (ours-test r t c p i) refl
+  flood-due p =
+      picked (handed true) _ _ _ (ours-test r c i) refl
       (picked (handed true) _ _ _ (known-test r t c p true session i o) refl
       (picked (handed true) _ _ _ (decides (spent-test (o .count))) refl
       (picked (handed true) _ _ _ (alone-test r t c p) refl
@@ -301,10 +301,10 @@ module _ (r : Record) (t : List ℕ) (c : Call) where
   unfolding taken roleOf isAnswer isRelay
   read-verdicted p M.Noop = plain M.Noop Noop false refl refl refl
   read-verdicted p (M.Discovery session i o) = (
-    discovery-verdict r t c p session i o,
-    handed false (discovery-verdict r t c p session i o),
-    discovery-due r t c p session i o,
-    discovery-does session i o (discovery-verdict r t c p session i o),
+    discovery-verdict r t c session i o,
+    handed false (discovery-verdict r t c session i o),
+    discovery-due r t c session i o p,
+    discovery-does session i o (discovery-verdict r t c session i o),
   )
   read-verdicted p (M.Response session i ttl targets extra) = plain (M.Response session i ttl targets extra) Hand true refl refl refl
   read-verdicted p (M.RequestNegotiation session o) = plain (M.RequestNegotiation session o) Hand true refl refl refl
@@ -314,10 +314,10 @@ module _ (r : Record) (t : List ℕ) (c : Call) where
   read-verdicted p (M.Wait session time) = plain (M.Wait session time) Hand true refl refl refl
   read-verdicted p (M.Synch session o) = plain (M.Synch session o) Hand true refl refl refl
   read-verdicted p (M.Flood session i ttl o pairs) = (
-    flood-verdict r t c p session i o,
-    handed true (flood-verdict r t c p session i o),
-    flood-due r t c p session i o,
-    flood-does session ttl i o pairs (flood-verdict r t c p session i o) (flood-unanswered r t c p session i o),
+    flood-verdict r t c session i o,
+    handed true (flood-verdict r t c session i o),
+    flood-due r t c session i o p,
+    flood-does session ttl i o pairs (flood-verdict r t c session i o) (flood-unanswered r t c session i o),
   )
   read-verdicted p (M.Invalid session item) = plain (M.Invalid session item) Hand true refl refl refl
 
