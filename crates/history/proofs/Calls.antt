@@ -122,9 +122,9 @@ module _ (k : Key) (row then : ℕ) where
       go (no dead) = inl (omega arith)
 
   -- the call's clock isn't before the row's
-  pub there-past : (r : Record) (t : List ℕ) (clock i room : ℕ) → row < 64 → Passed r t clock i room → StillThere k row then (r .clock) t → then ≤ clock
-  there-past r t clock i room small p (inl over) = omega (arith, p .later)
-  there-past r t clock i room small p (inr h) = let e = h .clock in omega (arith, row-admitted clock t row (p .table) small)
+  pub there-past : (r : Record) (t : List ℕ) (clock i room : ℕ) → Passed r t clock i room → StillThere k row then (r .clock) t → then ≤ clock
+  there-past r t clock i room p (inl over) = omega (arith, p .later)
+  there-past r t clock i room p (inr h) = let e = h .clock in omega (arith, row-admitted clock t row (p .table))
 
   other-row : (t : List ℕ) → 0 < k .first → lowestFree t < 64 → Holds t row k then → row ≢ lowestFree t
   other-row t used room h e =

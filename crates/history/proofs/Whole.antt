@@ -174,7 +174,7 @@ future x s k (call c ∷ es) r t there =
     let rest = future x s k es (b .called .node) (b .table) (there-on x s k r t c b (view r t c) there) in
     listed r t c b (Every (Behind x)) (relaysOf (steps (b .called .node) (b .table) es)) (view r t c) rest
     (λ s′ k′. (
-      known-behind x s k (stepOf r t c b) s′ k′ (there-past key (rowOf x) (clockOf x) r t (c .clock) (c .interface) (length (c .output)) (k .facts .room) (k′ .facts .passes) there)
+      known-behind x s k (stepOf r t c b) s′ k′ (there-past key (rowOf x) (clockOf x) r t (c .clock) (c .interface) (length (c .output)) (k′ .facts .passes) there)
           (freed-there key (rowOf x) (clockOf x) r t (c .clock) (c .interface) (length (c .output)) (row-lives x s k) (k′ .facts .passes) there),
       rest,
     ))

@@ -10,7 +10,7 @@ use native.Mathlib.Numerals.{add-one}
 use native.Mathlib.Decide.{ℕ-discrete, decLt}
 use native.Mathlib.Omega.{arith}
 use lib.Dec.{ltb, leb, eqb}
-use lib.ListN.{length, getD, set, length-set}
+use lib.ListN.{length, getD, set, length-set, List·getD-eq-default}
 use lib.Seq.{getD-set-same, getD-set-other}
 use borrow.Author.Tests.{ltb-true, ltb-false, leb-true, eqb-true, lt-ltb, le-ltb, le-leb, lt-leb, eq-eqb, ne-eqb, not-false}
 use Rattle.base.specs.Pick.{pick}
@@ -71,6 +71,13 @@ put-holds t i k d len h =
       third = getD-set-other t₃ (4 * i + 3) (4 * i + 2) d 0 (omega arith) ∙ getD-set-same t₂ (4 * i + 2) (k .third) 0 (omega arith);
       clock = getD-set-same t₃ (4 * i + 3) d 0 (omega arith);
     }
+
+-- a row past the last is four zeros
+pub past-zeros : (t : List ℕ) (i : ℕ) → length t ≡ 256 → 64 ≤ i → Holds t i noKey 0
+unfolding cell
+past-zeros t i len h =
+    let zero-at : (j : ℕ) → getD t (4 * i + j) 0 ≡ 0 = λ j. List·getD-eq-default t 0 {n = 4 * i + j} (omega arith) in
+    record { first = zero-at 0; second = zero-at 1; third = zero-at 2; clock = zero-at 3 }
 
 -- a row that is as another table has it
 pub same-holds : (t u : List ℕ) (i : ℕ) {k : Key} {d : ℕ} → ((j : ℕ) → j < 4 → cell u i j ≡ cell t i j) → Holds t i k d → Holds u i k d
@@ -246,16 +253,20 @@ pub table-sized : (now : ℕ) (t : List ℕ) → tableBad now t ≡ false → le
 unfolding tableBad
 table-sized now t e = eqb-true (length t) 256 (not-false (eqb (length t) 256) (or-left (not (eqb (length t) 256)) (someRow (rowBad now t)) e))
 
-pub row-good : (now : ℕ) (t : List ℕ) (i : ℕ) → tableBad now t ≡ false → i < 64 → (rowFree t i ≡ true) ⊎ (rowUsed now t i ≡ true)
+pub row-good : (now : ℕ) (t : List ℕ) (i : ℕ) → tableBad now t ≡ false → (rowFree t i ≡ true) ⊎ (rowUsed now t i ≡ true)
 unfolding tableBad rowBad
-row-good now t i e l =
-    let none = or-right (not (eqb (length t) 256)) (someRow (rowBad now t)) e in
-    or-true (rowFree t i) (rowUsed now t i) (not-false (rowFree t i || rowUsed now t i) (none-passes (rowBad now t) i none l))
+row-good now t i e = go (decLt i 64)
+  where
+    go : Dec (i < 64) → (rowFree t i ≡ true) ⊎ (rowUsed now t i ≡ true)
+    go (yes l) =
+        let none = or-right (not (eqb (length t) 256)) (someRow (rowBad now t)) e in
+        or-true (rowFree t i) (rowUsed now t i) (not-false (rowFree t i || rowUsed now t i) (none-passes (rowBad now t) i none l))
+    go (no l) = inl (zeros-free t i (past-zeros t i (table-sized now t e) (omega arith)))
 
 -- no row was admitted after the call's clock
-pub row-admitted : (now : ℕ) (t : List ℕ) (i : ℕ) → tableBad now t ≡ false → i < 64 → cell t i 3 ≤ now
+pub row-admitted : (now : ℕ) (t : List ℕ) (i : ℕ) → tableBad now t ≡ false → cell t i 3 ≤ now
 unfolding rowUsed
-row-admitted now t i e l = go (row-good now t i e l)
+row-admitted now t i e = go (row-good now t i e)
   where
     go : (rowFree t i ≡ true) ⊎ (rowUsed now t i ≡ true) → cell t i 3 ≤ now
     go (inl f) = let z = free-zeros t i f .clock in omega arith

@@ -13,8 +13,8 @@ use lib.Pow.{high, split, pow-pos}
 use borrow.Author.Tests.{ltb-true, leb-true, eqb-true, lt-ltb, le-leb, lt-leb, eq-eqb}
 use Rattle.base.specs.Pick.{pick}
 use Rattle.base.proofs.Bools.{true-or-false, and-left, and-right, and-true, not-both}
-use Rattle.node_state.specs.Table.{cell, rowFree, tagIn, initiatorFits, rowKeyed, rowUsed, rowBad, tableBad, rowLife, rowDead, freed}
-use Rattle.node_state.proofs.Rows.{free-live, free-dead, free-zeros, zeros-free, table-sized, row-good}
+use Rattle.node_state.specs.Table.{cell, noKey, rowFree, tagIn, initiatorFits, rowKeyed, rowUsed, rowBad, tableBad, rowLife, rowDead, freed}
+use Rattle.node_state.proofs.Rows.{Holds, past-zeros, length-free, free-live, free-dead, free-zeros, zeros-free, table-sized, row-good}
 use Rattle.verdicts.specs.Rows.{Free, Tag, discovery-4, discovery-16, flood-4, flood-16, Used, Live, Dead, SameRow}
 
 -- ---- free rows
@@ -137,23 +137,35 @@ module _ (now : ℕ) (t : List ℕ) where
       go (yes l) = inl (record { used = u; young = l })
       go (no l) = inr (record { used = u; old = omega arith })
 
-  module _ (good : tableBad now t ≡ false) (i : ℕ) (below : i < 64) where
+  test-kept : (i : ℕ) → rowDead now t i ≡ false → SameRow (freed now t) t i
+  unfolding freed
+  test-kept i live j l = free-live now t 64 i j live l
+
+  pub live-stays : (i : ℕ) → Live now t i → SameRow (freed now t) t i
+  live-stays i l = test-kept i (live-test i l)
+
+  pub live-used : (i : ℕ) → Live now t i → Free (freed now t) i → ⊥
+  live-used i l f =
+      let z : cell t i 0 ≡ 0 = sym (live-stays i l 0 (omega arith)) ∙ f .first in
+      let e = l .used .first in
+      let g = tag-range (l .used .tagged) in
+      omega arith
+
+  module _ (good : tableBad now t ≡ false) (i : ℕ) where
     pub row-is : Free t i ⊎ (Live now t i ⊎ Dead now t i)
-    row-is = go (row-good now t i good below)
+    row-is = go (row-good now t i good)
       where
         go : (rowFree t i ≡ true) ⊎ (rowUsed now t i ≡ true) → Free t i ⊎ (Live now t i ⊎ Dead now t i)
         go (inl f) = inl (free-is t i .0 f)
         go (inr u) = inr (used-lives i (used-is now t i .0 u))
 
-    test-kept : rowDead now t i ≡ false → SameRow (freed now t) t i
-    unfolding freed
-    test-kept live j l = free-live now t 64 i j live l
-
     pub test-cleared : rowDead now t i ≡ true → Free (freed now t) i
     unfolding freed
-    test-cleared dead =
-        let h = free-dead now t 64 i (table-sized now t good) below (le-refl 64) dead in
-        record { first = h .first; second = h .second; third = h .third; fourth = h .clock }
+    test-cleared dead = free-is (freed now t) i .0 (zeros-free (freed now t) i (go (decLt i 64)))
+      where
+        go : Dec (i < 64) → Holds (freed now t) i noKey 0
+        go (yes l) = free-dead now t 64 i (table-sized now t good) l (le-refl 64) dead
+        go (no l) = past-zeros (freed now t) i (length-free now t 64 ∙ table-sized now t good) (omega arith)
 
     pub free-stays : Free t i → Free (freed now t) i
     free-stays f = go (true-or-false (rowDead now t i))
@@ -161,21 +173,10 @@ module _ (now : ℕ) (t : List ℕ) where
         go : (rowDead now t i ≡ true) ⊎ (rowDead now t i ≡ false) → Free (freed now t) i
         go (inl dead) = test-cleared dead
         go (inr live) =
-            let same = test-kept live in
+            let same = test-kept i live in
             record {
               first = same 0 (omega arith) ∙ f .first;
               second = same 1 (omega arith) ∙ f .second;
               third = same 2 (omega arith) ∙ f .third;
               fourth = same 3 (omega arith) ∙ f .fourth;
             }
-
-    pub live-stays : Live now t i → SameRow (freed now t) t i
-    live-stays l = test-kept (live-test i l)
-
-    pub live-used : Live now t i → Free (freed now t) i → ⊥
-    live-used l f =
-        let same = live-stays l in
-        let z : cell t i 0 ≡ 0 = sym (same 0 (omega arith)) ∙ f .first in
-        let e = l .used .first in
-        let g = tag-range (l .used .tagged) in
-        omega arith

@@ -21,10 +21,10 @@ use Rattle.verdicts.proofs.Lives.{free-is, free-misses, used-is, row-pa
 -- A table isn't refused exactly if it has 256 numbers and each row is free or used.
 pub table-good : (now : ℕ) (t : List ℕ) → tableBad now t ≡ false ↔ ((length t ≡ 256) × ((i : ℕ) → i < 64 → Free t i ⊎ Used now t i))
 unfolding tableBad rowBad
-table-good now t = (λ e. (table-sized now t e, λ i l. each e i l), λ h. rw (eq-eqb (length t) 256 (h .0), none (h .1)) refl)
+table-good now t = (λ e. (table-sized now t e, λ i l. each e i), λ h. rw (eq-eqb (length t) 256 (h .0), none (h .1)) refl)
   where
-    each : tableBad now t ≡ false → (i : ℕ) → i < 64 → Free t i ⊎ Used now t i
-    each e i l = go (row-good now t i e l)
+    each : tableBad now t ≡ false → (i : ℕ) → Free t i ⊎ Used now t i
+    each e i = go (row-good now t i e)
       where
         go : (rowFree t i ≡ true) ⊎ (rowUsed now t i ≡ true) → Free t i ⊎ Used now t i
         go (inl f) = inl (free-is t i .0 f)
@@ -40,25 +40,25 @@ table-good now t = (λ e. (table-sized now t e, λ i l. each e i l), λ h. rw (e
             absurd (not-both (rowBad now t i) bad (row-passes now t i (h i l)))
 
 -- After freeing, a row is four zeros exactly if it was free or dead.
-pub freed-zeros : (now : ℕ) (t : List ℕ) → tableBad now t ≡ false → (i : ℕ) → i < 64 → Free (freed now t) i ↔ (Free t i ⊎ Dead now t i)
-freed-zeros now t good i l = (λ f. there f (row-is now t good i l), back)
+pub freed-zeros : (now : ℕ) (t : List ℕ) → tableBad now t ≡ false → (i : ℕ) → Free (freed now t) i ↔ (Free t i ⊎ Dead now t i)
+freed-zeros now t good i = (λ f. there f (row-is now t good i), back)
   where
     there : Free (freed now t) i → Free t i ⊎ (Live now t i ⊎ Dead now t i) → Free t i ⊎ Dead now t i
     there f (inl z) = inl z
-    there f (inr (inl live)) = absurd (live-used now t good i l live f)
+    there f (inr (inl live)) = absurd (live-used now t i live f)
     there f (inr (inr d)) = inr d
 
     back : Free t i ⊎ Dead now t i → Free (freed now t) i
-    back (inl z) = free-stays now t good i l z
-    back (inr d) = test-cleared now t good i l (dead-test now t i d)
+    back (inl z) = free-stays now t good i z
+    back (inr d) = test-cleared now t good i (dead-test now t i d)
 
 -- Else each of its four numbers is as it was.
-pub freed-same : (now : ℕ) (t : List ℕ) → tableBad now t ≡ false → (i : ℕ) → i < 64 → (Free t i ⊎ Dead now t i → ⊥) → SameRow (freed now t) t i
-freed-same now t good i l other = go (row-is now t good i l)
+pub freed-same : (now : ℕ) (t : List ℕ) → tableBad now t ≡ false → (i : ℕ) → (Free t i ⊎ Dead now t i → ⊥) → SameRow (freed now t) t i
+freed-same now t good i other = go (row-is now t good i)
   where
     go : Free t i ⊎ (Live now t i ⊎ Dead now t i) → SameRow (freed now t) t i
     go (inl z) = absurd (other (inl z))
-    go (inr (inl live)) = live-stays now t good i l live
+    go (inr (inl live)) = live-stays now t i live
     go (inr (inr d)) = absurd (other (inr d))
 
 -- Freeing leaves the table's length.
@@ -116,13 +116,13 @@ known-is k t = (there, λ h. passes-some (rowMatches k t) (h .0) (h .1) (back (h
 -- After freeing, a key is known exactly if a live row had its three numbers; a key's first number isn't 0.
 pub known-live : (now : ℕ) (t : List ℕ) → tableBad now t ≡ false → (k : Key) → 0 < k .first
     → isKnown k (freed now t) ≡ true ↔ ((i : ℕ) × (i < 64) × Live now t i × HasKey t i k)
-known-live now t good k some = (λ e. let (i, l, h) = known-is k (freed now t) .0 e in go i l h (row-is now t good i l), back)
+known-live now t good k some = (λ e. let (i, l, h) = known-is k (freed now t) .0 e in go i l h (row-is now t good i), back)
   where
     go : (i : ℕ) → i < 64 → HasKey (freed now t) i k → Free t i ⊎ (Live now t i ⊎ Dead now t i) → (i : ℕ) × (i < 64) × Live now t i × HasKey t i k
-    go i l h (inl f) = let z = free-stays now t good i l f .first in let e = h .first in absurd (omega arith)
-    go i l h (inr (inr d)) = let z = test-cleared now t good i l (dead-test now t i d) .first in let e = h .first in absurd (omega arith)
+    go i l h (inl f) = let z = free-stays now t good i f .first in let e = h .first in absurd (omega arith)
+    go i l h (inr (inr d)) = let z = test-cleared now t good i (dead-test now t i d) .first in let e = h .first in absurd (omega arith)
     go i l h (inr (inl live)) =
-        let same = live-stays now t good i l live in (
+        let same = live-stays now t i live in (
           i,
           l,
           live,
@@ -135,7 +135,7 @@ known-live now t good k some = (λ e. let (i, l, h) = known-is k (freed now t) .
 
     back : (i : ℕ) × (i < 64) × Live now t i × HasKey t i k → isKnown k (freed now t) ≡ true
     back (i, l, live, h) =
-        let same = live-stays now t good i l live in
+        let same = live-stays now t i live in
         known-is k (freed now t) .1 (i, l, record { first = same 0 (omega arith) ∙ h .first; second = same 1 (omega arith) ∙ h .second; third = same 2 (omega arith) ∙ h .third })
 
 -- A filled row has the key and the clock, and every other row is as it was.
@@ -147,9 +147,9 @@ filled-row t i k clock len l =
 
 -- After freeing, no row is free exactly if every row lived.
 pub full-exactly : (now : ℕ) (t : List ℕ) → tableBad now t ≡ false → lowestFree (freed now t) ≡ 64 ↔ ((i : ℕ) → i < 64 → Live now t i)
-full-exactly now t good = (λ e i l. there i l (lowest-none (freed now t) .0 e i l) (row-is now t good i l), λ h. lowest-none (freed now t) .1 (λ i l. live-used now t good i l (h i l)))
+full-exactly now t good = (λ e i l. there i (lowest-none (freed now t) .0 e i l) (row-is now t good i), λ h. lowest-none (freed now t) .1 (λ i l. live-used now t i (h i l)))
   where
-    there : (i : ℕ) → i < 64 → (Free (freed now t) i → ⊥) → Free t i ⊎ (Live now t i ⊎ Dead now t i) → Live now t i
-    there i l none (inl f) = absurd (none (free-stays now t good i l f))
-    there i l none (inr (inl live)) = live
-    there i l none (inr (inr d)) = absurd (none (test-cleared now t good i l (dead-test now t i d)))
+    there : (i : ℕ) → (Free (freed now t) i → ⊥) → Free t i ⊎ (Live now t i ⊎ Dead now t i) → Live now t i
+    there i none (inl f) = absurd (none (free-stays now t good i f))
+    there i none (inr (inl live)) = live
+    there i none (inr (inr d)) = absurd (none (test-cleared now t good i (dead-test now t i d)))
