@@ -62,6 +62,21 @@ record Known (x : Step) (s : Spread) : Type 0 where
 abbrev stepOf : Record → List ℕ → Call → After → Step
 stepOf r t c b = record { node = r; table = t; call = c; after = b }
 
+row-used : (x : Step) (s : Spread) → 0 < keyIn (x .call .message) s .first
+unfolding keyIn
+row-used x s = key-used (s .flood) (s .session) (held (x .call .message) (s .initiator))
+
+least-life : (f : Bool) → 60000 ≤ pick f 120000 60000
+unfolding pick
+least-life true = omega arith
+least-life false = omega arith
+
+-- as the demand has it
+kind-life : (f : Bool) → apartBy (pick f 9 1) ≡ pick f 120000 60000
+unfolding apartBy pick
+kind-life true = refl
+kind-life false = refl
+
 module _ (x : Step) (s : Spread) (k : Known x s) where
   known-given : given x ≡ spread-told (x .call .message) s
   unfolding given
@@ -75,26 +90,11 @@ module _ (x : Step) (s : Spread) (k : Known x s) where
   unfolding keyIn
   row-life = key-life (s .flood) (s .session) (held (x .call .message) (s .initiator)) session-small
 
-  row-used : 0 < keyIn (x .call .message) s .first
-  unfolding keyIn
-  row-used = key-used (s .flood) (s .session) (held (x .call .message) (s .initiator))
-
-  least-life : (f : Bool) → 60000 ≤ pick f 120000 60000
-  unfolding pick
-  least-life true = omega arith
-  least-life false = omega arith
-
   row-least : 60000 ≤ rowLife (keyIn (x .call .message) s .first)
   row-least = rw row-life (least-life (s .flood))
 
   row-lives : 0 < rowLife (keyIn (x .call .message) s .first)
   row-lives = let h = row-least in omega arith
-
-  -- as the demand has it
-  kind-life : (f : Bool) → apartBy (pick f 9 1) ≡ pick f 120000 60000
-  unfolding apartBy pick
-  kind-life true = refl
-  kind-life false = refl
 
   known-apart : apartBy (given x .kind) ≡ rowLife (keyIn (x .call .message) s .first)
   known-apart = ap (λ (g : Told). apartBy (g .kind)) known-given ∙ kind-life (s .flood) ∙ sym row-life
@@ -136,7 +136,7 @@ module _ (x : Step) (s : Spread) (k : Known x s) where
               let new : isKnown key t ≡ false = rw (same-key x y s s′ k ky same) (ky .facts .new) in
               rw (known-apart x s k) (one-key key (rowOf x) (clockOf x) (clockOf y) t (k .facts .room) there new);
         };
-        rows = λ e. le-trans (more (clockOf x) (row-least x s k)) (one-row key (rowOf x) (clockOf x) (clockOf y) t (row-used x s k) (ky .facts .room) there e);
+        rows = λ e. le-trans (more (clockOf x) (row-least x s k)) (one-row key (rowOf x) (clockOf x) (clockOf y) t (row-used x s) (ky .facts .room) there e);
       }
     where
       more : {a b : ℕ} (n : ℕ) → a ≤ b → n + a ≤ n + b
@@ -150,7 +150,7 @@ module _ (x : Step) (s : Spread) (k : Known x s) where
       rw (nb, tb) (freed-there (keyIn (x .call .message) s) (rowOf x) (clockOf x) r t (c .clock) (c .interface) (length (c .output)) (row-lives x s k) p there)
   there-on r t c b (went s′ f e) there =
       rw e
-      (put-there (keyIn (x .call .message) s) (rowOf x) (clockOf x) (keyIn (c .message) s′) (c .clock) (freed (c .clock) t) (row-used x s k) (f .room)
+      (put-there (keyIn (x .call .message) s) (rowOf x) (clockOf x) (keyIn (c .message) s′) (c .clock) (freed (c .clock) t) (row-used x s) (f .room)
       (freed-there (keyIn (x .call .message) s) (rowOf x) (clockOf x) r t (c .clock) (c .interface) (length (c .output)) (row-lives x s k) (f .passes) there))
 
 says-relay : (r : Record) (t : List ℕ) (c : Call) (s : Spread) (b : After) → b ≡ relayed (clocked r (c .clock)) (freed (c .clock) t) c s → saysRelay (b .called .reply) ≡ true
@@ -210,8 +210,7 @@ outgoing : Step → ℕ
 outgoing x = x .node .links - 2 ^ x .call .interface
 
 -- one that was answered RELAY, whatever its message's elements are
-module _ (x : Step) (s : Spread) (facts : Relays (x .node) (x .table) (x .call) s)
-    (is : x .after ≡ relayed (clocked (x .node) (x .call .clock)) (freed (x .call .clock) (x .table)) (x .call) s) where
+module _ (x : Step) (s : Spread) (is : x .after ≡ relayed (clocked (x .node) (x .call .clock)) (freed (x .call .clock) (x .table)) (x .call) s) where
   went-mask : maskOf (x .after .called .reply) ≡ outgoing x
   unfolding maskOf relayed others clocked outgoing
   went-mask = ap (λ (z : After). maskOf (z .called .reply)) is
@@ -220,6 +219,7 @@ module _ (x : Step) (s : Spread) (facts : Relays (x .node) (x .table) (x .call) 
   unfolding copies
   went-copies = ap (interfacesIn 8) went-mask
 
+module _ (x : Step) (s : Spread) (facts : Relays (x .node) (x .table) (x .call) s) where
   small-mask : outgoing x < 2 ^ x .node .interfaces
   unfolding outgoing
   small-mask = let f = record-links (x .node) (facts .passes .good) .small in omega arith
@@ -237,12 +237,12 @@ module _ (x : Step) (s : Spread) (facts : Relays (x .node) (x .table) (x .call) 
       every-imp (λ j. (j < 8) × (hasBit (outgoing x) j ≡ true)) (λ j. j < x .node .interfaces) (λ j h. up-below (x .node .interfaces) (outgoing x) j small-mask (h .1))
       (interfacesIn 8 (outgoing x)) (interfaces-up 8 (outgoing x))
 
-  went-tally : x .after .called .node .tally ≡ x .node .tally + length (copies x)
+  went-tally : x .after ≡ relayed (clocked (x .node) (x .call .clock)) (freed (x .call .clock) (x .table)) (x .call) s → x .after .called .node .tally ≡ x .node .tally + length (copies x)
   unfolding relayed tallied clocked others outgoing
-  went-tally =
+  went-tally is =
       let fits : outgoing x < 2 ^ 8 = le-trans small-mask (pow-mono (record-links (x .node) (facts .passes .good) .most)) in
       ap (λ (z : After). z .called .node .tally) is
-      ∙ ap (λ (z : ℕ). x .node .tally + z) (sym (length-interfaces 8 (outgoing x) fits) ∙ ap length (sym went-copies))
+      ∙ ap (λ (z : ℕ). x .node .tally + z) (sym (length-interfaces 8 (outgoing x) fits) ∙ ap length (sym (went-copies x s is)))
 
 module _ (x : Step) (s : Spread) (k : Known x s) where
   known-sent : sent x .count ≡ s .objective .count - 1
@@ -257,19 +257,19 @@ module _ (x : Step) (s : Spread) (k : Known x s) where
   unfolding arrivedOn rowOf
   known-sound =
       let below = arrives (x .node) (x .call .interface) (k .facts .passes .good) (k .facts .passes .arrives) .below in
-      let others-differ = every-imp (λ j. j ≢ x .call .interface) (λ j. x .call .interface ≢ j) (λ j d e. d (sym e)) (interfacesIn 8 (outgoing x)) (copies-differ x s (k .facts) (k .is)) in
-      let same = went-copies x s (k .facts) (k .is) in
+      let others-differ = every-imp (λ j. j ≢ x .call .interface) (λ j. x .call .interface ≢ j) (λ j d e. d (sym e)) (interfacesIn 8 (outgoing x)) (copies-differ x s (k .facts)) in
+      let same = went-copies x s (k .is) in
       record {
         out = record {
           once = rw same (interfaces-distinct 8 (outgoing x));
-          there = rw same (copies-below x s (k .facts) (k .is));
-          onward = rw same (copies-differ x s (k .facts) (k .is));
+          there = rw same (copies-below x s (k .facts));
+          onward = rw same (copies-differ x s (k .facts));
           positive = rw known-sent (omega (arith, k .facts .counts));
           lower = rw (known-sent, known-given x s k) (omega (arith, k .facts .counts));
         };
         row = k .facts .room;
         some-left =
-            rw same (omega (arith, pigeonhole (x .node .interfaces) (x .call .interface ∷ interfacesIn 8 (outgoing x)) (others-differ, interfaces-distinct 8 (outgoing x)) (below, copies-below x s (k .facts) (k .is))));
+            rw same (omega (arith, pigeonhole (x .node .interfaces) (x .call .interface ∷ interfacesIn 8 (outgoing x)) (others-differ, interfaces-distinct 8 (outgoing x)) (below, copies-below x s (k .facts))));
       }
 
 sound : (n : ℕ) (es : List Event) → (r : Record) (t : List ℕ) → r .interfaces ≡ n → Every (Sound n) (relaysOf (steps r t es))
