@@ -71,7 +71,7 @@ unfolding pick
 least-life true = omega arith
 least-life false = omega arith
 
--- as the demand has it
+-- how long a row lives, as the demand has it
 kind-life : (f : Bool) → apartBy (pick f 9 1) ≡ pick f 120000 60000
 unfolding apartBy pick
 kind-life true = refl
