@@ -23,6 +23,11 @@ use Rattle.host.specs.declared.call.Answer as A
 use Rattle.host.specs.Table.{tableBytes, loaded, saved}
 use Rattle.host.specs.Call.{answerFrom, tableIn, afterCall, callAnswer, callTable, callOutput, answerNumbers, replyNumbers, leftOf, callLeft}
 
+-- a call over the bytes of a table is one over its numbers
+same-call : (r : Record) (bytes : List ℕ) (c : Call) (numbers : List ℕ) → length bytes ≡ tableBytes → numbers ≡ loaded bytes → nodeCall r numbers c ≡ afterCall r bytes c
+unfolding afterCall tableIn pick
+same-call r bytes c numbers sized are = rw (eq-eqb (length bytes) tableBytes sized, ← are)
+
 module _ (r : Record) (bytes : List ℕ) (c : Call) (b : Called) (t out : List ℕ) (a : A.Answer) (is : a ≡ answerFrom b) where
   -- what follows from what the call gave
   answers : afterOf b t out ≡ afterCall r bytes c → (a ≡ callAnswer r bytes c) × (out ≡ callOutput r bytes c)
@@ -38,21 +43,19 @@ module _ (r : Record) (bytes : List ℕ) (c : Call) (b : Called) (t out : List �
       (answered, rw (ne-eqb (length bytes) tableBytes ne) refl, left)
 
   module _ (numbers : List ℕ) (sized : length bytes ≡ tableBytes) (numbers-are : numbers ≡ loaded bytes) (e : afterOf b t out ≡ nodeCall r numbers c) where
-    same-call : afterOf b t out ≡ afterCall r bytes c
-    unfolding afterCall tableIn pick
-    same-call = rw (eq-eqb (length bytes) tableBytes sized, ← numbers-are) e
-
     pub call-refused : (a .refusal ≡ 0 → ⊥) → (a ≡ callAnswer r bytes c) × (bytes ≡ callTable r bytes c) × (out ≡ callOutput r bytes c)
     unfolding callTable pick
     call-refused ne =
-        let (answered, left) = answers same-call in
+        let same : afterOf b t out ≡ afterCall r bytes c = e ∙ same-call r bytes c numbers sized numbers-are in
+        let (answered, left) = answers same in
         (answered, rw (eq-eqb (length bytes) tableBytes sized, ← answered, ne-eqb (a .refusal) 0 ne) refl, left)
 
     pub call-given : (after : List ℕ) → a .refusal ≡ 0 → after ≡ saved t → (a ≡ callAnswer r bytes c) × (after ≡ callTable r bytes c) × (out ≡ callOutput r bytes c)
     unfolding callTable pick
     call-given after none after-is =
-        let (answered, left) = answers same-call in
-        (answered, rw (eq-eqb (length bytes) tableBytes sized, ← answered, eq-eqb (a .refusal) 0 none) (after-is ∙ ap (λ (z : After). saved (z .table)) same-call), left)
+        let same : afterOf b t out ≡ afterCall r bytes c = e ∙ same-call r bytes c numbers sized numbers-are in
+        let (answered, left) = answers same in
+        (answered, rw (eq-eqb (length bytes) tableBytes sized, ← answered, eq-eqb (a .refusal) 0 none) (after-is ∙ ap (λ (z : After). saved (z .table)) same), left)
 
 -- ---- what a refusal leaves
 

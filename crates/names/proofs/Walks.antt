@@ -5,6 +5,7 @@ use mathlib.Core.Bool.{Bool, true, false, _&&_}
 use mathlib.Core.List.{List, [], _∷_}
 use Prim.Native.Nat.{ℕ, zero, suc, _-_, _+_, _≤_, _<_}
 use native.Mathlib.Numerals.{add-one}
+use native.Mathlib.Decide.{decLt}
 use native.Mathlib.Omega.{arith}
 use lib.Dec.{eqb}
 use lib.ListN.{length, getD, drop}
@@ -44,13 +45,13 @@ same-differ (x ∷ xs) (y ∷ ys) zero ne = rw (ne-eqb x y ne) refl
 same-differ (x ∷ xs) (y ∷ ys) (suc i) ne = later (eqb x y) (same-differ xs ys i ne)
 
 module _ (a b : List ℕ) (i : ℕ) (same : length a ≡ length b) where
-  pub same-next : i < length a → getD a i 0 ≡ getD b i 0 → sameBytes (drop i a) (drop i b) ≡ sameBytes a b → sameBytes (drop (i + 1) a) (drop (i + 1) b) ≡ sameBytes a b
+  pub same-next : getD a i 0 ≡ getD b i 0 → sameBytes (drop i a) (drop i b) ≡ sameBytes a b → sameBytes (drop (i + 1) a) (drop (i + 1) b) ≡ sameBytes a b
   unfolding sameBytes
-  same-next h q e =
-      let there : i < length b = omega arith in
-      let on : sameBytes (drop i a) (drop i b) ≡ sameBytes (drop (suc i) a) (drop (suc i) b) =
-      rw (front-at a i h, front-at b i there, eq-eqb (getD a i 0) (getD b i 0) q) refl in
-      rw add-one (sym on ∙ e)
+  same-next q e = rw add-one (sym (on (decLt i (length a))) ∙ e)
+    where
+      on : Dec (i < length a) → sameBytes (drop i a) (drop i b) ≡ sameBytes (drop (suc i) a) (drop (suc i) b)
+      on (yes h) = rw (front-at a i h, front-at b i (omega arith), eq-eqb (getD a i 0) (getD b i 0) q) refl
+      on (no h) = rw (drop-past a i (omega arith), drop-past b i (omega arith), drop-past a (suc i) (omega arith), drop-past b (suc i) (omega arith)) refl
 
   pub same-end : length a ≤ i → sameBytes (drop i a) (drop i b) ≡ sameBytes a b → true ≡ sameBytes a b
   unfolding sameBytes

@@ -20,7 +20,7 @@ use Rattle.message.specs.Read.{mostBytes}
 use Rattle.description.specs.Encoding.{string, reached, fixed, encodeLoc, targetItems, howMany, encodeTargets, maybeObj, opening, encodeMsg}
 use Rattle.writer.specs.declared.Written.{Written}
 use Rattle.writer.specs.Write.{handAnswer, handOut, passes, passAnswer, passOut, lowerAnswer, lowerOut, answerOf}
-use Rattle.roundtrip.proofs.Relay.{lowered-given}
+use Rattle.roundtrip.proofs.Relay.{lowered-shorter, lowered-given}
 use Rattle.node_state.specs.declared.Record.{Record}
 use Rattle.node.specs.declared.role.Spread.{Spread}
 use Rattle.node.specs.declared.role.Role.{Role}
@@ -39,8 +39,9 @@ pub onward-given : (message out : List ℕ) (s : Spread) → RoleIn message (Rol
     → (lowerAnswer message (s .objective .«count_at») (s .objective .value .at) (s .objective .count) out ≡ Written.Length (length (onward message (s .objective))))
     × (lowerOut message (s .objective .«count_at») (s .objective .value .at) (s .objective .count) out ≡ written (onward message (s .objective)) out)
 onward-given message out s r some room =
-    let fits : length message ≤ length out = omega (arith, read-most message (Role.Spreads s) r) in
-    lowered-given message (r .is) (s .objective) out (r .read) (role-spreading message s r .lowers) some fits
+    let lowers = role-spreading message s r .lowers in
+    let shorter = lowered-shorter message (r .is) (s .objective) (r .read) lowers in
+    lowered-given message (r .is) (s .objective) out (r .read) lowers some (omega (arith, read-most message (Role.Spreads s) r))
 
 -- ---- an answer
 

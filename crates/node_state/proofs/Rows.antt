@@ -3,7 +3,7 @@
 use mathlib.Core.Path.{_≡_, refl, sym, ap, _∙_}
 use mathlib.Core.Logic.{_≢_, _⊎_, inl, inr}
 use mathlib.Core.Bool.{Bool, true, false, not, _&&_, _||_}
-use mathlib.Core.List.{List}
+use mathlib.Core.List.{List, [], _∷_}
 use Prim.Native.Nat.{ℕ, zero, suc, _+_, _-_, _*_, _≤_, _<_, zero-le}
 use native.Mathlib.Nat.{le-refl, le-trans, add-zero}
 use native.Mathlib.Numerals.{add-one}
@@ -51,26 +51,41 @@ pub record Holds (t : List ℕ) (i : ℕ) (k : Key) (d : ℕ) : Type 0 where
   pub third : cell t i 2 ≡ k .third
   pub clock : cell t i 3 ≡ d
 
-pub put-holds : (t : List ℕ) (i : ℕ) (k : Key) (d : ℕ) → length t ≡ 256 → i < 64 → Holds (putRow t i k d) i k d
+-- a row that is put reads as it was put, where each of its numbers does
+put-reads : (t : List ℕ) (i : ℕ) (k : Key) (d : ℕ) (P : ℕ → Type 0) → ((l : List ℕ) (j v : ℕ) → length l ≡ length t → j < 4 → P v → getD (set l (4 * i + j) v) (4 * i + j) 0 ≡ v)
+    → P (k .first) → P (k .second) → P (k .third) → P d → Holds (putRow t i k d) i k d
 unfolding putRow cell
-put-holds t i k d len h =
+put-reads t i k d P reads p₀ p₁ p₂ p₃ =
     let t₁ = set t (4 * i) (k .first) in
     let t₂ = set t₁ (4 * i + 1) (k .second) in
     let t₃ = set t₂ (4 * i + 2) (k .third) in
-    let l₁ : length t₁ ≡ 256 = length-set t (4 * i) (k .first) ∙ len in
-    let l₂ : length t₂ ≡ 256 = length-set t₁ (4 * i + 1) (k .second) ∙ l₁ in
-    let l₃ : length t₃ ≡ 256 = length-set t₂ (4 * i + 2) (k .third) ∙ l₂ in
+    let l₁ : length t₁ ≡ length t = length-set t (4 * i) (k .first) in
+    let l₂ : length t₂ ≡ length t = length-set t₁ (4 * i + 1) (k .second) ∙ l₁ in
+    let l₃ : length t₃ ≡ length t = length-set t₂ (4 * i + 2) (k .third) ∙ l₂ in
     record {
       first =
           getD-set-other t₃ (4 * i + 3) (4 * i + 0) d 0 (omega arith) ∙ getD-set-other t₂ (4 * i + 2) (4 * i + 0) (k .third) 0 (omega arith)
-          ∙ getD-set-other t₁ (4 * i + 1) (4 * i + 0) (k .second) 0 (omega arith) ∙ ap (λ n. getD t₁ n 0) (omega arith)
-          ∙ getD-set-same t (4 * i) (k .first) 0 (omega arith);
+          ∙ getD-set-other t₁ (4 * i + 1) (4 * i + 0) (k .second) 0 (omega arith) ∙ ap (λ (n : ℕ). getD t₁ n 0) (add-zero (4 * i))
+          ∙ rw add-zero at (reads t 0 (k .first) refl (omega arith) p₀);
       second =
           getD-set-other t₃ (4 * i + 3) (4 * i + 1) d 0 (omega arith) ∙ getD-set-other t₂ (4 * i + 2) (4 * i + 1) (k .third) 0 (omega arith)
-          ∙ getD-set-same t₁ (4 * i + 1) (k .second) 0 (omega arith);
-      third = getD-set-other t₃ (4 * i + 3) (4 * i + 2) d 0 (omega arith) ∙ getD-set-same t₂ (4 * i + 2) (k .third) 0 (omega arith);
-      clock = getD-set-same t₃ (4 * i + 3) d 0 (omega arith);
+          ∙ reads t₁ 1 (k .second) l₁ (omega arith) p₁;
+      third = getD-set-other t₃ (4 * i + 3) (4 * i + 2) d 0 (omega arith) ∙ reads t₂ 2 (k .third) l₂ (omega arith) p₂;
+      clock = reads t₃ 3 d l₃ (omega arith) p₃;
     }
+
+-- one of the table's rows
+pub put-holds : (t : List ℕ) (i : ℕ) (k : Key) (d : ℕ) → length t ≡ 256 → i < 64 → Holds (putRow t i k d) i k d
+put-holds t i k d len h = put-reads t i k d (λ _. Unit {0}) (λ l j v e low _. getD-set-same l (4 * i + j) v 0 (omega arith)) tt tt tt tt
+
+-- four zeros, anywhere
+put-clears : (t : List ℕ) (i : ℕ) → Holds (putRow t i noKey 0) i noKey 0
+put-clears t i = put-reads t i noKey 0 (λ v. v ≡ 0) (λ l j v e low zero. rw zero (set-zero l (4 * i + j))) refl refl refl refl
+  where
+    set-zero : (l : List ℕ) (j : ℕ) → getD (set l j 0) j 0 ≡ 0
+    set-zero [] j = refl
+    set-zero (x ∷ l) zero = refl
+    set-zero (x ∷ l) (suc j) = set-zero l j
 
 -- a row past the last is four zeros
 pub past-zeros : (t : List ℕ) (i : ℕ) → length t ≡ 256 → 64 ≤ i → Holds t i noKey 0
@@ -124,19 +139,18 @@ free-live now t (suc n) i j live l =
     go same e rest (yes at) = absurd (not-both (rowDead now t i) (ap (rowDead now t) at ∙ sym same ∙ e) live)
 
 -- a dead row is four zeros
-pub free-dead : (now : ℕ) (t : List ℕ) (n i : ℕ) → length t ≡ 256 → i < n → n ≤ 64 → rowDead now t i ≡ true → Holds (freeRows now t n) i noKey 0
+pub free-dead : (now : ℕ) (t : List ℕ) (n i : ℕ) → i < n → rowDead now t i ≡ true → Holds (freeRows now t n) i noKey 0
 unfolding freeRows
-free-dead now t zero i len h m dead = absurd (omega arith)
-free-dead now t (suc n) i len h m dead = go (free-judged now t n) (ℕ-discrete i n) (free-dead now t n i len)
+free-dead now t zero i h dead = absurd (omega arith)
+free-dead now t (suc n) i h dead = go (free-judged now t n) (ℕ-discrete i n) (free-dead now t n i)
   where
-    go : rowDead now (freeRows now t n) n ≡ rowDead now t n → Dec (i ≡ n) → (i < n → n ≤ 64 → rowDead now t i ≡ true → Holds (freeRows now t n) i noKey 0)
+    go : rowDead now (freeRows now t n) n ≡ rowDead now t n → Dec (i ≡ n) → (i < n → rowDead now t i ≡ true → Holds (freeRows now t n) i noKey 0)
         → Holds (pick (rowDead now (freeRows now t n) n) (putRow (freeRows now t n) n noKey 0) (freeRows now t n)) i noKey 0
     go same (yes at) ih =
-        pick-case (λ f. Holds f i noKey 0) _
-        (λ e. rw at (put-holds (freeRows now t n) n noKey 0 (length-free now t n ∙ len) (omega arith)))
+        pick-case (λ f. Holds f i noKey 0) _ (λ e. rw at (put-clears (freeRows now t n) n))
         (λ e. absurd (not-both (rowDead now t n) (ap (rowDead now t) (sym at) ∙ dead) (sym same ∙ e)))
     go same (no ne) ih =
-        let rest = ih (omega arith) (omega arith) dead in
+        let rest = ih (omega arith) dead in
         pick-case (λ f. Holds f i noKey 0) _
         (λ e. same-holds (freeRows now t n) (putRow (freeRows now t n) n noKey 0) i (λ j l. put-other (freeRows now t n) n noKey 0 i j ne l) rest) (λ e. rest)
 

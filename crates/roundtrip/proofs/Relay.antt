@@ -220,8 +220,8 @@ lowered-written s m o q low a =
     let (a′, same) = lowered-accepts s m o q low a in
     sym (read-encoded (onward s o) a′) ∙ ap (λ (msg : Msg Value). encodeMsg (plain msg)) same
 
--- So `lower` gives it, where the count is above 0 and the output has room for the message.
-pub lowered-given : (s : List ℕ) (m : Message) (o : Objective) (out : List ℕ) → readOf s ≡ Reading.Read m → Lowers m o → 1 ≤ o .count → length s ≤ length out
+-- So `lower` gives it, where the count is above 0 and the output has room for it.
+pub lowered-given : (s : List ℕ) (m : Message) (o : Objective) (out : List ℕ) → readOf s ≡ Reading.Read m → Lowers m o → 1 ≤ o .count → length (onward s o) ≤ length out
     → (lowerAnswer s (o .«count_at») (o .value .at) (o .count) out ≡ Written.Length (length (onward s o)))
     × (lowerOut s (o .«count_at») (o .value .at) (o .count) out ≡ written (onward s o) out)
 unfolding lowerAnswer lowerOut okLower passAnswer passOut passes pick
@@ -237,4 +237,4 @@ lowered-given s m o out q low some room =
       le-ltb (length s) (o .value .at) (h .counted),
       le-ltb mostBytes (length (onward s o)) few,
     )
-    (handed (onward s o) out (omega arith))
+    (handed (onward s o) out room)

@@ -50,19 +50,15 @@ first-byte m m′ n n′ r r′ e = ap (λ (l : List ℕ). getD l 0 0) e
 
 -- two shortest heads that begin the same bytes, where the first argument is small
 module _ (m m′ n n′ : ℕ) (r r′ : List ℕ) (hm : m < 7) (hm′ : m′ < 7) (h : Small n) (e : head m n ++ r ≡ head m′ n′ ++ r′) where
-  -- where both are small
-  head-read-once : n′ < 2 ^ 32 → (m ≡ m′) × (n ≡ n′)
-  head-read-once h′ =
-      let first : headAt (head m n ++ r) ≡ HeadRead.Head m n (length (head m n)) = head-reads-back m n r hm (omega arith) in
-      let second : headAt (head m′ n′ ++ r′) ≡ HeadRead.Head m′ n′ (length (head m′ n′)) = head-reads-back m′ n′ r′ hm′ (omega arith) in
-      let same : HeadRead.Head m n (length (head m n)) ≡ HeadRead.Head m′ n′ (length (head m′ n′)) = sym first ∙ ap headAt e ∙ second in
-      (cc, cc)
-
   -- they are the same head
   head-same : (m ≡ m′) × (n ≡ n′)
   head-same =
       elim (decLt n′ (2 ^ 32)) [
-        | yes l ↦ head-read-once l
+        | yes l ↦
+            let first : headAt (head m n ++ r) ≡ HeadRead.Head m n (length (head m n)) = head-reads-back m n r hm (omega arith) in
+            let second : headAt (head m′ n′ ++ r′) ≡ HeadRead.Head m′ n′ (length (head m′ n′)) = head-reads-back m′ n′ r′ hm′ (omega arith) in
+            let same : HeadRead.Head m n (length (head m n)) ≡ HeadRead.Head m′ n′ (length (head m′ n′)) = sym first ∙ ap headAt e ∙ second in
+            (cc, cc)
         | no l ↦ absurd (omega (arith, first-byte m m′ n n′ r r′ e, info-small n h, info-great n′ (omega arith)))
       ]
 

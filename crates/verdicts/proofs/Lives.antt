@@ -5,7 +5,7 @@ use mathlib.Core.Logic.{_⊎_, inl, inr, _↔_}
 use mathlib.Core.Bool.{Bool, true, false, not, _&&_, _||_}
 use mathlib.Core.List.{List}
 use Prim.Native.Nat.{ℕ, zero, suc, _+_, _-_, _*_, _/_, _%_, _^_, _≤_, _<_}
-use native.Mathlib.Nat.{le-refl, mod-lt}
+use native.Mathlib.Nat.{mod-lt}
 use native.Mathlib.Decide.{decLt}
 use native.Mathlib.Omega.{arith}
 use lib.Dec.{ltb, leb, eqb}
@@ -14,7 +14,7 @@ use borrow.Author.Tests.{ltb-true, leb-true, eqb-true, lt-ltb, le-leb, lt-leb, e
 use Rattle.base.specs.Pick.{pick}
 use Rattle.base.proofs.Bools.{true-or-false, and-left, and-right, and-true, not-both}
 use Rattle.node_state.specs.Table.{cell, noKey, rowFree, tagIn, initiatorFits, rowKeyed, rowUsed, rowBad, tableBad, rowLife, rowDead, freed}
-use Rattle.node_state.proofs.Rows.{Holds, past-zeros, length-free, free-live, free-dead, free-zeros, zeros-free, table-sized, row-good}
+use Rattle.node_state.proofs.Rows.{Holds, past-zeros, length-free, free-ahead, free-live, free-dead, free-zeros, zeros-free, table-sized, row-good}
 use Rattle.verdicts.specs.Rows.{Free, Tag, discovery-4, discovery-16, flood-4, flood-16, Used, Live, Dead, SameRow}
 
 -- ---- free rows
@@ -151,6 +151,24 @@ module _ (now : ℕ) (t : List ℕ) where
       let g = tag-range (l .used .tagged) in
       omega arith
 
+  pub free-stays : (i : ℕ) → Free t i → Free (freed now t) i
+  unfolding freed
+  free-stays i f = go (true-or-false (rowDead now t i)) (decLt i 64)
+    where
+      as-was : SameRow (freed now t) t i → Free (freed now t) i
+      as-was same =
+          record {
+            first = same 0 (omega arith) ∙ f .first;
+            second = same 1 (omega arith) ∙ f .second;
+            third = same 2 (omega arith) ∙ f .third;
+            fourth = same 3 (omega arith) ∙ f .fourth;
+          }
+
+      go : (rowDead now t i ≡ true) ⊎ (rowDead now t i ≡ false) → Dec (i < 64) → Free (freed now t) i
+      go (inl dead) (yes l) = free-is (freed now t) i .0 (zeros-free (freed now t) i (free-dead now t 64 i l dead))
+      go (inl dead) (no l) = as-was (λ j m. free-ahead now t 64 i j (omega arith) m)
+      go (inr live) d = as-was (test-kept i live)
+
   module _ (good : tableBad now t ≡ false) (i : ℕ) where
     pub row-is : Free t i ⊎ (Live now t i ⊎ Dead now t i)
     row-is = go (row-good now t i good)
@@ -164,19 +182,5 @@ module _ (now : ℕ) (t : List ℕ) where
     test-cleared dead = free-is (freed now t) i .0 (zeros-free (freed now t) i (go (decLt i 64)))
       where
         go : Dec (i < 64) → Holds (freed now t) i noKey 0
-        go (yes l) = free-dead now t 64 i (table-sized now t good) l (le-refl 64) dead
+        go (yes l) = free-dead now t 64 i l dead
         go (no l) = past-zeros (freed now t) i (length-free now t 64 ∙ table-sized now t good) (omega arith)
-
-    pub free-stays : Free t i → Free (freed now t) i
-    free-stays f = go (true-or-false (rowDead now t i))
-      where
-        go : (rowDead now t i ≡ true) ⊎ (rowDead now t i ≡ false) → Free (freed now t) i
-        go (inl dead) = test-cleared dead
-        go (inr live) =
-            let same = test-kept i live in
-            record {
-              first = same 0 (omega arith) ∙ f .first;
-              second = same 1 (omega arith) ∙ f .second;
-              third = same 2 (omega arith) ∙ f .third;
-              fourth = same 3 (omega arith) ∙ f .fourth;
-            }

@@ -49,7 +49,7 @@ freed-zeros now t good i = (λ f. there f (row-is now t good i), back)
     there f (inr (inr d)) = inr d
 
     back : Free t i ⊎ Dead now t i → Free (freed now t) i
-    back (inl z) = free-stays now t good i z
+    back (inl z) = free-stays now t i z
     back (inr d) = test-cleared now t good i (dead-test now t i d)
 
 -- Else each of its four numbers is as it was.
@@ -119,7 +119,7 @@ pub known-live : (now : ℕ) (t : List ℕ) → tableBad now t ≡ false → (k 
 known-live now t good k some = (λ e. let (i, l, h) = known-is k (freed now t) .0 e in go i l h (row-is now t good i), back)
   where
     go : (i : ℕ) → i < 64 → HasKey (freed now t) i k → Free t i ⊎ (Live now t i ⊎ Dead now t i) → (i : ℕ) × (i < 64) × Live now t i × HasKey t i k
-    go i l h (inl f) = let z = free-stays now t good i f .first in let e = h .first in absurd (omega arith)
+    go i l h (inl f) = let z = free-stays now t i f .first in let e = h .first in absurd (omega arith)
     go i l h (inr (inr d)) = let z = test-cleared now t good i (dead-test now t i d) .first in let e = h .first in absurd (omega arith)
     go i l h (inr (inl live)) =
         let same = live-stays now t i live in (
@@ -150,6 +150,6 @@ pub full-exactly : (now : ℕ) (t : List ℕ) → tableBad now t ≡ false → l
 full-exactly now t good = (λ e i l. there i (lowest-none (freed now t) .0 e i l) (row-is now t good i), λ h. lowest-none (freed now t) .1 (λ i l. live-used now t i (h i l)))
   where
     there : (i : ℕ) → (Free (freed now t) i → ⊥) → Free t i ⊎ (Live now t i ⊎ Dead now t i) → Live now t i
-    there i none (inl f) = absurd (none (free-stays now t good i f))
+    there i none (inl f) = absurd (none (free-stays now t i f))
     there i none (inr (inl live)) = live
     there i none (inr (inr d)) = absurd (none (test-cleared now t good i (dead-test now t i d)))

@@ -8,7 +8,6 @@ use mathlib.Core.List.{List, _++_}
 use native.Mathlib.Omega.{arith}
 use lib.Dec.{ltb, leb}
 use lib.ListN.{length, take, drop, length-take}
-use lib.Seq.{length-take-le}
 use borrow.Author.Tests.{lt-ltb, le-ltb, lt-leb, le-leb, ltb-true, ltb-false}
 use Rattle.base.specs.Pick.{pick}
 use Rattle.base.proofs.Bools.{true-or-false}
@@ -62,10 +61,10 @@ by-length bs n e = rw (← e) (go (true-or-false (ltb mostBytes n)))
     go (inl q) = rw (q, lt-leb n mostBytes (ltb-true mostBytes n q))
     go (inr q) = rw (q, le-leb n mostBytes (ltb-false mostBytes n q))
 
--- ---- a draft of 2,048 bytes that ends in time
-module _ {l l′ bs : List ℕ} {r : ℕ} (w : Wrote l l′ 0 bs r) (g : length l ≡ mostBytes) (h : r ≤ mostBytes) where
+-- ---- a draft that ends in time
+module _ {l l′ bs : List ℕ} {r : ℕ} (w : Wrote l l′ 0 bs r) (h : r ≤ length l) where
   draft-is : take r l′ ≡ bs
-  draft-is = let k : r ≤ length l = omega arith in drafted w k .0
+  draft-is = drafted w h .0
 
   pub passed : (out : List ℕ) {out′ : List ℕ} {x : Bool} {a : Written} → x ≡ accepts (take r l′) → a ≡ passAnswer x (take r l′) out → out′ ≡ passOut x (take r l′) out
       → (a ≡ passAnswer (accepts bs) bs out) × (out′ ≡ passOut (accepts bs) bs out)

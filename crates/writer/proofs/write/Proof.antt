@@ -52,7 +52,7 @@ same-length c = search needs
 
 returns-3 : tie.Need-returns-3
 unfolding draftOf
-returns-3 c = described _ _ _ _ _ (c .before .before .before .before .before .before .before .before .before .before .before .before .ok-described .ensures) (not-false _ (c .before .before .before .before .before .before .before .before .before .before .before .if1 .left)) (passed (front-step (c .before .before .before .before .before .before .before .before .before .message .ensures .0) (c .before .before .before .before .before .before .before .before .before .message .ensures .1)) (length-replicate {A = ℕ} 2048 0) (c .before .before .before .before .before .before .before .if2 .left) _ (c .before .before .before .before .before .accepts .ensures) (c .before .before .hand .ensures .0) (c .before .before .hand .ensures .1))
+returns-3 c = described _ _ _ _ _ (c .before .before .before .before .before .before .before .before .before .before .before .before .ok-described .ensures) (not-false _ (c .before .before .before .before .before .before .before .before .before .before .before .if1 .left)) (passed (front-step (c .before .before .before .before .before .before .before .before .before .message .ensures .0) (c .before .before .before .before .before .before .before .before .before .message .ensures .1)) (rw (length-replicate {A = ℕ} 2048 0) (c .before .before .before .before .before .before .before .if2 .left)) _ (c .before .before .before .before .before .accepts .ensures) (c .before .before .hand .ensures .0) (c .before .before .hand .ensures .1))
 
 pub write-spec : {M : Type 1} → statement M
 write-spec =
