@@ -27,7 +27,7 @@ use Rattle.node_state.specs.Table.{cell, rowLife, freed, putRow, lowestFree, is
 use Rattle.node.specs.Role.{roleOf, RoleIn, keyIn}
 use Rattle.node.specs.Call.{Call, After, barred, refuse, quiet, laterVerdict, verdictOn, answered, relayed, carriedOut, taken, received, nodeCall, Passed}
 use Rattle.node.specs.History.{isRelay, saysRelay}
-use Rattle.node_state.proofs.Rows.{Holds, put-other, same-holds, free-keeps, lowest-zero, unknown, row-admitted}
+use Rattle.node_state.proofs.Rows.{Holds, put-other, same-holds, life-least, free-keeps, lowest-zero, unknown, row-admitted}
 use Rattle.node.proofs.Outcomes.{passed}
 
 -- ---- the ways a node call can go
@@ -112,14 +112,14 @@ abbrev pub StillThere : Key → ℕ → ℕ → ℕ → List ℕ → Type 0
 StillThere k row then now t = (then + rowLife (k .first) ≤ now) ⊎ Holds t row k then
 
 module _ (k : Key) (row then : ℕ) where
-  pub freed-there : (r : Record) (t : List ℕ) (clock i room : ℕ) → 0 < rowLife (k .first) → Passed r t clock i room → StillThere k row then (r .clock) t
+  pub freed-there : (r : Record) (t : List ℕ) (clock i room : ℕ) → Passed r t clock i room → StillThere k row then (r .clock) t
       → StillThere k row then clock (freed clock t)
-  freed-there r t clock i room some p (inl over) = inl (le-trans over (p .later))
-  freed-there r t clock i room some p (inr h) = go (decLt (clock - then) (rowLife (k .first)))
+  freed-there r t clock i room p (inl over) = inl (le-trans over (p .later))
+  freed-there r t clock i room p (inr h) = go (decLt (clock - then) (rowLife (k .first)))
     where
       go : Dec (clock - then < rowLife (k .first)) → StillThere k row then clock (freed clock t)
       go (yes live) = inr (free-keeps clock t row k then h live)
-      go (no dead) = inl (omega arith)
+      go (no dead) = inl (omega (arith, life-least (k .first)))
 
   -- the call's clock isn't before the row's
   pub there-past : (r : Record) (t : List ℕ) (clock i room : ℕ) → Passed r t clock i room → StillThere k row then (r .clock) t → then ≤ clock

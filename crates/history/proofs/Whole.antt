@@ -30,7 +30,7 @@ use Rattle.node.specs.Call.{Call, After, relayed, nodeCall}
 use Rattle.node.specs.History.{Event, call, links, Step, steps, finally, isRelay, saysRelay, maskOf, lengthOf, Told, told, relaysOf, given, sent, clockOf, arrivedOn, interfacesIn, copies, copiesOf, SameKey, apartBy, Apart, GoesOut, Near, Few, WholeList}
 use Rattle.node.specs.Demand.{Demand3}
 use Rattle.node_state.proofs.Masks.{record-links, up-below, taken-down}
-use Rattle.node_state.proofs.Rows.{put-holds, length-free, table-sized}
+use Rattle.node_state.proofs.Rows.{put-holds, length-free, life-least, table-sized}
 use Rattle.node_state.proofs.Keys.{key-life, key-used}
 use Rattle.node.proofs.Outcomes.{arrives}
 use Rattle.node.proofs.Spreads.{role-spreading}
@@ -66,11 +66,6 @@ row-used : (x : Step) (s : Spread) → 0 < keyIn (x .call .message) s .first
 unfolding keyIn
 row-used x s = key-used (s .flood) (s .session) (held (x .call .message) (s .initiator))
 
-least-life : (f : Bool) → 60000 ≤ pick f 120000 60000
-unfolding pick
-least-life true = omega arith
-least-life false = omega arith
-
 -- how long a row lives, as the demand has it
 kind-life : (f : Bool) → apartBy (pick f 9 1) ≡ pick f 120000 60000
 unfolding apartBy pick
@@ -89,12 +84,6 @@ module _ (x : Step) (s : Spread) (k : Known x s) where
   row-life : rowLife (keyIn (x .call .message) s .first) ≡ pick (s .flood) 120000 60000
   unfolding keyIn
   row-life = key-life (s .flood) (s .session) (held (x .call .message) (s .initiator)) session-small
-
-  row-least : 60000 ≤ rowLife (keyIn (x .call .message) s .first)
-  row-least = rw row-life (least-life (s .flood))
-
-  row-lives : 0 < rowLife (keyIn (x .call .message) s .first)
-  row-lives = let h = row-least in omega arith
 
   known-apart : apartBy (given x .kind) ≡ rowLife (keyIn (x .call .message) s .first)
   known-apart = ap (λ (g : Told). apartBy (g .kind)) known-given ∙ kind-life (s .flood) ∙ sym row-life
@@ -136,7 +125,7 @@ module _ (x : Step) (s : Spread) (k : Known x s) where
               let new : isKnown key t ≡ false = rw (same-key x y s s′ k ky same) (ky .facts .new) in
               rw (known-apart x s k) (one-key key (rowOf x) (clockOf x) (clockOf y) t (k .facts .room) there new);
         };
-        rows = λ e. le-trans (more (clockOf x) (row-least x s k)) (one-row key (rowOf x) (clockOf x) (clockOf y) t (row-used x s) (ky .facts .room) there e);
+        rows = λ e. le-trans (more (clockOf x) (life-least (key .first))) (one-row key (rowOf x) (clockOf x) (clockOf y) t (row-used x s) (ky .facts .room) there e);
       }
     where
       more : {a b : ℕ} (n : ℕ) → a ≤ b → n + a ≤ n + b
@@ -147,11 +136,11 @@ module _ (x : Step) (s : Spread) (k : Known x s) where
   unfolding clocked relayed tallied
   there-on r t c b (stayed nb tb e) there = rw (nb, tb) there
   there-on r t c b (ended p nb tb e) there =
-      rw (nb, tb) (freed-there (keyIn (x .call .message) s) (rowOf x) (clockOf x) r t (c .clock) (c .interface) (length (c .output)) (row-lives x s k) p there)
+      rw (nb, tb) (freed-there (keyIn (x .call .message) s) (rowOf x) (clockOf x) r t (c .clock) (c .interface) (length (c .output)) p there)
   there-on r t c b (went s′ f e) there =
       rw e
       (put-there (keyIn (x .call .message) s) (rowOf x) (clockOf x) (keyIn (c .message) s′) (c .clock) (freed (c .clock) t) (row-used x s) (f .room)
-      (freed-there (keyIn (x .call .message) s) (rowOf x) (clockOf x) r t (c .clock) (c .interface) (length (c .output)) (row-lives x s k) (f .passes) there))
+      (freed-there (keyIn (x .call .message) s) (rowOf x) (clockOf x) r t (c .clock) (c .interface) (length (c .output)) (f .passes) there))
 
 says-relay : (r : Record) (t : List ℕ) (c : Call) (s : Spread) (b : After) → b ≡ relayed (clocked r (c .clock)) (freed (c .clock) t) c s → saysRelay (b .called .reply) ≡ true
 unfolding relayed saysRelay isRelay
@@ -175,7 +164,7 @@ future x s k (call c ∷ es) r t there =
     listed r t c b (Every (Behind x)) (relaysOf (steps (b .called .node) (b .table) es)) (view r t c) rest
     (λ s′ k′. (
       known-behind x s k (stepOf r t c b) s′ k′ (there-past key (rowOf x) (clockOf x) r t (c .clock) (c .interface) (length (c .output)) (k′ .facts .passes) there)
-          (freed-there key (rowOf x) (clockOf x) r t (c .clock) (c .interface) (length (c .output)) (row-lives x s k) (k′ .facts .passes) there),
+          (freed-there key (rowOf x) (clockOf x) r t (c .clock) (c .interface) (length (c .output)) (k′ .facts .passes) there),
       rest,
     ))
 future x s k (links mask ∷ es) r t there = future x s k es (setLinks r mask .node) t (rw (links-keep r mask .clock) there)

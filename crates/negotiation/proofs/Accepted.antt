@@ -18,8 +18,8 @@ use Rattle.negotiation.specs.declared.Stepped.the-variants.{Refused, Mov
 use Rattle.negotiation.specs.Step.{moveOf, stateStep, readingStep, step}
 use Rattle.negotiation.specs.Allowed.{Allowed, Opened}
 use Rattle.negotiation.specs.Turns.{Sent, after, answered}
-use Rattle.negotiation.proofs.Ways.{Judged, state-judged, allowed-moves}
-use Rattle.negotiation.proofs.Readings.{reading-number, request-count}
+use Rattle.negotiation.proofs.Ways.{Judged, state-judged, allowed-moves, request-move}
+use Rattle.negotiation.proofs.Readings.{SmallMove, reading-number, reading-small}
 
 -- an answer is a refusal or a state
 refused-or-moved : {number : ℕ} {next : State} {x : Stepped} → x ≡ Refused number → x ≡ Moved next → ⊥
@@ -92,7 +92,7 @@ request-opens state message sender next m read kind moved = by (judged state mes
           names = n;
           counts = c;
           least = least;
-          most = request-count message read n c;
+          most = subst SmallMove (request-move n c) (reading-small message read);
           before = refl;
           after = refl;
         }

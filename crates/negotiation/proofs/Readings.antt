@@ -38,11 +38,9 @@ use Rattle.message.specs.Read.{byKind, judgedShape, shaped, framed, examined, p
 use Rattle.negotiation.specs.declared.Move.{Move}
 use Rattle.negotiation.specs.declared.Move.the-variants.{Request, Negotiate, Wait, End, Other}
 use Rattle.negotiation.specs.Step.{moveOf}
-use Rattle.negotiation.specs.Allowed.{Names, HasCount}
-use Rattle.negotiation.proofs.Ways.{request-move}
 
 -- ---- a Request's count
-abbrev SmallMove : Move → Type 0
+abbrev pub SmallMove : Move → Type 0
 SmallMove (Request session count) = count ≤ 255
 SmallMove (Negotiate session count) = Unit {0}
 SmallMove (Wait session) = Unit {0}
@@ -193,5 +191,5 @@ pub reading-number : (s : List ℕ) {number : ℕ} → readOf s ≡ Reading.Refu
 reading-number s e = subst SoundReading e (read-sound s)
 
 -- No Request is read with a count over 255.
-pub request-count : (s : List ℕ) {m : Message} {session count : ℕ} → readOf s ≡ Reading.Read m → Names m 3 session → HasCount m count → count ≤ 255
-request-count s e n c = subst SmallMove (request-move n c) (subst SoundReading e (read-sound s))
+pub reading-small : (s : List ℕ) {m : Message} → readOf s ≡ Reading.Read m → SmallMove (moveOf m)
+reading-small s e = subst SoundReading e (read-sound s)

@@ -154,6 +154,11 @@ free-dead now t (suc n) i h dead = go (free-judged now t n) (ℕ-discrete i n) (
         pick-case (λ f. Holds f i noKey 0) _
         (λ e. same-holds (freeRows now t n) (putRow (freeRows now t n) n noKey 0) i (λ j l. put-other (freeRows now t n) n noKey 0 i j ne l) rest) (λ e. rest)
 
+-- no row lives for less than 60,000 ms
+pub life-least : (first : ℕ) → 60000 ≤ rowLife first
+unfolding rowLife
+life-least first = both (λ (n : ℕ). 60000 ≤ n) _ (omega arith) (omega arith)
+
 pub free-keeps : (now : ℕ) (t : List ℕ) (i : ℕ) (k : Key) (d : ℕ) → Holds t i k d → now - d < rowLife (k .first) → Holds (freed now t) i k d
 unfolding rowDead freed
 free-keeps now t i k d h live =

@@ -27,9 +27,9 @@ pub read-none : (s : List ℕ) → length s ≡ 0 → Reading.Refused 1 ≡ read
 unfolding readOf examined placeless pick
 read-none s e = rw (eq-eqb (length s) 0 e)
 
-pub read-long : (s : List ℕ) → length s ≢ 0 → mostBytes < length s → Reading.Refused 1 ≡ readOf s
+pub read-long : (s : List ℕ) → mostBytes < length s → Reading.Refused 1 ≡ readOf s
 unfolding readOf examined placeless pick
-read-long s some h = rw (ne-eqb (length s) 0 some, lt-ltb mostBytes (length s) h)
+read-long s h = rw (ne-eqb (length s) 0 (λ z. omega arith), lt-ltb mostBytes (length s) h)
 
 -- neither: the walk is asked first
 fitting : (s : List ℕ) → length s ≢ 0 → length s ≤ mostBytes → examined s ≡ framed s (firstItem 0 s)

@@ -27,7 +27,7 @@ use Rattle.describe.specs.Describe as D
 use Rattle.describe.specs.Rows as R
 use Rattle.roundtrip.specs.Plain.{valueBytes, plain}
 use Rattle.roundtrip.specs.Says.{PlaceSays, PairSays, Rows, ExtraSays, OutcomeSays, Says}
-use Rattle.roundtrip.proofs.Encodes.{pairs-many}
+use Rattle.roundtrip.proofs.Encodes.{plain-encodes, pairs-many}
 use Rattle.roundtrip.proofs.Places.{past-item, stands-whole, opened-place}
 use Rattle.rewrite.specs.Lent.{rowsLent}
 use Rattle.rewrite.proofs.Filled.{joined, rows-many, lent, told-rows}
@@ -112,38 +112,38 @@ module _ (s : List ℕ) where
 
   -- ---- the kinds
   -- The description of what was read, with the rows in a list that has room for them, says the message that stands in the bytes.
-  pub kind-says : (list : List ℕ) {m : Message} {msg : Msg Value} {x : Item} → Describes s m msg → MessageItem x msg → Good x → depth x ≤ mostLevels → encode x ≡ s → encodeMsg (plain msg) ≡ s
+  pub kind-says : (list : List ℕ) {m : Message} {msg : Msg Value} {x : Item} → Describes s m msg → MessageItem x msg → Good x → depth x ≤ mostLevels → encode x ≡ s
       → R.rowsEnd m list ≤ length list → Says s (rowsLent s m list) (D.descriptionOf m) (plain msg)
   unfolding R.rowsEnd R.rowsFilled R.rowsIn R.endBy R.filledBy D.descriptionOf msgOf plain valued depth
-  kind-says list Describes.noop i g d e w room = record { parts = refl; is = refl }
-  kind-says list (Describes.discovery {session} k n from o) i g d e w room =
+  kind-says list Describes.noop i g d e room = record { parts = refl; is = refl }
+  kind-says list (Describes.discovery {session} k n from o) i g d e room =
       let c = string-cuts (from .stands) (from .held) in
       let goal = objective-goals o in
       record { parts = (refl, c .inside, goal .says); is = ap₂ (Msg.discovery session) (c .is) (goal .is) }
-  kind-says list (Describes.response {session} {ttl} k n from t aim extra) i g d e w room =
+  kind-says list (Describes.response {session} {ttl} k n from t aim extra) i g d e room =
       let c = string-cuts (from .stands) (from .held) in
       let (ls, rows, targets) = aim-lent list aim room in
       let (says, is) = extra-says extra in
       record { parts = (c .inside, rows .says, says); is = response-is (c .is) (targets _ (rows .are)) is }
-  kind-says list (Describes.request-negotiation {session} k n o) i g d e w room =
+  kind-says list (Describes.request-negotiation {session} k n o) i g d e room =
       let goal = objective-goals o in
       record { parts = (refl, goal .says); is = ap (Msg.request-negotiation session) (goal .is) }
-  kind-says list (Describes.request-synchronization {session} k n o) i g d e w room =
+  kind-says list (Describes.request-synchronization {session} k n o) i g d e room =
       let goal = objective-goals o in
       record { parts = (refl, goal .says); is = ap (Msg.request-synchronization session) (goal .is) }
-  kind-says list (Describes.negotiate {session} k n o) i g d e w room =
+  kind-says list (Describes.negotiate {session} k n o) i g d e room =
       let goal = objective-goals o in
       record { parts = (refl, goal .says); is = ap (Msg.negotiate session) (goal .is) }
-  kind-says list (Describes.end {session} outcome) i g d e w room = let (says, is) = ending-says session outcome w in record { parts = (refl, says); is = ap (Msg.end session) is }
-  kind-says list Describes.wait i g d e w room = record { parts = refl; is = refl }
-  kind-says list (Describes.synch {session} k n o) i g d e w room =
+  kind-says list (Describes.end {session} outcome) i g d e room = let (says, is) = ending-says session outcome (sym (plain-encodes g i) ∙ e) in record { parts = (refl, says); is = ap (Msg.end session) is }
+  kind-says list Describes.wait i g d e room = record { parts = refl; is = refl }
+  kind-says list (Describes.synch {session} k n o) i g d e room =
       let goal = objective-goals o in
       record { parts = (refl, goal .says); is = ap (Msg.synch session) (goal .is) }
-  kind-says list (Describes.flood {session} {ttl} k n from t series h o) (MessageItem.flood sy sz sv pairs) g d e w room =
+  kind-says list (Describes.flood {session} {ttl} k n from t series h o) (MessageItem.flood sy sz sv pairs) g d e room =
       let c = string-cuts (from .stands) (from .held) in
       let stand = past-item (opened-place (stands-whole g e) k n from .0) (t .stands) .0 in
       let rows = pairs-lent list (omega (arith, d)) stand pairs (series .many ∙ pairs-count (series .are)) room in
       record { parts = (c .inside, rows .says); is = ap₂ (λ (i : List ℕ) (ps : List (Pair (List ℕ))). Msg.flood session i ttl ps) (c .is) (rows .are) }
-  kind-says list (Describes.invalid {session} k n v end) i g d e w room =
+  kind-says list (Describes.invalid {session} k n v end) i g d e room =
       let c = value-cuts v in
       record { parts = (refl, c .inside); is = ap (Msg.invalid session) (c .is) }

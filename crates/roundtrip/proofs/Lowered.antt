@@ -37,7 +37,7 @@ use Rattle.message.specs.Shape.{discovered, discoveryAt}
 use Rattle.message.specs.Sequence.{pairsFrom}
 use Rattle.message.specs.Flood.{floodedBy, floodedOf, floodedAt, floodBy, floodAt}
 use Rattle.message.specs.Read.{byKind, judgedShape, shaped}
-use Rattle.message.proofs.Parts.{OfKind, ShapeParts, initiated, kind-parts}
+use Rattle.message.proofs.Parts.{MessageParts, OfKind, ShapeParts, initiated, kind-parts}
 use Rattle.contents.specs.Fields.{sessionOf, initiatorOf}
 use Rattle.roundtrip.specs.Lower.{Lowers, Relays}
 use Rattle.roundtrip.proofs.Moved.{PairsMove, none-before, pairs-move}
@@ -296,19 +296,19 @@ module _ (u h r : List ℕ) (n : ℕ) where
         relays = relays (c .shape .objective) (held-kept u (h ++ r) (head 0 n ++ r) i (c .within)) (c .shape .count);
       }
 
-  -- its kind is the message's
-  of-kind : (m : Message) (end : ℕ) → Led old m end → OfKind (kind .arg) m
-  of-kind m end l = subst (ShapeParts old (kind .arg)) (l .shape) (kind-parts old (kind .arg) (array .arg) (kind .next)) .0
+  -- its kind is the message's, and its parts lie in it
+  of-kind : (m : Message) (end : ℕ) → Led old m end → OfKind (kind .arg) m × MessageParts old m
+  of-kind m end l = subst (ShapeParts old (kind .arg)) (l .shape) (kind-parts old (kind .arg) (array .arg) (kind .next))
 
-  pub message-recounted : n ≤ 255 → {m : Message} {o : Objective} (end : ℕ) → Lowers m o → CountAt u h 0 o → n ≡ o .count - 1 → shaped old ≡ E.Accepted m end → MessageRecounted m o end
+  pub message-recounted : {m : Message} {o : Objective} (end : ℕ) → Lowers m o → CountAt u h 0 o → n ≡ o .count - 1 → shaped old ≡ E.Accepted m end → MessageRecounted m o end
   unfolding byKind sessionOf initiatorOf pick
-  message-recounted few end (Lowers.discovery {session} {i} {o}) place lower q =
+  message-recounted end (Lowers.discovery {session} {i} {o}) place lower q =
       let l = led old q in
-      let one : kind .arg ≡ 1 = of-kind (M.Discovery session i o) end l in
-      whole (M.Discovery session i) o end i l (omega arith) (rw one (discovery-recounted few (array .arg) (kind .next) session i o end place (rw one at (l .shape))))
+      let (one, parts) = of-kind (M.Discovery session i o) end l in
+      whole (M.Discovery session i) o end i l (omega arith) (rw one (discovery-recounted (omega (arith, parts .objective .limit)) (array .arg) (kind .next) session i o end place (rw one at (l .shape))))
       (λ o′ same e. record { kind = refl; session = refl; initiator = same; objective = o′; lowers = Lowers.discovery; lower = e ∙ lower })
-  message-recounted few end (Lowers.flood {session} {ttl} {i} {o} {series}) place lower q =
+  message-recounted end (Lowers.flood {session} {ttl} {i} {o} {series}) place lower q =
       let l = led old q in
-      let nine : kind .arg ≡ 9 = of-kind (M.Flood session i ttl o series) end l in
-      whole (λ o. M.Flood session i ttl o series) o end i l (omega arith) (rw nine (flood-recounted few (array .arg) (kind .next) session i ttl o series end place (rw nine at (l .shape))))
+      let (nine, parts) = of-kind (M.Flood session i ttl o series) end l in
+      whole (λ o. M.Flood session i ttl o series) o end i l (omega arith) (rw nine (flood-recounted (omega (arith, parts .0 .objective .limit)) (array .arg) (kind .next) session i ttl o series end place (rw nine at (l .shape))))
       (λ o′ same e. record { kind = refl; session = refl; initiator = same; objective = o′; lowers = Lowers.flood; lower = e ∙ lower })

@@ -209,7 +209,7 @@ lowered-reads s m o q low =
     let (most, parts) = read-parts s m q in
     let h = lowers-parts s low parts in
     reads-lower s o h
-    (message-recounted (before s o) (between s o) (drop (o .value .at) s) (o .count - 1) (omega (arith, h .limit)) (length s) low (count-at s o h) refl
+    (message-recounted (before s o) (between s o) (drop (o .value .at) s) (o .count - 1) (length s) low (count-at s o h) refl
     (ap shaped (spelt-whole s o h) ∙ read-shaped s m q .1))
     most
 

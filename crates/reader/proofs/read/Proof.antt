@@ -13,7 +13,7 @@ returns : tie.Need-returns
 returns c = read-none _ (c .if1 .taken)
 
 returns-2 : tie.Need-returns-2
-returns-2 c = read-long _ (c .before .if1 .left) (c .if2 .taken)
+returns-2 c = read-long _ (c .if2 .taken)
 
 examine-requires : tie.Need-examine-requires
 examine-requires c κs = search needs
