@@ -26,7 +26,7 @@ use Rattle.node_state.specs.Record.{fresh, others, clocked, tallied, setLinks}
 use Rattle.node_state.specs.Table.{freshTable, rowLife, freed, lowestFree, isKnown}
 use Rattle.node.specs.Role.{keyIn}
 use Rattle.roundtrip.specs.Lower.{onward}
-use Rattle.node.specs.Call.{Call, After, relayed, nodeCall}
+use Rattle.node.specs.Call.{Call, After, relayed, nodeCall, Passed}
 use Rattle.node.specs.History.{Event, call, links, Step, steps, finally, isRelay, saysRelay, maskOf, lengthOf, Told, told, relaysOf, given, sent, clockOf, arrivedOn, interfacesIn, copies, copiesOf, SameKey, apartBy, Apart, GoesOut, Near, Few, WholeList}
 use Rattle.node.specs.Demand.{Demand3}
 use Rattle.node_state.proofs.Masks.{record-links, up-below, taken-down}
@@ -208,15 +208,16 @@ module _ (x : Step) (s : Spread) (is : x .after ≡ relayed (clocked (x .node) (
   unfolding copies
   went-copies = ap (interfacesIn 8) went-mask
 
-module _ (x : Step) (s : Spread) (facts : Relays (x .node) (x .table) (x .call) s) where
+-- the copies of a call that passed its checks
+module _ (x : Step) (passes : Passed (x .node) (x .table) (x .call .clock) (x .call .interface) (length (x .call .output))) where
   small-mask : outgoing x < 2 ^ x .node .interfaces
   unfolding outgoing
-  small-mask = let f = record-links (x .node) (facts .passes .good) .small in omega arith
+  small-mask = let f = record-links (x .node) (passes .good) .small in omega arith
 
   copies-differ : Every (λ j. j ≢ x .call .interface) (interfacesIn 8 (outgoing x))
   unfolding outgoing
   copies-differ =
-      let up = arrives (x .node) (x .call .interface) (facts .passes .good) (facts .passes .arrives) .up in
+      let up = arrives (x .node) (x .call .interface) (passes .good) (passes .arrives) .up in
       every-imp (λ j. (j < 8) × (hasBit (outgoing x) j ≡ true)) (λ j. j ≢ x .call .interface)
       (λ j h e. not-both (hasBit (outgoing x) (x .call .interface)) (subst (λ (z : ℕ). hasBit (outgoing x) z ≡ true) e (h .1)) (taken-down (x .node .links) (x .call .interface) up))
       (interfacesIn 8 (outgoing x)) (interfaces-up 8 (outgoing x))
@@ -226,10 +227,10 @@ module _ (x : Step) (s : Spread) (facts : Relays (x .node) (x .table) (x .call) 
       every-imp (λ j. (j < 8) × (hasBit (outgoing x) j ≡ true)) (λ j. j < x .node .interfaces) (λ j h. up-below (x .node .interfaces) (outgoing x) j small-mask (h .1))
       (interfacesIn 8 (outgoing x)) (interfaces-up 8 (outgoing x))
 
-  went-tally : x .after ≡ relayed (clocked (x .node) (x .call .clock)) (freed (x .call .clock) (x .table)) (x .call) s → x .after .called .node .tally ≡ x .node .tally + length (copies x)
+  went-tally : (s : Spread) → x .after ≡ relayed (clocked (x .node) (x .call .clock)) (freed (x .call .clock) (x .table)) (x .call) s → x .after .called .node .tally ≡ x .node .tally + length (copies x)
   unfolding relayed tallied clocked others outgoing
-  went-tally is =
-      let fits : outgoing x < 2 ^ 8 = le-trans small-mask (pow-mono (record-links (x .node) (facts .passes .good) .most)) in
+  went-tally s is =
+      let fits : outgoing x < 2 ^ 8 = le-trans small-mask (pow-mono (record-links (x .node) (passes .good) .most)) in
       ap (λ (z : After). z .called .node .tally) is
       ∙ ap (λ (z : ℕ). x .node .tally + z) (sym (length-interfaces 8 (outgoing x) fits) ∙ ap length (sym (went-copies x s is)))
 
@@ -246,19 +247,19 @@ module _ (x : Step) (s : Spread) (k : Known x s) where
   unfolding arrivedOn rowOf
   known-sound =
       let below = arrives (x .node) (x .call .interface) (k .facts .passes .good) (k .facts .passes .arrives) .below in
-      let others-differ = every-imp (λ j. j ≢ x .call .interface) (λ j. x .call .interface ≢ j) (λ j d e. d (sym e)) (interfacesIn 8 (outgoing x)) (copies-differ x s (k .facts)) in
+      let others-differ = every-imp (λ j. j ≢ x .call .interface) (λ j. x .call .interface ≢ j) (λ j d e. d (sym e)) (interfacesIn 8 (outgoing x)) (copies-differ x (k .facts .passes)) in
       let same = went-copies x s (k .is) in
       record {
         out = record {
           once = rw same (interfaces-distinct 8 (outgoing x));
-          there = rw same (copies-below x s (k .facts));
-          onward = rw same (copies-differ x s (k .facts));
+          there = rw same (copies-below x (k .facts .passes));
+          onward = rw same (copies-differ x (k .facts .passes));
           positive = rw known-sent (omega (arith, k .facts .counts));
           lower = rw (known-sent, known-given x s k) (omega (arith, k .facts .counts));
         };
         row = k .facts .room;
         some-left =
-            rw same (omega (arith, pigeonhole (x .node .interfaces) (x .call .interface ∷ interfacesIn 8 (outgoing x)) (others-differ, interfaces-distinct 8 (outgoing x)) (below, copies-below x s (k .facts))));
+            rw same (omega (arith, pigeonhole (x .node .interfaces) (x .call .interface ∷ interfacesIn 8 (outgoing x)) (others-differ, interfaces-distinct 8 (outgoing x)) (below, copies-below x (k .facts .passes))));
       }
 
 sound : (n : ℕ) (es : List Event) → (r : Record) (t : List ℕ) → r .interfaces ≡ n → Every (Sound n) (relaysOf (steps r t es))
@@ -278,7 +279,7 @@ tally-on : (r : Record) (t : List ℕ) (c : Call) (b : After) (rest : List Step)
 unfolding pick clocked copiesOf
 tally-on r t c b rest (stayed nb tb e) = rw (e, nb) refl
 tally-on r t c b rest (ended p nb tb e) = rw (e, nb) refl
-tally-on r t c b rest (went s k e) = rw (says-relay r t c s b e) (omega (arith, went-tally (stepOf r t c b) s k e))
+tally-on r t c b rest (went s k e) = rw (says-relay r t c s b e) (omega (arith, went-tally (stepOf r t c b) (k .passes) s e))
 
 total : (es : List Event) (r : Record) (t : List ℕ) → finally r t es .tally ≡ r .tally + copiesOf (relaysOf (steps r t es))
 unfolding steps relaysOf finally copiesOf

@@ -3,12 +3,12 @@
 pub mod Read
 pub mod Relay
 pub mod Write
--- For callers' proofs: items that are messages, encoded; where a message's items stand; pairs read at another place.
+-- For callers' proofs: items that are messages, encoded; where a message's items stand.
 pub mod Encodes
 pub mod Places
-pub mod Moved
--- For the proofs of this crate: where the count stands; messages that are encoded alike are the same; what the judge passes; bytes
--- handed over.
+-- For the proofs of this crate: pairs read at another place, a count's head replaced in a part and in a message, where the count stands; messages
+-- that are encoded alike are the same; what the judge passes; bytes handed over.
+mod Moved
 mod Recounted
 mod Lowered
 mod Counts
