@@ -6,6 +6,7 @@ use mathlib.Core.Bool.{Bool, true, false}
 use mathlib.Core.List.{List}
 use native.Mathlib.Numerals.{add-one}
 use native.Mathlib.Nat.{sub-zero, add-sub-cancel-left}
+use native.Mathlib.Decide.{decLt}
 use native.Mathlib.Omega.{arith}
 use lib.ListN.{length, take, drop}
 use borrow.Author.Tests.{eq-eqb, ne-eqb}
@@ -19,9 +20,13 @@ module _ (p : ℕ → Bool) (n i : ℕ) where
   left : i < n → n - i ≡ suc (n - (i + 1))
   left h = omega arith
 
-  pub all-step : i < n → p i ≡ true → allFrom p (n - i) i ≡ allFrom p (n - (i + 1)) (i + 1)
+  pub all-step : p i ≡ true → allFrom p (n - i) i ≡ allFrom p (n - (i + 1)) (i + 1)
   unfolding allFrom pick
-  all-step h e = rw (left h, e, add-one i)
+  all-step e = go (decLt i n)
+    where
+      go : Dec (i < n) → allFrom p (n - i) i ≡ allFrom p (n - (i + 1)) (i + 1)
+      go (yes h) = rw (left h, e, add-one i)
+      go (no h) = let none : n - i ≡ 0 = omega arith in let none′ : n - (i + 1) ≡ 0 = omega arith in rw (none, none′)
 
   pub all-stop : i < n → p i ≡ false → allFrom p (n - i) i ≡ false
   unfolding allFrom pick

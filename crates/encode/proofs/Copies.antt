@@ -5,9 +5,10 @@ use mathlib.Core.Path.{_≡_, refl, sym, ap, _∙_}
 use mathlib.Core.List.{List, _++_, append-assoc}
 use native.Mathlib.Nat.{add-sub-cancel-left}
 use native.Mathlib.Numerals.{add-one}
+use native.Mathlib.Decide.{decLt}
 use native.Mathlib.Omega.{arith}
 use lib.ListN.{length, take, drop, getD, set, replicate, length-replicate, getD-replicate}
-use lib.Seq.{take-all, take-suc, take-suc-set, drop-drop, sets-eq}
+use lib.Seq.{take-all, take-suc, take-suc-set, set-out, drop-drop, sets-eq}
 use borrow.Author.Tests.{le-leb, lt-leb}
 use Rattle.base.specs.Pick.{pick}
 use Rattle.encode.specs.Put.{allEnd, allPut}
@@ -19,13 +20,17 @@ pub copy-done : (to s : List ℕ) (i : ℕ) → length s ≤ i → length to ≡
 copy-done to s i h g e = sym (take-all i to (omega arith)) ∙ e ∙ take-all i s h
 
 -- the same with zeros
-pub clear-turn : (to : List ℕ) (n i : ℕ) → i < length to → length to ≡ n → take i to ≡ take i (replicate n 0) → take (i + 1) (set to i 0) ≡ take (i + 1) (replicate n 0)
-clear-turn to n i h g e =
-    ap (λ (x : ℕ). take (i + 1) (set to i x)) (sym (getD-replicate n i 0 0 (omega arith)))
-    ∙ copy-turn to (replicate n 0) i h (omega (arith, length-replicate {A = ℕ} n 0)) e
-
 pub clear-done : (to : List ℕ) (n i : ℕ) → length to ≤ i → length to ≡ n → take i to ≡ take i (replicate n 0) → to ≡ replicate n 0
 clear-done to n i h g e = copy-done to (replicate n 0) i (omega (arith, length-replicate {A = ℕ} n 0)) (omega (arith, length-replicate {A = ℕ} n 0)) e
+
+pub clear-turn : (to : List ℕ) (n i : ℕ) → length to ≡ n → take i to ≡ take i (replicate n 0) → take (i + 1) (set to i 0) ≡ take (i + 1) (replicate n 0)
+clear-turn to n i g e = go (decLt i (length to))
+  where
+    go : Dec (i < length to) → take (i + 1) (set to i 0) ≡ take (i + 1) (replicate n 0)
+    go (yes h) =
+        ap (λ (x : ℕ). take (i + 1) (set to i x)) (sym (getD-replicate n i 0 0 (omega arith)))
+        ∙ copy-turn to (replicate n 0) i h (omega (arith, length-replicate {A = ℕ} n 0)) e
+    go (no h) = ap (take (i + 1)) (set-out to i 0 (omega arith) ∙ clear-done to n i (omega arith) g e)
 
 -- ---- the ends of `all`
 module _ (l bs : List ℕ) (at : ℕ) where

@@ -5,9 +5,10 @@ use mathlib.Core.Path.{_≡_, refl, sym, ap, _∙_}
 use mathlib.Core.List.{List, [], _∷_, flatMap, append-nil}
 use native.Mathlib.Nat.{mul-suc}
 use native.Mathlib.Numerals.{towards-suc}
+use native.Mathlib.Decide.{decLt}
 use native.Mathlib.Omega.{arith}
 use lib.ListN.{length, getD, set, take, drop, length-append, length-drop}
-use lib.Seq.{sets, sets-eq, take-all, take-add, drop-at, drop-cons, drop-drop}
+use lib.Seq.{set-out, sets, sets-eq, take-all, take-add, drop-at, drop-cons, drop-drop}
 use Rattle.base.specs.BigEndian.{Bytes, bigEndian, bytesOf}
 use Rattle.base.specs.Lists.{Every}
 use Rattle.base.proofs.Digits.{length-bytes, read-back, spelled}
@@ -34,21 +35,34 @@ module _ (b : List ℕ) where
   unfolding loaded
   load-begun t l = sets-all t (numbersIn tableNumbers b) (length-numbers tableNumbers b ∙ sym l)
 
-  load-step : (i : ℕ) (t : List ℕ) → i < tableNumbers → Loading i t → Loading (suc i) (set t i (bigEndian (drop (8 * i) b) 8))
-  unfolding numbersIn
-  load-step i t h l =
-      let e : tableNumbers - i ≡ suc (tableNumbers - suc i) = omega arith in
-      rw (mul-suc 8 i) (rw (e, drop-drop 8 (8 * i) b) at l)
+  load-step : (i : ℕ) (t : List ℕ) → Loading i t → Loading (suc i) (set t i (bigEndian (drop (8 * i) b) 8))
+  unfolding numbersIn loaded
+  load-step i t l = go (decLt i tableNumbers)
+    where
+      go : Dec (i < tableNumbers) → Loading (suc i) (set t i (bigEndian (drop (8 * i) b) 8))
+      go (yes h) =
+          let e : tableNumbers - i ≡ suc (tableNumbers - suc i) = omega arith in
+          rw (mul-suc 8 i) (rw (e, drop-drop 8 (8 * i) b) at l)
+      go (no h) =
+          let none : tableNumbers - i ≡ 0 = omega arith in
+          let none′ : tableNumbers - suc i ≡ 0 = omega arith in
+          let is : t ≡ loaded b = rw none at l in
+          rw none′ (set-out t i (bigEndian (drop (8 * i) b) 8) (omega (arith, ap length is, length-numbers tableNumbers b)) ∙ is)
 
-  pub load-turn : (i x₀ x₁ x₂ x₃ : ℕ) (t : List ℕ) → i + 4 ≤ tableNumbers → Loading i t → x₀ ≡ bigEndian (drop (8 * i) b) 8 → x₁ ≡ bigEndian (drop (8 * (i + 1)) b) 8
+  pub load-turn : (i x₀ x₁ x₂ x₃ : ℕ) (t : List ℕ) → Loading i t → x₀ ≡ bigEndian (drop (8 * i) b) 8 → x₁ ≡ bigEndian (drop (8 * (i + 1)) b) 8
       → x₂ ≡ bigEndian (drop (8 * (i + 2)) b) 8 → x₃ ≡ bigEndian (drop (8 * (i + 3)) b) 8 → Loading (i + 4) (set (set (set (set t i x₀) (i + 1) x₁) (i + 2) x₂) (i + 3) x₃)
-  load-turn i x₀ x₁ x₂ x₃ t h l q₀ q₁ q₂ q₃ =
+  load-turn i x₀ x₁ x₂ x₃ t l q₀ q₁ q₂ q₃ =
       simp (q₀, q₁, q₂, q₃, towards-suc)
-      (load-step _ _ (omega arith) (load-step _ _ (omega arith) (load-step _ _ (omega arith) (load-step i t (omega arith) l))))
+      (load-step _ _ (load-step _ _ (load-step _ _ (load-step i t l))))
 
   pub load-done : (t : List ℕ) → Loading tableNumbers t → t ≡ loaded b
   unfolding numbersIn
   load-done t l = l
+
+-- nothing is stored past the end
+sets-out : (l : List ℕ) (i : ℕ) (vs : List ℕ) → length l ≤ i → sets l i vs ≡ l
+sets-out l i [] h = refl
+sets-out l i (v ∷ vs) h = ap (λ (m : List ℕ). sets m (suc i) vs) (set-out l i v h) ∙ sets-out l (suc i) vs (omega arith)
 
 length-saved : (t : List ℕ) → length (saved t) ≡ 8 * length t
 unfolding saved flatMap
@@ -62,16 +76,22 @@ module _ (t : List ℕ) where
   pub save-begun : (b : List ℕ) → length t ≡ tableNumbers → length b ≡ tableBytes → Saving 0 b
   save-begun b l h = sets-all b (saved t) (omega (arith, length-saved t))
 
-  save-step : (i : ℕ) (b : List ℕ) → i < length t → Saving i b → Saving (suc i) (sets b (8 * i) (bytesOf 8 (getD t i 0)))
+  save-step : (i : ℕ) (b : List ℕ) → Saving i b → Saving (suc i) (sets b (8 * i) (bytesOf 8 (getD t i 0)))
   unfolding saved flatMap bytesOf
-  save-step i b h l = simp (mul-suc, towards-suc) (rw (drop-cons t i 0) at l)
+  save-step i b l = go (decLt i (length t))
+    where
+      go : Dec (i < length t) → Saving (suc i) (sets b (8 * i) (bytesOf 8 (getD t i 0)))
+      go (yes h) = simp (mul-suc, towards-suc) (rw (drop-cons t i 0 h) at l)
+      go (no h) =
+          let is : b ≡ saved t = rw (drop-past t i (omega arith)) at l in
+          rw (drop-past t (suc i) (omega arith)) (sets-out b (8 * i) (bytesOf 8 (getD t i 0)) (omega (arith, ap length is, length-saved t)) ∙ is)
 
-  pub save-turn : (i : ℕ) (b b₁ b₂ b₃ b₄ : List ℕ) → i + 4 ≤ length t → Saving i b → b₁ ≡ sets b (8 * i) (bytesOf 8 (getD t i 0))
+  pub save-turn : (i : ℕ) (b b₁ b₂ b₃ b₄ : List ℕ) → Saving i b → b₁ ≡ sets b (8 * i) (bytesOf 8 (getD t i 0))
       → b₂ ≡ sets b₁ (8 * (i + 1)) (bytesOf 8 (getD t (i + 1) 0)) → b₃ ≡ sets b₂ (8 * (i + 2)) (bytesOf 8 (getD t (i + 2) 0)) → b₄ ≡ sets b₃ (8 * (i + 3)) (bytesOf 8 (getD t (i + 3) 0))
       → Saving (i + 4) b₄
-  save-turn i b b₁ b₂ b₃ b₄ h l q₁ q₂ q₃ q₄ =
+  save-turn i b b₁ b₂ b₃ b₄ l q₁ q₂ q₃ q₄ =
       simp (q₄, q₃, q₂, q₁, towards-suc)
-      (save-step (suc (suc (suc i))) _ (omega arith) (save-step (suc (suc i)) _ (omega arith) (save-step (suc i) _ (omega arith) (save-step i b (omega arith) l))))
+      (save-step (suc (suc (suc i))) _ (save-step (suc (suc i)) _ (save-step (suc i) _ (save-step i b l))))
 
   pub save-done : (b : List ℕ) → length t ≡ tableNumbers → Saving tableNumbers b → b ≡ saved t
   unfolding saved flatMap

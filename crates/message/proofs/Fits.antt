@@ -97,10 +97,10 @@ module _ (s : List ℕ) (n from : ℕ) where
   unfolding locatorsFrom
   located-end left at bad e i = rw e at (i .same)
 
-  pub located-stop : (left at bad : ℕ) (b : Bool) → 0 < left → b ≡ textLed s at → b ≡ true → Located s n from left at bad → LocatorsRead.Ran at left bad ≡ locatorsFrom s n from 0
+  pub located-stop : (left at bad : ℕ) (b : Bool) → b ≡ textLed s at → b ≡ true → Located s n from left at bad → LocatorsRead.Ran at left bad ≡ locatorsFrom s n from 0
   unfolding locatorsFrom pick
-  located-stop zero at bad b h e t i = absurd (omega arith)
-  located-stop (suc m) at bad b h e t i = rw (sym e ∙ t) at (i .same)
+  located-stop zero at bad b e t i = i .same
+  located-stop (suc m) at bad b e t i = rw (sym e ∙ t) at (i .same)
 
   next : (m at bad : ℕ) (b : Bool) (r x : LocatorRead) → b ≡ textLed s at → b ≡ false → r ≡ locatorAt s at → r ≡ x → Located s n from (suc m) at bad
       → locatorThen (locatorsFrom s m) at bad x ≡ locatorsFrom s n from 0

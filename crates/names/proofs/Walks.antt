@@ -62,10 +62,10 @@ module _ (a b : List ℕ) (i : ℕ) (same : length a ≡ length b) where
 
 -- ---- names
 
-module _ (s : List ℕ) (at left : ℕ) (t : Token) (is : t ≡ tokenAt s at) (more : 0 < left) where
-  pub good-stop : goodName s t ≡ false → goodNames s left at ≡ false
+module _ (s : List ℕ) (at left : ℕ) (t : Token) (is : t ≡ tokenAt s at) where
+  pub good-stop : 0 < left → goodName s t ≡ false → goodNames s left at ≡ false
   unfolding goodNames
-  good-stop bad = go left more
+  good-stop more bad = go left more
     where
       go : (n : ℕ) → 0 < n → goodNames s n at ≡ false
       go zero h = absurd (omega arith)
@@ -73,15 +73,15 @@ module _ (s : List ℕ) (at left : ℕ) (t : Token) (is : t ≡ tokenAt s at) (m
 
   pub good-next : goodName s t ≡ true → goodNames s left at ≡ goodNames s (left - 1) (t .next)
   unfolding goodNames
-  good-next good = go left more
+  good-next good = go left
     where
-      go : (n : ℕ) → 0 < n → goodNames s n at ≡ goodNames s (n - 1) (t .next)
-      go zero h = absurd (omega arith)
-      go (suc n) h = let less : suc n - 1 ≡ n = omega arith in rw (← is, good, less) refl
+      go : (n : ℕ) → goodNames s n at ≡ goodNames s (n - 1) (t .next)
+      go zero = refl
+      go (suc n) = let less : suc n - 1 ≡ n = omega arith in rw (← is, good, less) refl
 
-  pub own-here : (name : List ℕ) → sameBytes (contentIn s t) name ≡ true → ownFrom s name left at ≡ true
+  pub own-here : 0 < left → (name : List ℕ) → sameBytes (contentIn s t) name ≡ true → ownFrom s name left at ≡ true
   unfolding ownFrom
-  own-here name here = go left more
+  own-here more name here = go left more
     where
       go : (n : ℕ) → 0 < n → ownFrom s name n at ≡ true
       go zero h = absurd (omega arith)
@@ -89,8 +89,8 @@ module _ (s : List ℕ) (at left : ℕ) (t : Token) (is : t ≡ tokenAt s at) (m
 
   pub own-next : (name : List ℕ) → sameBytes (contentIn s t) name ≡ false → ownFrom s name left at ≡ ownFrom s name (left - 1) (t .next)
   unfolding ownFrom
-  own-next name other = go left more
+  own-next name other = go left
     where
-      go : (n : ℕ) → 0 < n → ownFrom s name n at ≡ ownFrom s name (n - 1) (t .next)
-      go zero h = absurd (omega arith)
-      go (suc n) h = let less : suc n - 1 ≡ n = omega arith in rw (← is, other, less) refl
+      go : (n : ℕ) → ownFrom s name n at ≡ ownFrom s name (n - 1) (t .next)
+      go zero = refl
+      go (suc n) = let less : suc n - 1 ≡ n = omega arith in rw (← is, other, less) refl

@@ -294,12 +294,13 @@ row-admitted now t i e = go (row-good now t i e)
 -- ---- for the loops
 
 -- a search upwards, at its place i of n
-pub scan-here : (p : ℕ → Bool) (n i r : ℕ) → i < n → p i ≡ true → firstFrom p (n - i) i ≡ r → i ≡ r
+pub scan-here : (p : ℕ → Bool) (n i r : ℕ) → p i ≡ true → firstFrom p (n - i) i ≡ r → i ≡ r
 unfolding pick firstFrom
-scan-here p n i r l e h =
-    let here : firstFrom p (suc (n - suc i)) i ≡ i = rw e refl in
-    let left : suc (n - suc i) ≡ n - i = omega arith in
-    sym here ∙ ap (λ (m : ℕ). firstFrom p m i) left ∙ h
+scan-here p n i r e h = sym (here (n - i)) ∙ h
+  where
+    here : (m : ℕ) → firstFrom p m i ≡ i
+    here zero = refl
+    here (suc m) = rw e refl
 
 pub scan-next : (p : ℕ → Bool) (n i r : ℕ) → i < n → p i ≡ false → firstFrom p (n - i) i ≡ r → firstFrom p (n - (i + 1)) (i + 1) ≡ r
 unfolding pick firstFrom
@@ -315,7 +316,7 @@ scan-end p n i r l h = let z : n - i ≡ 0 = omega arith in rw z at h
 -- a search for some row
 pub some-here : (p : ℕ → Bool) (i : ℕ) → i < 64 → p i ≡ true → firstFrom p (64 - i) i ≡ firstFrom p 64 0 → true ≡ someRow p
 unfolding someRow
-some-here p i l e h = sym (lt-ltb (firstFrom p 64 0) 64 (let q = scan-here p 64 i (firstFrom p 64 0) l e h in omega arith))
+some-here p i l e h = sym (lt-ltb (firstFrom p 64 0) 64 (let q = scan-here p 64 i (firstFrom p 64 0) e h in omega arith))
 
 pub some-end : (p : ℕ → Bool) (i : ℕ) → 64 ≤ i → firstFrom p (64 - i) i ≡ firstFrom p 64 0 → false ≡ someRow p
 unfolding someRow

@@ -28,7 +28,7 @@ loop-less : tie.Need-loop-less Inv-loop μ-loop
 loop-less c = omega arith
 
 loop-again : tie.Need-loop-again Inv-loop μ-loop
-loop-again c = (omega arith, search needs, clear-turn _ _ _ (c .loop-test .taken) (c .before .loop .inv .1) (c .before .loop .inv .2))
+loop-again c = (omega arith, search needs, clear-turn (c .before .loop .out) _ (c .before .loop .i) (c .before .loop .inv .1) (c .before .loop .inv .2))
 
 same-length : tie.Need-same-length Inv-loop μ-loop
 same-length c = (c .before .loop .inv .1)

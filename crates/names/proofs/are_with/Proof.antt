@@ -57,7 +57,7 @@ loop-less : tie.Need-loop-less Inv-loop μ-loop
 loop-less c = omega arith
 
 loop-again : tie.Need-loop-again Inv-loop μ-loop
-loop-again c = sym (own-next (c .before .before .before .before .before .before .before .before .before .before .before .args .s .now) (c .before .before .before .before .before .loop .at) (c .before .before .before .before .before .loop .left) _ (c .before .before .before .token-at2 .ensures .is) (c .before .before .before .before .loop-test .taken) (c .before .before .before .before .before .before .before .before .before .before .before .args .name .now) (sym (c .before .are-same .ensures) ∙ c .if2 .left)) ∙ c .before .before .before .before .before .loop .inv
+loop-again c = sym (own-next (c .before .before .before .before .before .before .before .before .before .before .before .args .s .now) (c .before .before .before .before .before .loop .at) (c .before .before .before .before .before .loop .left) _ (c .before .before .before .token-at2 .ensures .is) (c .before .before .before .before .before .before .before .before .before .before .before .args .name .now) (sym (c .before .are-same .ensures) ∙ c .if2 .left)) ∙ c .before .before .before .before .before .loop .inv
 
 returns-3 : tie.Need-returns-3 Inv-loop μ-loop
 unfolding isOwn ownFrom pick

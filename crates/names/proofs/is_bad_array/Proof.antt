@@ -50,7 +50,7 @@ loop-less : tie.Need-loop-less Inv-loop μ-loop
 loop-less c = omega arith
 
 loop-again : tie.Need-loop-again Inv-loop μ-loop
-loop-again c = sym (good-next (c .before .before .before .before .before .before .before .before .before .before .before .args .s .now) (c .before .before .before .before .loop .at) (c .before .before .before .before .loop .left) _ (c .before .before .token-at2 .ensures .is) (c .before .before .before .loop-test .taken) (sym (c .before .is-good .ensures) ∙ not-false _ (c .if3 .left))) ∙ c .before .before .before .before .loop .inv
+loop-again c = sym (good-next (c .before .before .before .before .before .before .before .before .before .before .before .args .s .now) (c .before .before .before .before .loop .at) (c .before .before .before .before .loop .left) _ (c .before .before .token-at2 .ensures .is) (sym (c .before .is-good .ensures) ∙ not-false _ (c .if3 .left))) ∙ c .before .before .before .before .loop .inv
 
 returns-4 : tie.Need-returns-4 Inv-loop μ-loop
 unfolding arrayBad goodNames

@@ -39,7 +39,7 @@ loop-less c = search needs
 
 loop-again : tie.Need-loop-again Inv-loop μ-loop
 loop-again c =
-    (omega arith, sym (all-step (fieldFits (c .before .before .before .before .args .fields .now) (c .before .before .before .before .args .mask)) mostPlaces (c .before .before .before .loop .i) (omega (arith, c .before .before .loop-test .taken)) (sym (c .before .field-fits .ensures) ∙ not-false _ (c .if1 .left))) ∙ c .before .before .before .loop .inv .1)
+    (omega arith, sym (all-step (fieldFits (c .before .before .before .before .args .fields .now) (c .before .before .before .before .args .mask)) mostPlaces (c .before .before .before .loop .i) (sym (c .before .field-fits .ensures) ∙ not-false _ (c .if1 .left))) ∙ c .before .before .before .loop .inv .1)
 
 returns-2 : tie.Need-returns-2 Inv-loop μ-loop
 returns-2 c = sym (all-end (fieldFits (c .before .before .args .fields .now) (c .before .before .args .mask)) mostPlaces (c .before .loop .i) (omega (arith, c .loop-test .left))) ∙ c .before .loop .inv .1

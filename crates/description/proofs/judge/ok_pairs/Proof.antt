@@ -41,7 +41,7 @@ loop-less : tie.Need-loop-less Inv-loop μ-loop
 loop-less c = omega arith
 
 loop-again : tie.Need-loop-again Inv-loop μ-loop
-loop-again c = (omega arith, sym (all-step _ _ _ (c .before .before .loop-test .taken) (sym (c .before .ok-pair .ensures) ∙ not-false _ (c .if2 .left))) ∙ (c .before .before .before .loop .inv .1))
+loop-again c = (omega arith, sym (all-step _ _ _ (sym (c .before .ok-pair .ensures) ∙ not-false _ (c .if2 .left))) ∙ (c .before .before .before .loop .inv .1))
 
 returns-3 : tie.Need-returns-3 Inv-loop μ-loop
 returns-3 c = sym (all-end _ _ _ (c .loop-test .left)) ∙ (c .before .loop .inv .1)

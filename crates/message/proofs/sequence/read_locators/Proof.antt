@@ -32,7 +32,7 @@ text-led-requires : tie.Need-text-led-requires Inv-loop μ-loop
 text-led-requires c κs = search needs
 
 returns : tie.Need-returns Inv-loop μ-loop
-returns c = locators-are _ _ _ _ (c .before .before .before .before .before .before .before .before .before .pre) (located-stop _ _ _ (c .before .before .before .before .before .before .before .loop .left) (c .before .before .before .before .before .before .before .loop .at) (c .before .before .before .before .before .before .before .loop .bad) _ (omega arith) (c .before .text-led .ensures) (c .if1 .taken) (c .before .before .before .before .before .before .before .loop .inv))
+returns c = locators-are _ _ _ _ (c .before .before .before .before .before .before .before .before .before .pre) (located-stop _ _ _ (c .before .before .before .before .before .before .before .loop .left) (c .before .before .before .before .before .before .before .loop .at) (c .before .before .before .before .before .before .before .loop .bad) _ (c .before .text-led .ensures) (c .if1 .taken) (c .before .before .before .before .before .before .before .loop .inv))
 
 returns-2 : tie.Need-returns-2 Inv-loop μ-loop
 returns-2 c = locators-are _ _ _ _ (c .before .before .before .before .before .before .before .before .before .pre) (located-bad _ _ _ (c .before .before .before .before .before .before .before .loop .left) (c .before .before .before .before .before .before .before .loop .at) (c .before .before .before .before .before .before .before .loop .bad) _ _ _ (omega arith) (c .before .text-led .ensures) (c .if1 .left) (c .before .before .before .before .before .read-at .ensures) (c .before .before .before .read .given .1) (c .before .before .before .before .before .before .before .loop .inv))

@@ -25,7 +25,7 @@ is-free-requires : tie.Need-is-free-requires Inv-loop μ-loop
 is-free-requires c κs = (c .loop-test .taken, c .before .before .before .pre)
 
 returns : tie.Need-returns Inv-loop μ-loop
-returns c = scan-here (rowFree (c .before .before .before .before .before .args .table .now)) 64 (c .before .before .before .loop .i) (lowestFree (c .before .before .before .before .before .args .table .now)) (c .before .before .loop-test .taken) (sym (c .before .is-free .ensures) ∙ c .if1 .taken) (c .before .before .before .loop .inv .1)
+returns c = scan-here (rowFree (c .before .before .before .before .before .args .table .now)) 64 (c .before .before .before .loop .i) (lowestFree (c .before .before .before .before .before .args .table .now)) (sym (c .before .is-free .ensures) ∙ c .if1 .taken) (c .before .before .before .loop .inv .1)
 
 add-i : tie.Need-add-i Inv-loop μ-loop
 add-i c = omega arith
