@@ -1,5 +1,5 @@
--- What is known of a message that was read, of any list of numbers: how long it is, where the parts of a Discovery and of a Flood lie, and that each
--- locator and each pair has six bytes at least.
+-- What is known of a message that was read, of any list of numbers: how long it is, where an initiator, the objective of a Discovery, a Flood or
+-- an exchange, and its parts lie, and that each locator and each pair has six bytes at least.
 -- Assumes nothing.
 use mathlib.Core.Path.{_≡_, refl, sym, subst}
 use mathlib.Core.List.{List}
@@ -61,12 +61,12 @@ abbrev pub MessageParts : List ℕ → Message → Type 0
 MessageParts s M.Noop = Unit {0}
 MessageParts s (M.Discovery session initiator o) = SpreadParts s session initiator o
 MessageParts s (M.Response session initiator ttl targets extra) = TargetsSix s targets
-MessageParts s (M.RequestNegotiation session o) = Unit {0}
-MessageParts s (M.RequestSynchronization session o) = Unit {0}
-MessageParts s (M.Negotiate session o) = Unit {0}
+MessageParts s (M.RequestNegotiation session o) = ObjectiveParts (length s) o
+MessageParts s (M.RequestSynchronization session o) = ObjectiveParts (length s) o
+MessageParts s (M.Negotiate session o) = ObjectiveParts (length s) o
 MessageParts s (M.End session outcome) = Unit {0}
 MessageParts s (M.Wait session time) = Unit {0}
-MessageParts s (M.Synch session o) = Unit {0}
+MessageParts s (M.Synch session o) = ObjectiveParts (length s) o
 MessageParts s (M.Flood session initiator ttl first pairs) = SpreadParts s session initiator first × Six s pairs
 MessageParts s (M.Invalid session item) = Unit {0}
 
@@ -218,14 +218,19 @@ module _ (s : List ℕ) where
 
   exchange-parts : (kind n at : ℕ) → ShapeParts kind (exchangeAt s kind n at)
   unfolding exchangeAt exchanged exchangeOf
-  exchange-parts kind n at = both (ShapeParts kind) (eqb n 3) (both (ShapeParts kind) _ tt (by (objectiveAt objectiveLevels s (tokenAt s at .next)))) tt
+  exchange-parts kind n at =
+      let next = tokenAt s at .next in
+      both (ShapeParts kind) (eqb n 3)
+      (both (ShapeParts kind) _ tt (by (upTo most (tokenAt s at)) next (token-end s at) (objectiveAt objectiveLevels s next) (objective-within objectiveLevels s next next _ _ refl refl))) tt
     where
       Parts : Message → Type 0
       Parts m = OfKind kind m × MessageParts s m
 
-      by : (x : ObjectiveRead) → ShapeParts kind (exchanged kind (upTo most (tokenAt s at)) (tokenAt s at .next) x)
-      by (ObjectiveRead.Bad place) = tt
-      by (ObjectiveRead.Got o size bad long) = both Parts (eqb kind 3) (tt, tt) (both Parts (eqb kind 4) (tt, tt) (both Parts (eqb kind 5) (tt, tt) (tt, tt)))
+      by : (session next : ℕ) → next ≤ length s → (x : ObjectiveRead) → ObjectiveOk next (length s - next) x → ShapeParts kind (exchanged kind session next x)
+      by session next low (ObjectiveRead.Bad place) h = tt
+      by session next low (ObjectiveRead.Got o size bad long) h =
+          let parts = objective-in low (h .0) in
+          both Parts (eqb kind 3) (tt, parts) (both Parts (eqb kind 4) (tt, parts) (both Parts (eqb kind 5) (tt, parts) (tt, parts)))
 
   pub kind-parts : (kind n at : ℕ) → ShapeParts kind (byKind s kind n at)
   unfolding byKind noopAt endAt waitAt invalidAt

@@ -1,9 +1,7 @@
 -- What several kinds begin with (RFC 8990, section 2.8): a session, an initiator and a ttl.
-use Prim.Native.Nat.{ℕ, _≤_}
+use Prim.Native.Nat.{ℕ}
 use mathlib.Core.List.{List}
 use mathlib.Core.Bool.{Bool, true, false}
-use mathlib.Core.Path.{_≡_}
-use lib.ListN.{length}
 use lib.Dec.{ltb, eqb}
 use Rattle.base.specs.Pick.{pick}
 use Rattle.cbor.specs.declared.token.Token.{Token}
@@ -33,12 +31,3 @@ openingAt s at =
     (unless (isInitiator j) (Bad (j .at))
     (pick (ltb most (upTo most t)) (Bad (t .at))
     (Got (record { session = upTo most i; initiator = contentOf j; ttl = upTo most t }) (t .next))))
-
--- the place after the three lies within the message
-abbrev pub OpeningOk : ℕ → OpeningRead → Type 0
-OpeningOk size (Bad place) = Unit {0}
-OpeningOk size (Got opening next) = next ≤ size
-
-pub record OpeningIs (s : List ℕ) (at : ℕ) (r : OpeningRead) : Type 0 where
-  pub is : r ≡ openingAt s at
-  pub within : OpeningOk (length s) r

@@ -1,9 +1,7 @@
 -- Locators and pairs, one after the other.
-use Prim.Native.Nat.{ℕ, zero, suc, _+_, _≤_}
+use Prim.Native.Nat.{ℕ, zero, suc, _+_}
 use mathlib.Core.List.{List}
 use mathlib.Core.Bool.{Bool, false}
-use mathlib.Core.Path.{_≡_}
-use lib.ListN.{length}
 use lib.Dec.{eqb}
 use Rattle.base.specs.Pick.{pick}
 use Rattle.cbor.specs.Token.{tokenAt, itemsIn}
@@ -33,15 +31,6 @@ locatorsFrom s zero at bad = LocatorsRead.Ran at 0 bad
 locatorsFrom s (suc n) at bad =
     let rest = locatorThen (locatorsFrom s n) at bad (locatorAt s at) in
     pick (textLed s at) (LocatorsRead.Ran at (suc n) bad) rest
-
--- where the locators end lies within the message, and no more items are left than there were
-abbrev pub LocatorsOk : ℕ → ℕ → LocatorsRead → Type 0
-LocatorsOk size n (LocatorsRead.Bad place) = Unit {0}
-LocatorsOk size n (LocatorsRead.Ran end left bad) = (end ≤ size) × (left ≤ n)
-
-pub record LocatorsAre (s : List ℕ) (n from : ℕ) (r : LocatorsRead) : Type 0 where
-  pub is : r ≡ locatorsFrom s n from 0
-  pub within : LocatorsOk (length s) n r
 
 -- what follows a pair that was read
 unfoldable pub pairThen : (ℕ → ℕ → ℕ → PairsRead) → ℕ → ℕ → ℕ → PairRead → PairsRead

@@ -1,7 +1,6 @@
 // Flood (RFC 8990, section 2.8.11): session, initiator, ttl, then pairs.
 ghost use mathlib.Core.Path.{_≡_};
 ghost use Prim.Native.Nat.{_≤_};
-ghost use lib.ListN.{length};
 ghost use Rattle.message.specs.Flood.{floodedAt, floodAt};
 use crate::Message;
 use crate::Series;
@@ -30,7 +29,7 @@ pub(crate) fn read_at(s: &[u8], n: u64, at: usize) -> Shape
 
 // n pairs from `at` on.
 fn flooded_at(s: &[u8], opening: Opening, n: u64, at: usize) -> Shape
-    requires { ⌜ (1 ≤ n) × (at ≤ length (now s)) ⌝ }
+    requires { ⌜ 1 ≤ n ⌝ }
     ensures { λ r. ⌜ r ≡ floodedAt (now (s .entry)) opening n at ⌝ }
 {
     let initiator = opening.initiator;

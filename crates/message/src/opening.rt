@@ -2,7 +2,7 @@
 ghost use mathlib.Core.Path.{_≡_};
 ghost use Prim.Native.Nat.{_≤_};
 ghost use Rattle.options.specs.Text.{contentOf};
-ghost use Rattle.message.specs.Opening.{isInitiator, OpeningIs};
+ghost use Rattle.message.specs.Opening.{isInitiator, openingAt};
 use cbor::token;
 use cbor::token::Token;
 use options::Span;
@@ -24,7 +24,7 @@ pub enum OpeningRead {
 
 // A session, an initiator and a ttl from `at` on.
 pub(crate) fn read_at(s: &[u8], at: usize) -> OpeningRead
-    ensures { λ r. ⌜ OpeningIs (now (s .entry)) at r ⌝ }
+    ensures { λ r. ⌜ r ≡ openingAt (now (s .entry)) at ⌝ }
 {
     let i = token::number_at(s, at);
     let session = token::up_to(MOST_NUMBER, i);

@@ -1,7 +1,6 @@
 // Response (RFC 8990, section 2.8.5): session, initiator, ttl, then locators or a divert, then an optional objective.
 ghost use mathlib.Core.Path.{_≡_};
 ghost use Prim.Native.Nat.{_≤_};
-ghost use lib.ListN.{length};
 ghost use Rattle.message.specs.Response.{responseOf, restAt, divertAt, locatedAt, targetsAt, responseAt};
 use crate::Extra;
 use crate::Message;
@@ -34,7 +33,7 @@ pub(crate) fn read_at(s: &[u8], n: u64, at: usize) -> Shape
 
 // What follows the ttl, n items from `at` on.
 fn targets_at(s: &[u8], opening: Opening, n: u64, at: usize) -> Shape
-    requires { ⌜ (1 ≤ n) × (at ≤ length (now s)) ⌝ }
+    requires { ⌜ 1 ≤ n ⌝ }
     ensures { λ r. ⌜ r ≡ targetsAt (now (s .entry)) opening n at ⌝ }
 {
     let o = token::array_at(s, at);
@@ -49,7 +48,6 @@ fn targets_at(s: &[u8], opening: Opening, n: u64, at: usize) -> Shape
 
 // A divert of n items at `at`, its locators from `from` on; after it, `left` items of the message.
 fn divert_at(s: &[u8], opening: Opening, left: u64, n: u64, at: usize, from: usize) -> Shape
-    requires { ⌜ from ≤ length (now s) ⌝ }
     ensures { λ r. ⌜ r ≡ divertAt (now (s .entry)) opening left n at from ⌝ }
 {
     if n < 2 {
@@ -82,7 +80,6 @@ fn divert_at(s: &[u8], opening: Opening, left: u64, n: u64, at: usize, from: usi
 
 // Locators from `at` on, in n items.
 fn located_at(s: &[u8], opening: Opening, n: u64, at: usize) -> Shape
-    requires { ⌜ at ≤ length (now s) ⌝ }
     ensures { λ r. ⌜ r ≡ locatedAt (now (s .entry)) opening n at ⌝ }
 {
     let read = sequence::read_locators(s, n, at);
@@ -107,7 +104,6 @@ fn located_at(s: &[u8], opening: Opening, n: u64, at: usize) -> Shape
 
 // What follows the locators or the divert: `left` items from `at` on.
 fn rest_at(s: &[u8], opening: Opening, targets: Targets, left: u64, at: usize, bad: usize) -> Shape
-    requires { ⌜ at ≤ length (now s) ⌝ }
     ensures { λ r. ⌜ r ≡ restAt (now (s .entry)) opening targets left at bad ⌝ }
 {
     if left == 0 {

@@ -1,8 +1,6 @@
 // Locators and pairs, one after the other.
 ghost use mathlib.Core.Path.{_≡_};
-ghost use Prim.Native.Nat.{_≤_};
-ghost use lib.ListN.{length};
-ghost use Rattle.message.specs.Sequence.{textLed, pairsFrom, LocatorsAre};
+ghost use Rattle.message.specs.Sequence.{textLed, locatorsFrom, pairsFrom};
 use cbor::token;
 use options::locator;
 use options::locator::LocatorRead;
@@ -25,8 +23,7 @@ pub enum PairsRead {
 
 // The locators from `from` on, n at most, up to an array that a text leads.
 pub(crate) fn read_locators(s: &[u8], n: u64, from: usize) -> LocatorsRead
-    requires { ⌜ from ≤ length (now s) ⌝ }
-    ensures { λ r. ⌜ LocatorsAre (now (s .entry)) n from r ⌝ }
+    ensures { λ r. ⌜ r ≡ locatorsFrom (now (s .entry)) n from 0 ⌝ }
 {
     let mut left = n;
     let mut at = from;
@@ -79,7 +76,6 @@ pub(crate) fn read_pairs(
     first_bad: usize,
     first_long: usize,
 ) -> PairsRead
-    requires { ⌜ from ≤ length (now s) ⌝ }
     ensures { λ r. ⌜ r ≡ pairsFrom (now (s .entry)) n from «first_bad» «first_long» ⌝ }
 {
     let mut left = n;

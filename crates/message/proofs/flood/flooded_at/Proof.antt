@@ -24,10 +24,10 @@ sub-read-pairs : tie.Need-sub-read-pairs
 sub-read-pairs c = search needs
 
 add-read-pairs : tie.Need-add-read-pairs
-add-read-pairs c = omega (arith, c .before .before .before .before .before .before .pre, c .before .before .before .before .before .before .good, pair-within (c .before .before .before .before .before .before .args .s .now) _ (c .before .before .before .before .before .before .args .at) _ _ (c .before .before .before .read-at .ensures) (c .before .read2 .given .1))
+add-read-pairs c = omega (arith, c .before .before .before .before .before .before .good, pair-within (c .before .before .before .before .before .before .args .s .now) _ (c .before .before .before .before .before .before .args .at) _ _ (c .before .before .before .read-at .ensures) (c .before .read2 .given .1))
 
 read-pairs-requires : tie.Need-read-pairs-requires
-read-pairs-requires c κs = omega (arith, c .before .before .before .before .before .before .pre, c .before .before .before .before .before .before .good, pair-within (c .before .before .before .before .before .before .args .s .now) _ (c .before .before .before .before .before .before .args .at) _ _ (c .before .before .before .read-at .ensures) (c .before .read2 .given .1))
+read-pairs-requires c κs = search needs
 
 enum-known-more : tie.Need-enum-known-more
 enum-known-more c = search needs

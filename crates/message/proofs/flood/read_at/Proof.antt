@@ -1,9 +1,6 @@
 -- `message::flood::read_at` meets its contract.
 -- Assumes nothing.
-use mathlib.Core.Path.{subst}
 use native.Mathlib.Omega.{arith}
-use lib.ListN.{length}
-use Rattle.message.specs.Opening.{OpeningOk}
 use Rattle.message.specs.Flood.{floodAt, floodBy}
 use Rattle.base.specs.Pick.{pick}
 use borrow.Author.Tests.{lt-ltb, le-ltb}
@@ -33,17 +30,17 @@ sub-flooded-at : tie.Need-sub-flooded-at
 sub-flooded-at c = search needs
 
 flooded-at-requires : tie.Need-flooded-at-requires
-flooded-at-requires c κs = (omega (arith, c .before .before .before .before .if1 .left), subst (OpeningOk (length (c .before .before .before .before .before .before .args .s .now))) (c .before .read2 .given .1) (c .before .before .before .read-at .ensures .within))
+flooded-at-requires c κs = omega (arith, c .before .before .before .before .if1 .left)
 
 returns-2 : tie.Need-returns-2
 unfolding floodAt floodBy pick
 returns-2 c =
-    rw (le-ltb _ _ (c .before .before .before .before .if1 .left), ← c .before .before .before .read-at .ensures .is, c .before .read .given .1)
+    rw (le-ltb _ _ (c .before .before .before .before .if1 .left), ← c .before .before .before .read-at .ensures, c .before .read .given .1)
 
 returns-3 : tie.Need-returns-3
 unfolding floodAt floodBy pick
 returns-3 c =
-    rw (le-ltb _ _ (c .before .before .before .before .before .if1 .left), ← c .before .before .before .before .read-at .ensures .is, c .before .before .read2 .given .1, ← c .flooded-at .ensures)
+    rw (le-ltb _ _ (c .before .before .before .before .before .if1 .left), ← c .before .before .before .before .read-at .ensures, c .before .before .read2 .given .1, ← c .flooded-at .ensures)
 
 pub read-at-spec : {M : Type 1} → statement M
 read-at-spec =

@@ -1,6 +1,5 @@
 -- `message::opening::read_at` meets its contract.
 -- Assumes nothing.
-use Rattle.message.proofs.Fits.{opening-is}
 use Rattle.message.specs.Opening.{openingAt}
 use Rattle.base.specs.Pick.{pick}
 use borrow.Author.Tests.{lt-ltb, le-ltb, not-true, not-false}
@@ -27,7 +26,7 @@ cast-if1 c = search needs
 returns : tie.Need-returns
 unfolding openingAt pick
 returns c =
-    opening-is _ _ _ (rw (← c .before .before .number-at .ensures .is, ← c .before .up-to .ensures, lt-ltb _ _ (c .if1 .taken)))
+    rw (← c .before .before .number-at .ensures .is, ← c .before .up-to .ensures, lt-ltb _ _ (c .if1 .taken))
 
 string-at-requires : tie.Need-string-at-requires
 string-at-requires c κs = search needs
@@ -38,7 +37,7 @@ is-initiator-requires c κs = search needs
 returns-2 : tie.Need-returns-2
 unfolding openingAt pick
 returns-2 c =
-    opening-is _ _ _ (rw (← c .before .before .before .before .before .number-at .ensures .is, ← c .before .before .before .before .up-to .ensures, le-ltb _ _ (c .before .before .before .if1 .left), ← c .before .before .string-at .ensures .is, ← c .before .is-initiator .ensures, not-true (c .before .is-initiator .result) (c .if2 .taken)))
+    rw (← c .before .before .before .before .before .number-at .ensures .is, ← c .before .before .before .before .up-to .ensures, le-ltb _ _ (c .before .before .before .if1 .left), ← c .before .before .string-at .ensures .is, ← c .before .is-initiator .ensures, not-true (c .before .is-initiator .result) (c .if2 .taken))
 
 number-at-requires-2 : tie.Need-number-at-requires-2
 number-at-requires-2 c κs = search needs
@@ -52,7 +51,7 @@ cast-if3 c = search needs
 returns-3 : tie.Need-returns-3
 unfolding openingAt pick
 returns-3 c =
-    opening-is _ _ _ (rw (← c .before .before .before .before .before .before .before .before .number-at .ensures .is, ← c .before .before .before .before .before .before .before .up-to .ensures, le-ltb _ _ (c .before .before .before .before .before .before .if1 .left), ← c .before .before .before .before .before .string-at .ensures .is, ← c .before .before .before .before .is-initiator .ensures, not-false (c .before .before .before .before .is-initiator .result) (c .before .before .before .if2 .left), ← c .before .before .number-at2 .ensures .is, ← c .before .up-to2 .ensures, lt-ltb _ _ (c .if3 .taken)))
+    rw (← c .before .before .before .before .before .before .before .before .number-at .ensures .is, ← c .before .before .before .before .before .before .before .up-to .ensures, le-ltb _ _ (c .before .before .before .before .before .before .if1 .left), ← c .before .before .before .before .before .string-at .ensures .is, ← c .before .before .before .before .is-initiator .ensures, not-false (c .before .before .before .before .is-initiator .result) (c .before .before .before .if2 .left), ← c .before .before .number-at2 .ensures .is, ← c .before .up-to2 .ensures, lt-ltb _ _ (c .if3 .taken))
 
 content-of-requires : tie.Need-content-of-requires
 content-of-requires c κs = search needs
@@ -66,7 +65,7 @@ cast-t13 c = search needs
 returns-4 : tie.Need-returns-4
 unfolding openingAt pick
 returns-4 c =
-    opening-is _ _ _ (rw (← c .before .before .before .before .before .before .before .before .before .number-at .ensures .is, ← c .before .before .before .before .before .before .before .before .up-to .ensures, le-ltb _ _ (c .before .before .before .before .before .before .before .if1 .left), ← c .before .before .before .before .before .before .string-at .ensures .is, ← c .before .before .before .before .before .is-initiator .ensures, not-false (c .before .before .before .before .before .is-initiator .result) (c .before .before .before .before .if2 .left), ← c .before .before .before .number-at2 .ensures .is, ← c .before .before .up-to2 .ensures, le-ltb _ _ (c .before .if3 .left), ← c .content-of .ensures))
+    rw (← c .before .before .before .before .before .before .before .before .before .number-at .ensures .is, ← c .before .before .before .before .before .before .before .before .up-to .ensures, le-ltb _ _ (c .before .before .before .before .before .before .before .if1 .left), ← c .before .before .before .before .before .before .string-at .ensures .is, ← c .before .before .before .before .before .is-initiator .ensures, not-false (c .before .before .before .before .before .is-initiator .result) (c .before .before .before .before .if2 .left), ← c .before .before .before .number-at2 .ensures .is, ← c .before .before .up-to2 .ensures, le-ltb _ _ (c .before .if3 .left), ← c .content-of .ensures)
 
 pub read-at-spec : {M : Type 1} → statement M
 read-at-spec =

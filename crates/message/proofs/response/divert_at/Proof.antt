@@ -1,8 +1,5 @@
 -- `message::response::divert_at` meets its contract.
 -- Assumes nothing.
-use mathlib.Core.Path.{subst}
-use lib.ListN.{length}
-use Rattle.message.specs.Sequence.{LocatorsOk}
 use Rattle.message.specs.Response.{divertAt, divertOf}
 use Rattle.base.specs.Pick.{pick}
 use borrow.Author.Tests.{lt-ltb, le-ltb, eq-eqb, ne-eqb}
@@ -38,20 +35,20 @@ token-at-requires c κs = search needs
 returns-2 : tie.Need-returns-2
 unfolding divertAt divertOf pick
 returns-2 c =
-    rw (le-ltb _ _ (c .before .before .before .before .before .before .if1 .left), ← c .before .before .before .before .before .read-locators .ensures .is, c .before .before .before .read2 .given .1, ne-eqb _ _ (c .before .if2 .taken), ← c .token-at .ensures .is)
+    rw (le-ltb _ _ (c .before .before .before .before .before .before .if1 .left), ← c .before .before .before .before .before .read-locators .ensures, c .before .before .before .read2 .given .1, ne-eqb _ _ (c .before .if2 .taken), ← c .token-at .ensures .is)
 
 rest-at-requires : tie.Need-rest-at-requires
-rest-at-requires c κs = subst (LocatorsOk (length (c .before .before .before .before .before .before .before .args .s .now)) _) (c .before .before .read2 .given .1) (c .before .before .before .before .read-locators .ensures .within) .0
+rest-at-requires c κs = search needs
 
 returns-3 : tie.Need-returns-3
 unfolding divertAt divertOf pick
 returns-3 c =
-    rw (le-ltb _ _ (c .before .before .before .before .if1 .left), ← c .before .before .before .read-locators .ensures .is, c .before .read .given .1)
+    rw (le-ltb _ _ (c .before .before .before .before .if1 .left), ← c .before .before .before .read-locators .ensures, c .before .read .given .1)
 
 returns-4 : tie.Need-returns-4
 unfolding divertAt divertOf pick
 returns-4 c =
-    rw (le-ltb _ _ (c .before .before .before .before .before .before .if1 .left), ← c .before .before .before .before .before .read-locators .ensures .is, c .before .before .before .read2 .given .1, eq-eqb _ _ (c .before .if2 .left), ← c .rest-at .ensures)
+    rw (le-ltb _ _ (c .before .before .before .before .before .before .if1 .left), ← c .before .before .before .before .before .read-locators .ensures, c .before .before .before .read2 .given .1, eq-eqb _ _ (c .before .if2 .left), ← c .rest-at .ensures)
 
 pub divert-at-spec : {M : Type 1} → statement M
 divert-at-spec =

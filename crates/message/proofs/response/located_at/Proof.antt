@@ -1,8 +1,5 @@
 -- `message::response::located_at` meets its contract.
 -- Assumes nothing.
-use mathlib.Core.Path.{subst}
-use lib.ListN.{length}
-use Rattle.message.specs.Sequence.{LocatorsOk}
 use Rattle.message.specs.Response.{locatedAt, locatedOf}
 use Rattle.base.specs.Pick.{pick}
 use borrow.Author.Tests.{le-leb, lt-leb}
@@ -30,23 +27,23 @@ token-at-requires c κs = search needs
 returns : tie.Need-returns
 unfolding locatedAt locatedOf pick
 returns c =
-    rw (← c .before .before .before .before .before .read-locators .ensures .is, c .before .before .before .read2 .given .1, le-leb _ _ (c .before .if1 .taken), ← c .token-at .ensures .is)
+    rw (← c .before .before .before .before .before .read-locators .ensures, c .before .before .before .read2 .given .1, le-leb _ _ (c .before .if1 .taken), ← c .token-at .ensures .is)
 
 sub-t13 : tie.Need-sub-t13
 sub-t13 c = search needs
 
 rest-at-requires : tie.Need-rest-at-requires
-rest-at-requires c κs = subst (LocatorsOk (length (c .before .before .before .before .before .before .args .s .now)) _) (c .before .before .read2 .given .1) (c .before .before .before .before .read-locators .ensures .within) .0
+rest-at-requires c κs = search needs
 
 returns-2 : tie.Need-returns-2
 unfolding locatedAt locatedOf pick
 returns-2 c =
-    rw (← c .before .before .before .read-locators .ensures .is, c .before .read .given .1)
+    rw (← c .before .before .before .read-locators .ensures, c .before .read .given .1)
 
 returns-3 : tie.Need-returns-3
 unfolding locatedAt locatedOf pick
 returns-3 c =
-    rw (← c .before .before .before .before .before .read-locators .ensures .is, c .before .before .before .read2 .given .1, lt-leb _ _ (c .before .if1 .left), ← c .rest-at .ensures)
+    rw (← c .before .before .before .before .before .read-locators .ensures, c .before .before .before .read2 .given .1, lt-leb _ _ (c .before .if1 .left), ← c .rest-at .ensures)
 
 pub located-at-spec : {M : Type 1} → statement M
 located-at-spec =

@@ -33,7 +33,7 @@ enum-known-read-2 c = search needs
 
 add-t18 : tie.Need-add-t18
 add-t18 c =
-    omega (arith, c .before .before .before .before .before .before .before .pre, c .before .before .before .before .before .before .before .good, objective-within 2 (c .before .before .before .before .before .before .before .args .s .now) _ (c .before .before .before .before .before .before .before .args .at) _ _ (c .before .before .before .before .read-at .ensures) (c .before .before .read2 .given .1))
+    omega (arith, c .before .before .before .before .before .before .before .good, objective-within 2 (c .before .before .before .before .before .before .before .args .s .now) _ (c .before .before .before .before .before .before .before .args .at) _ _ (c .before .before .before .before .read-at .ensures) (c .before .before .read2 .given .1))
 
 returns-2 : tie.Need-returns-2
 unfolding restAt restOf pick
@@ -45,7 +45,7 @@ response-of-requires-2 c κs = search needs
 
 add-t21 : tie.Need-add-t21
 add-t21 c =
-    omega (arith, c .before .before .before .before .before .before .before .before .pre, c .before .before .before .before .before .before .before .before .good, objective-within 2 (c .before .before .before .before .before .before .before .before .args .s .now) _ (c .before .before .before .before .before .before .before .before .args .at) _ _ (c .before .before .before .before .before .read-at .ensures) (c .before .before .before .read2 .given .1))
+    omega (arith, c .before .before .before .before .before .before .before .before .good, objective-within 2 (c .before .before .before .before .before .before .before .before .args .s .now) _ (c .before .before .before .before .before .before .before .before .args .at) _ _ (c .before .before .before .before .before .read-at .ensures) (c .before .before .before .read2 .given .1))
 
 first-of-requires : tie.Need-first-of-requires
 first-of-requires c κs = search needs

@@ -4,7 +4,7 @@ use mathlib.Core.Path.{refl}
 use native.Mathlib.Omega.{arith}
 use borrow.Author.Needs.{needs}
 use Rattle.options.proofs.Fits.{locator-within}
-use Rattle.message.proofs.Fits.{locators-are, Located, located-end, located-stop, located-bad, located-next}
+use Rattle.message.proofs.Fits.{Located, located-end, located-stop, located-bad, located-next}
 use Rattle.message.proofs.sequence.read_locators.Statement.{statement}
 use Rattle.message.proofs.sequence.read_locators.Tie as tie
 use Rattle.message.proofs.sequence.read_locators.Reads as reads
@@ -20,7 +20,7 @@ abbrev μ-loop : tie.MeasureT-loop
 μ-loop s n from left₀ at₀ bad₀ left at bad = left
 
 loop-holds : tie.Need-loop-holds Inv-loop μ-loop
-loop-holds c = record { within = c .before .pre; same = refl }
+loop-holds c = refl
 
 read-at-requires : tie.Need-read-at-requires Inv-loop μ-loop
 read-at-requires c κs = search needs
@@ -32,16 +32,16 @@ text-led-requires : tie.Need-text-led-requires Inv-loop μ-loop
 text-led-requires c κs = search needs
 
 returns : tie.Need-returns Inv-loop μ-loop
-returns c = locators-are _ _ _ _ (c .before .before .before .before .before .before .before .before .before .pre) (located-stop _ _ _ (c .before .before .before .before .before .before .before .loop .left) (c .before .before .before .before .before .before .before .loop .at) (c .before .before .before .before .before .before .before .loop .bad) _ (c .before .text-led .ensures) (c .if1 .taken) (c .before .before .before .before .before .before .before .loop .inv))
+returns c = located-stop _ _ _ (c .before .before .before .before .before .before .before .loop .left) (c .before .before .before .before .before .before .before .loop .at) (c .before .before .before .before .before .before .before .loop .bad) _ (c .before .text-led .ensures) (c .if1 .taken) (c .before .before .before .before .before .before .before .loop .inv)
 
 returns-2 : tie.Need-returns-2 Inv-loop μ-loop
-returns-2 c = locators-are _ _ _ _ (c .before .before .before .before .before .before .before .before .before .pre) (located-bad _ _ _ (c .before .before .before .before .before .before .before .loop .left) (c .before .before .before .before .before .before .before .loop .at) (c .before .before .before .before .before .before .before .loop .bad) _ _ _ (omega arith) (c .before .text-led .ensures) (c .if1 .left) (c .before .before .before .before .before .read-at .ensures) (c .before .before .before .read .given .1) (c .before .before .before .before .before .before .before .loop .inv))
+returns-2 c = located-bad _ _ _ (c .before .before .before .before .before .before .before .loop .left) (c .before .before .before .before .before .before .before .loop .at) (c .before .before .before .before .before .before .before .loop .bad) _ _ _ (omega arith) (c .before .text-led .ensures) (c .if1 .left) (c .before .before .before .before .before .read-at .ensures) (c .before .before .before .read .given .1) (c .before .before .before .before .before .before .before .loop .inv)
 
 enum-known-read-2 : tie.Need-enum-known-read-2 Inv-loop μ-loop
 enum-known-read-2 c = search needs
 
 add-at : tie.Need-add-at Inv-loop μ-loop
-add-at c = omega (arith, c .before .before .before .before .before .loop .inv .within, c .before .before .before .before .before .before .before .good, locator-within (c .before .before .before .before .before .before .before .args .s .now) _ (c .before .before .before .before .before .loop .at) _ _ (c .before .before .before .read-at .ensures) (c .before .read2 .given .1))
+add-at c = omega (arith, c .before .before .before .before .before .before .before .good, locator-within (c .before .before .before .before .before .before .before .args .s .now) _ (c .before .before .before .before .before .loop .at) _ _ (c .before .before .before .read-at .ensures) (c .before .read2 .given .1))
 
 first-of-requires : tie.Need-first-of-requires Inv-loop μ-loop
 first-of-requires c κs = search needs
@@ -56,7 +56,7 @@ loop-again : tie.Need-loop-again Inv-loop μ-loop
 loop-again c = located-next (c .before .before .before .before .before .before .before .before .args .s .now) _ _ (c .before .before .before .before .before .before .loop .left) (c .before .before .before .before .before .before .loop .at) (c .before .before .before .before .before .before .loop .bad) _ _ _ _ _ (omega arith) (c .before .before .before .before .read-at .ensures) (c .before .before .read2 .given .1) (c .first-of .ensures) (c .before .before .before .before .before .before .loop .inv)
 
 returns-3 : tie.Need-returns-3 Inv-loop μ-loop
-returns-3 c = locators-are _ _ _ _ (c .before .before .before .pre) (located-end _ _ _ (c .before .loop .left) (c .before .loop .at) (c .before .loop .bad) (omega arith) (c .before .loop .inv))
+returns-3 c = located-end _ _ _ (c .before .loop .left) (c .before .loop .at) (c .before .loop .bad) (omega arith) (c .before .loop .inv)
 
 pub read-locators-spec : {M : Type 1} → statement M
 read-locators-spec =

@@ -19,7 +19,7 @@ abbrev μ-loop : tie.MeasureT-loop
 μ-loop s n from first-bad first-long left₀ at₀ bad₀ long₀ left at bad long = left
 
 loop-holds : tie.Need-loop-holds Inv-loop μ-loop
-loop-holds c = record { within = c .before .pre; same = refl }
+loop-holds c = refl
 
 read-at-requires : tie.Need-read-at-requires Inv-loop μ-loop
 read-at-requires c κs = search needs
@@ -34,7 +34,7 @@ enum-known-read-2 : tie.Need-enum-known-read-2 Inv-loop μ-loop
 enum-known-read-2 c = search needs
 
 add-at : tie.Need-add-at Inv-loop μ-loop
-add-at c = omega (arith, c .before .before .before .before .before .loop .inv .within, c .before .before .before .before .before .before .before .good, pair-within (c .before .before .before .before .before .before .before .args .s .now) _ (c .before .before .before .before .before .loop .at) _ _ (c .before .before .before .read-at .ensures) (c .before .read2 .given .1))
+add-at c = omega (arith, c .before .before .before .before .before .before .before .good, pair-within (c .before .before .before .before .before .before .before .args .s .now) _ (c .before .before .before .before .before .loop .at) _ _ (c .before .before .before .read-at .ensures) (c .before .read2 .given .1))
 
 first-of-requires : tie.Need-first-of-requires Inv-loop μ-loop
 first-of-requires c κs = search needs
