@@ -36,12 +36,12 @@ then {l} {l′} {l″} {at} {m} {r} {a} {b} v w =
 pub still : (l : List ℕ) (at : ℕ) → Wrote l l at [] at
 still l at = record { same = refl; fits = λ h. (sym (add-zero at), refl); over = λ h. omega (arith, h) }
 
--- one byte past the buffer's end, and one in the buffer
+-- one byte past the buffer's end, and one that is stored
 pub byte-over : (l : List ℕ) (at b : ℕ) → length l ≤ at → Wrote l l at (b ∷ []) (length l + 1)
 byte-over l at b g = record { same = refl; fits = λ h. absurd (omega arith); over = λ h. omega arith }
 
-pub byte-in : (l : List ℕ) (at b : ℕ) → at < length l → Wrote l (set l at b) at (b ∷ []) (at + 1)
-byte-in l at b g = record { same = length-set l at b; fits = λ h. (refl, refl); over = λ h. absurd (omega arith) }
+pub byte-in : (l : List ℕ) (at b : ℕ) → Wrote l (set l at b) at (b ∷ []) (at + 1)
+byte-in l at b = record { same = length-set l at b; fits = λ h. (refl, refl); over = λ h. h }
 
 -- the shortest head
 pub head-in : (l l′ : List ℕ) (at major arg r : ℕ) → major < 7 → r ≡ headEnd l at major arg → l′ ≡ headPut l at major arg → Wrote l l′ at (head major arg) r

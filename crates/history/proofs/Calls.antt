@@ -23,11 +23,11 @@ use Rattle.node.specs.declared.role.Spread.{Spread}
 use Rattle.node.specs.declared.role.Role.{Role}
 use Rattle.node_state.specs.declared.table.Key.{Key}
 use Rattle.node_state.specs.Record.{setLinks, linked, clocked}
-use Rattle.node_state.specs.Table.{cell, rowLife, freed, putRow, lowestFree, isKnown}
+use Rattle.node_state.specs.Table.{cell, tableBad, rowLife, freed, putRow, lowestFree, isKnown}
 use Rattle.node.specs.Role.{roleOf, RoleIn, keyIn}
 use Rattle.node.specs.Call.{Call, After, barred, refuse, quiet, laterVerdict, verdictOn, answered, relayed, carriedOut, taken, received, nodeCall, Passed}
 use Rattle.node.specs.History.{isRelay, saysRelay}
-use Rattle.node_state.proofs.Rows.{Holds, put-other, same-holds, life-least, free-keeps, lowest-zero, unknown, row-admitted}
+use Rattle.node_state.proofs.Rows.{Holds, put-other, same-holds, free-admitted, life-least, free-keeps, lowest-zero, unknown, row-admitted}
 use Rattle.node.proofs.Outcomes.{passed}
 
 -- ---- the ways a node call can go
@@ -112,19 +112,19 @@ abbrev pub StillThere : Key → ℕ → ℕ → ℕ → List ℕ → Type 0
 StillThere k row then now t = (then + rowLife (k .first) ≤ now) ⊎ Holds t row k then
 
 module _ (k : Key) (row then : ℕ) where
-  pub freed-there : (r : Record) (t : List ℕ) (clock i room : ℕ) → Passed r t clock i room → StillThere k row then (r .clock) t
-      → StillThere k row then clock (freed clock t)
-  freed-there r t clock i room p (inl over) = inl (le-trans over (p .later))
-  freed-there r t clock i room p (inr h) = go (decLt (clock - then) (rowLife (k .first)))
+  pub freed-there : (before now : ℕ) (t : List ℕ) → before ≤ now → StillThere k row then before t → StillThere k row then now (freed now t)
+  freed-there before now t later (inl over) = inl (le-trans over later)
+  freed-there before now t later (inr h) = go (decLt (now - then) (rowLife (k .first)))
     where
-      go : Dec (clock - then < rowLife (k .first)) → StillThere k row then clock (freed clock t)
-      go (yes live) = inr (free-keeps clock t row k then h live)
+      go : Dec (now - then < rowLife (k .first)) → StillThere k row then now (freed now t)
+      go (yes live) = inr (free-keeps now t row k then h live)
       go (no dead) = inl (omega (arith, life-least (k .first)))
 
   -- the call's clock isn't before the row's
-  pub there-past : (r : Record) (t : List ℕ) (clock i room : ℕ) → Passed r t clock i room → StillThere k row then (r .clock) t → then ≤ clock
-  there-past r t clock i room p (inl over) = omega (arith, p .later)
-  there-past r t clock i room p (inr h) = let e = h .clock in omega (arith, row-admitted clock t row (p .table))
+  pub there-past : (now : ℕ) (t : List ℕ) → tableBad now t ≡ false → StillThere k row then now (freed now t) → then ≤ now
+  unfolding freed
+  there-past now t good (inl over) = omega arith
+  there-past now t good (inr h) = let e = h .clock in omega (arith, free-admitted now t 64 row now (row-admitted now t row good))
 
   other-row : (t : List ℕ) → 0 < k .first → lowestFree t < 64 → Holds t row k then → row ≢ lowestFree t
   other-row t used room h e =

@@ -112,35 +112,33 @@ same-key x y s s′ kx ky same =
 abbrev There : Step → Spread → ℕ → List ℕ → Type 0
 There x s now t = StillThere (keyIn (x .call .message) s) (rowOf x) (clockOf x) now t
 
-module _ (x : Step) (s : Spread) (k : Known x s) where
-  known-behind : (y : Step) (s′ : Spread) → Known y s′ → clockOf x ≤ clockOf y → There x s (y .call .clock) (freed (y .call .clock) (y .table)) → Behind x y
-  unfolding rowOf clockOf
-  known-behind y s′ ky past there =
-      let key = keyIn (x .call .message) s in
-      let t = freed (y .call .clock) (y .table) in
-      record {
-        apart = record {
-          later = past;
-          one-key = λ same.
-              let new : isKnown key t ≡ false = rw (same-key x y s s′ k ky same) (ky .facts .new) in
-              rw (known-apart x s k) (one-key key (rowOf x) (clockOf x) (clockOf y) t (k .facts .room) there new);
-        };
-        rows = λ e. le-trans (more (clockOf x) (life-least (key .first))) (one-row key (rowOf x) (clockOf x) (clockOf y) t (row-used x s) (ky .facts .room) there e);
-      }
-    where
-      more : {a b : ℕ} (n : ℕ) → a ≤ b → n + a ≤ n + b
-      more n h = omega arith
+-- a row that was filled before a call, after it
+there-on : (x : Step) (s : Spread) (r : Record) (t : List ℕ) (c : Call) (b : After) → View r t c b → There x s (r .clock) t → There x s (b .called .node .clock) (b .table)
+unfolding clocked relayed tallied
+there-on x s r t c b (stayed nb tb e) there = rw (nb, tb) there
+there-on x s r t c b (ended p nb tb e) there = rw (nb, tb) (freed-there (keyIn (x .call .message) s) (rowOf x) (clockOf x) (r .clock) (c .clock) t (p .later) there)
+there-on x s r t c b (went s′ f e) there =
+    rw e
+    (put-there (keyIn (x .call .message) s) (rowOf x) (clockOf x) (keyIn (c .message) s′) (c .clock) (freed (c .clock) t) (row-used x s) (f .room)
+    (freed-there (keyIn (x .call .message) s) (rowOf x) (clockOf x) (r .clock) (c .clock) t (f .passes .later) there))
 
-  -- a row that was filled before a call, after it
-  there-on : (r : Record) (t : List ℕ) (c : Call) (b : After) → View r t c b → There x s (r .clock) t → There x s (b .called .node .clock) (b .table)
-  unfolding clocked relayed tallied
-  there-on r t c b (stayed nb tb e) there = rw (nb, tb) there
-  there-on r t c b (ended p nb tb e) there =
-      rw (nb, tb) (freed-there (keyIn (x .call .message) s) (rowOf x) (clockOf x) r t (c .clock) (c .interface) (length (c .output)) p there)
-  there-on r t c b (went s′ f e) there =
-      rw e
-      (put-there (keyIn (x .call .message) s) (rowOf x) (clockOf x) (keyIn (c .message) s′) (c .clock) (freed (c .clock) t) (row-used x s) (f .room)
-      (freed-there (keyIn (x .call .message) s) (rowOf x) (clockOf x) r t (c .clock) (c .interface) (length (c .output)) (f .passes) there))
+known-behind : (x y : Step) (s s′ : Spread) → Known x s → Known y s′ → There x s (y .call .clock) (freed (y .call .clock) (y .table)) → Behind x y
+unfolding rowOf clockOf
+known-behind x y s s′ k ky there =
+    let key = keyIn (x .call .message) s in
+    let t = freed (y .call .clock) (y .table) in
+    record {
+      apart = record {
+        later = there-past key (rowOf x) (clockOf x) (clockOf y) (y .table) (ky .facts .passes .table) there;
+        one-key = λ same.
+            let new : isKnown key t ≡ false = rw (same-key x y s s′ k ky same) (ky .facts .new) in
+            rw (known-apart x s k) (one-key key (rowOf x) (clockOf x) (clockOf y) t (k .facts .room) there new);
+      };
+      rows = λ e. le-trans (more (clockOf x) (life-least (key .first))) (one-row key (rowOf x) (clockOf x) (clockOf y) t (row-used x s) (ky .facts .room) there e);
+    }
+  where
+    more : {a b : ℕ} (n : ℕ) → a ≤ b → n + a ≤ n + b
+    more n h = omega arith
 
 says-relay : (r : Record) (t : List ℕ) (c : Call) (s : Spread) (b : After) → b ≡ relayed (clocked r (c .clock)) (freed (c .clock) t) c s → saysRelay (b .called .reply) ≡ true
 unfolding relayed saysRelay isRelay
@@ -159,12 +157,10 @@ unfolding steps relaysOf rowOf clockOf
 future x s k [] r t there = tt
 future x s k (call c ∷ es) r t there =
     let b = nodeCall r t c in
-    let key = keyIn (x .call .message) s in
-    let rest = future x s k es (b .called .node) (b .table) (there-on x s k r t c b (view r t c) there) in
+    let rest = future x s k es (b .called .node) (b .table) (there-on x s r t c b (view r t c) there) in
     listed r t c b (Every (Behind x)) (relaysOf (steps (b .called .node) (b .table) es)) (view r t c) rest
     (λ s′ k′. (
-      known-behind x s k (stepOf r t c b) s′ k′ (there-past key (rowOf x) (clockOf x) r t (c .clock) (c .interface) (length (c .output)) (k′ .facts .passes) there)
-          (freed-there key (rowOf x) (clockOf x) r t (c .clock) (c .interface) (length (c .output)) (k′ .facts .passes) there),
+      known-behind x (stepOf r t c b) s s′ k k′ (freed-there (keyIn (x .call .message) s) (rowOf x) (clockOf x) (r .clock) (c .clock) t (k′ .facts .passes .later) there),
       rest,
     ))
 future x s k (links mask ∷ es) r t there = future x s k es (setLinks r mask .node) t (rw (links-keep r mask .clock) there)

@@ -4,6 +4,7 @@ use mathlib.Core.Path.{_≡_, refl, sym, _∙_}
 use mathlib.Core.Bool.{true, false, not, _&&_}
 use mathlib.Core.List.{List}
 use Prim.Native.Nat.{ℕ, _^_, _≤_, _<_}
+use native.Mathlib.Decide.{ℕ-discrete}
 use native.Mathlib.Omega.{arith}
 use lib.Count.{ones}
 use lib.Dec.{leb}
@@ -33,7 +34,7 @@ use Rattle.cbor.specs.Put.{written}
 use Rattle.roundtrip.specs.Lower.{onward}
 use Rattle.node.specs.Call.{Call, callOf, After, afterOf, barred, replies, refuse, quiet, response, laterVerdict, verdictOn, answered, relayed, carriedOut, taken, received, nodeCall, Passed, Ready}
 use Rattle.node_state.proofs.Masks.{record-links, record-tally}
-use Rattle.node_state.proofs.Rows.{of-sized, length-free, table-sized}
+use Rattle.node_state.proofs.Rows.{of-sized, of-other, length-free, table-sized}
 
 -- ---- what was written
 
@@ -69,6 +70,14 @@ found-sized : (t : List ℕ) (k : Key) (clock : ℕ) {row : ℕ} {t′ : List �
     → (row ≡ lowestFree t) × (t′ ≡ filled t k clock)
 found-sized t k clock sized found = (found .0 ∙ of-sized t (lowestFree t) 64 sized, found .1 ∙ of-sized t (filled t k clock) t sized)
 
+-- a row was found in no table of another length
+found-room : (t : List ℕ) (row : ℕ) → row ≡ whereSized t (lowestFree t) 64 → row < 64 → length t ≡ 256
+found-room t row e room = go (ℕ-discrete (length t) 256)
+  where
+    go : Dec (length t ≡ 256) → length t ≡ 256
+    go (yes sized) = sized
+    go (no other) = let none : row ≡ 64 = e ∙ of-other t (lowestFree t) 64 other in absurd (omega arith)
+
 module _ (r : Record) (t : List ℕ) (c : Call) (s : Spread) where
   pub own-outcome : (b : Called) → b ≡ replies (Given Own false 0 0) r → sameBytes (held (c .message) (s .initiator)) (r .address) ≡ true
       → afterOf b t (c .output) ≡ carriedOut r t c s (verdictOn r t c s)
@@ -103,11 +112,11 @@ module _ (r : Record) (t : List ℕ) (c : Call) (s : Spread) where
     nowhere-outcome b e none = rw (lt-leb (s .objective .count) 1 counts, eq-eqb (others r (c .interface)) 0 none, e) refl
 
     module _ (some : others r (c .interface) ≡ 0 → ⊥) where
-      module _ (sized : length t ≡ 256) (k : Key) (row : ℕ) (t′ : List ℕ)
-          (found : (row ≡ whereSized t (lowestFree t) 64) × (t′ ≡ whereSized t (filled t k (r .clock)) t)) where
-        pub norow-outcome : (b : Called) → b ≡ replies (Given NoRow (s .flood) 0 0) r → 64 ≤ row → afterOf b t′ (c .output) ≡ carriedOut r t c s (laterVerdict r t c s)
+      module _ (k : Key) (row : ℕ) (t′ : List ℕ) (found : (row ≡ whereSized t (lowestFree t) 64) × (t′ ≡ whereSized t (filled t k (r .clock)) t)) where
+        pub norow-outcome : length t ≡ 256 → (b : Called) → b ≡ replies (Given NoRow (s .flood) 0 0) r → 64 ≤ row
+            → afterOf b t′ (c .output) ≡ carriedOut r t c s (laterVerdict r t c s)
         unfolding laterVerdict carriedOut quiet filled pick
-        norow-outcome b e full =
+        norow-outcome sized b e full =
             let (lowest, left) = found-sized t k (r .clock) sized found in
             let none : 64 ≤ lowestFree t = rw lowest at full in
             rw (lt-leb (s .objective .count) 1 counts, ne-eqb (others r (c .interface)) 0 some, left, le-leb 64 (lowestFree t) none, le-ltb (lowestFree t) 64 none, e) refl
@@ -117,7 +126,7 @@ module _ (r : Record) (t : List ℕ) (c : Call) (s : Spread) where
             → out ≡ written (onward (c .message) (s .objective)) (c .output) → row < 64 → afterOf b t′ out ≡ carriedOut r t c s (laterVerdict r t c s)
         unfolding laterVerdict carriedOut relayed filled pick
         relay-outcome keyed b out e g room =
-            let (lowest, left) = found-sized t k (r .clock) sized found in
+            let (lowest, left) = found-sized t k (r .clock) (found-room t row (found .0) room) found in
             let free : lowestFree t < 64 = rw lowest at room in
             rw (lt-leb (s .objective .count) 1 counts, ne-eqb (others r (c .interface)) 0 some, left, keyed, lt-leb 64 (lowestFree t) free, lt-ltb (lowestFree t) 64 free, e, g) refl
 
@@ -164,7 +173,6 @@ readied r t clock i room p =
     let a = arrives r i (p .good) (p .arrives) in
     record {
       sized = length-free clock t 64 ∙ table-sized clock t (p .table);
-      small = a .small;
       up = a .up;
       tally = record-tally r (p .good);
       fits = p .fits;

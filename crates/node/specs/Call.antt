@@ -23,7 +23,7 @@ use Rattle.node.specs.declared.Reply.the-variants.{Refused, Given}
 use Rattle.node.specs.declared.Called.{Called}
 use Rattle.node.specs.declared.role.Spread.{Spread}
 use Rattle.node.specs.declared.role.Role.{Role}
-use Rattle.node_state.specs.Record.{mostInterfaces, mostTally, recordBad, arrivalBad, others, clocked, tallied}
+use Rattle.node_state.specs.Record.{mostTally, recordBad, arrivalBad, others, clocked, tallied}
 use Rattle.node_state.specs.Table.{mostRows, tableNumbers, tableBad, freed, putRow, lowestFree, isKnown}
 use Rattle.node.specs.Role.{roleOf, keyIn}
 
@@ -143,7 +143,6 @@ pub record Passed (r : Record) (t : List ℕ) (clock interface room : ℕ) : Typ
 -- what of it the verdicts on a Discovery or a Flood rest on
 pub record Ready (r : Record) (t : List ℕ) (interface room : ℕ) : Type 0 where
   pub sized : length t ≡ tableNumbers
-  pub small : interface < mostInterfaces
   pub up : hasBit (r .links) interface ≡ true
   pub tally : r .tally ≤ mostTally
   pub fits : mostBytes ≤ room

@@ -14,8 +14,7 @@ pub(crate) fn is_up(mask: u8, i: u8) -> bool
 
 // The links up, less that of interface i, which is up.
 pub(crate) fn others(mask: u8, i: u8) -> u8
-    requires small { ⌜ i < 8 ⌝ }
-    requires up { ⌜ hasBit mask i ≡ true ⌝ }
+    requires { ⌜ hasBit mask i ≡ true ⌝ }
     ensures { λ r. ⌜ r ≡ mask - 2 ^ i ⌝ }
 {
     mask - (1 << i)

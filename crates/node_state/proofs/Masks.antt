@@ -44,9 +44,9 @@ unfolding recordBad
 record-tally r e = ltb-false (2 ^ 63) (r .tally) (or-right (linksBad (r .interfaces) (r .links)) (ltb (2 ^ 63) (r .tally)) e)
 
 -- under a good count, links are bad by their mask alone
-pub links-wide : (n mask new : ℕ) → Fit n mask → linksBad n new ≡ leb (2 ^ n) new
+pub links-wide : (n mask : ℕ) → 0 < n → n ≤ 8 → linksBad n mask ≡ leb (2 ^ n) mask
 unfolding linksBad
-links-wide n mask new f = let some : n ≡ 0 → ⊥ = λ e. let s = f .some in omega arith in rw (ne-eqb n 0 some, le-ltb 8 n (f .most)) refl
+links-wide n mask some most = rw (ne-eqb n 0 (λ e. omega arith), le-ltb 8 n most) refl
 
 -- one bit of a word
 pub one-bit : (w i : ℕ) → i < w → 1 * 2 ^ i % 2 ^ w ≡ 2 ^ i

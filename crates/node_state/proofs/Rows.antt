@@ -4,14 +4,14 @@ use mathlib.Core.Path.{_≡_, refl, sym, ap, _∙_}
 use mathlib.Core.Logic.{_≢_, _⊎_, inl, inr}
 use mathlib.Core.Bool.{Bool, true, false, not, _&&_, _||_}
 use mathlib.Core.List.{List, [], _∷_}
-use Prim.Native.Nat.{ℕ, zero, suc, _+_, _-_, _*_, _≤_, _<_, zero-le}
+use Prim.Native.Nat.{ℕ, zero, suc, _+_, _-_, _*_, _/_, _≤_, _<_, zero-le}
 use native.Mathlib.Nat.{le-refl, le-trans, add-zero}
 use native.Mathlib.Numerals.{add-one}
 use native.Mathlib.Decide.{ℕ-discrete, decLt}
 use native.Mathlib.Omega.{arith}
 use lib.Dec.{ltb, leb, eqb}
 use lib.ListN.{length, getD, set, length-set, List·getD-eq-default}
-use lib.Seq.{getD-set-same, getD-set-other}
+use lib.Seq.{set-out, getD-set-same, getD-set-other}
 use borrow.Author.Tests.{ltb-true, ltb-false, leb-true, eqb-true, lt-ltb, le-ltb, le-leb, lt-leb, eq-eqb, ne-eqb, not-false}
 use Rattle.base.specs.Pick.{pick}
 use Rattle.base.proofs.Picks.{pick-case, both}
@@ -36,13 +36,24 @@ pub length-put : (t : List ℕ) (i : ℕ) (k : Key) (clock : ℕ) → length (pu
 unfolding putRow
 length-put t i k clock = simp length-set
 
+-- the numbers of other rows are as they were
+put-apart : (t : List ℕ) (i : ℕ) (k : Key) (clock n : ℕ) → n / 4 ≢ i → getD (putRow t i k clock) n 0 ≡ getD t n 0
+unfolding putRow
+put-apart t i k clock n ne =
+    getD-set-other (set (set (set t (4 * i) (k .first)) (4 * i + 1) (k .second)) (4 * i + 2) (k .third)) (4 * i + 3) n clock 0 (λ e. ne (omega arith))
+    ∙ getD-set-other (set (set t (4 * i) (k .first)) (4 * i + 1) (k .second)) (4 * i + 2) n (k .third) 0 (λ e. ne (omega arith))
+    ∙ getD-set-other (set t (4 * i) (k .first)) (4 * i + 1) n (k .second) 0 (λ e. ne (omega arith))
+    ∙ getD-set-other t (4 * i) n (k .first) 0 (λ e. ne (omega arith))
+
 pub put-other : (t : List ℕ) (i : ℕ) (k : Key) (clock n j : ℕ) → n ≢ i → j < 4 → cell (putRow t i k clock) n j ≡ cell t n j
-unfolding putRow cell
-put-other t i k clock n j ne h =
-    getD-set-other (set (set (set t (4 * i) (k .first)) (4 * i + 1) (k .second)) (4 * i + 2) (k .third)) (4 * i + 3) (4 * n + j) clock 0 (omega arith)
-    ∙ getD-set-other (set (set t (4 * i) (k .first)) (4 * i + 1) (k .second)) (4 * i + 2) (4 * n + j) (k .third) 0 (omega arith)
-    ∙ getD-set-other (set t (4 * i) (k .first)) (4 * i + 1) (4 * n + j) (k .second) 0 (omega arith)
-    ∙ getD-set-other t (4 * i) (4 * n + j) (k .first) 0 (omega arith)
+unfolding cell
+put-other t i k clock n j ne h = put-apart t i k clock (4 * n + j) (λ e. ne (omega arith))
+
+-- past the end nothing is filled
+put-out : (t : List ℕ) (i : ℕ) (k : Key) (clock : ℕ) → length t ≤ 4 * i → putRow t i k clock ≡ t
+unfolding putRow
+put-out t i k clock h =
+    rw (set-out t (4 * i) (k .first) h, set-out t (4 * i + 1) (k .second) (omega arith), set-out t (4 * i + 2) (k .third) (omega arith), set-out t (4 * i + 3) clock (omega arith)) refl
 
 -- row i has the key k and was admitted at d
 pub record Holds (t : List ℕ) (i : ℕ) (k : Key) (d : ℕ) : Type 0 where
@@ -113,17 +124,17 @@ length-free now t (suc n) =
     pick-case (λ (l : List ℕ). length l ≡ length t) _ (λ e. length-put (freeRows now t n) n noKey 0 ∙ length-free now t n) (λ e. length-free now t n)
 
 -- the rows that are still to come are as they were
-pub free-ahead : (now : ℕ) (t : List ℕ) (n i j : ℕ) → n ≤ i → j < 4 → cell (freeRows now t n) i j ≡ cell t i j
-unfolding freeRows
-free-ahead now t zero i j h l = refl
-free-ahead now t (suc n) i j h l =
-    let rest = free-ahead now t n i j (omega arith) l in
-    pick-case (λ f. cell f i j ≡ cell t i j) _ (λ e. put-other (freeRows now t n) n noKey 0 i j (omega arith) l ∙ rest) (λ e. rest)
+pub free-ahead : (now : ℕ) (t : List ℕ) (n i j : ℕ) → n ≤ i → cell (freeRows now t n) i j ≡ cell t i j
+unfolding freeRows cell
+free-ahead now t zero i j h = refl
+free-ahead now t (suc n) i j h =
+    let rest = free-ahead now t n i j (omega arith) in
+    pick-case (λ (f : List ℕ). getD f (4 * i + j) 0 ≡ getD t (4 * i + j) 0) _ (λ e. put-apart (freeRows now t n) n noKey 0 (4 * i + j) (λ e. omega arith) ∙ rest) (λ e. rest)
 
 -- so a row is judged as it was
 free-judged : (now : ℕ) (t : List ℕ) (n : ℕ) → rowDead now (freeRows now t n) n ≡ rowDead now t n
 unfolding rowDead
-free-judged now t n = rw (free-ahead now t n n 0 (le-refl n) (omega arith), free-ahead now t n n 3 (le-refl n) (omega arith)) refl
+free-judged now t n = rw (free-ahead now t n n 0 (le-refl n), free-ahead now t n n 3 (le-refl n)) refl
 
 -- a row that isn't dead is as it was
 pub free-live : (now : ℕ) (t : List ℕ) (n i j : ℕ) → rowDead now t i ≡ false → j < 4 → cell (freeRows now t n) i j ≡ cell t i j
@@ -153,6 +164,16 @@ free-dead now t (suc n) i h dead = go (free-judged now t n) (ℕ-discrete i n) (
         let rest = ih (omega arith) dead in
         pick-case (λ f. Holds f i noKey 0) _
         (λ e. same-holds (freeRows now t n) (putRow (freeRows now t n) n noKey 0) i (λ j l. put-other (freeRows now t n) n noKey 0 i j ne l) rest) (λ e. rest)
+
+-- and no row is admitted later than it was
+pub free-admitted : (now : ℕ) (t : List ℕ) (n i d : ℕ) → cell t i 3 ≤ d → cell (freeRows now t n) i 3 ≤ d
+unfolding freeRows
+free-admitted now t zero i d h = h
+free-admitted now t (suc n) i d h = let rest = free-admitted now t n i d h in pick-case (λ (f : List ℕ). cell f i 3 ≤ d) _ (λ e. go (ℕ-discrete i n) rest) (λ e. rest)
+  where
+    go : Dec (i ≡ n) → cell (freeRows now t n) i 3 ≤ d → cell (putRow (freeRows now t n) n noKey 0) i 3 ≤ d
+    go (no ne) rest = rw (put-other (freeRows now t n) n noKey 0 i 3 ne (omega arith)) rest
+    go (yes at) rest = rw (at, put-clears (freeRows now t n) n .clock) zero-le
 
 -- no row lives for less than 60,000 ms
 pub life-least : (first : ℕ) → 60000 ≤ rowLife first
@@ -348,13 +369,17 @@ later-lives first now d l = sym (lt-leb (rowLife first) (now - d) (omega (arith,
 
 -- the lowest free row filled, and where none is free
 module _ (t : List ℕ) (row : ℕ) (k : Key) (clock : ℕ) (sized : length t ≡ 256) (e : row ≡ lowestFree t) where
-  pub fills-row : (t′ : List ℕ) → row < 64 → t′ ≡ putRow t row k clock → (row ≡ whereSized t (lowestFree t) 64) × (t′ ≡ whereSized t (filled t k clock) t)
-  unfolding filled pick
-  fills-row t′ l h = (rw (of-sized t (lowestFree t) 64 sized) e, rw (of-sized t (filled t k clock) t sized, ← e, lt-ltb row 64 l) h)
-
   pub fills-none : 64 ≤ row → (row ≡ whereSized t (lowestFree t) 64) × (t ≡ whereSized t (filled t k clock) t)
   unfolding filled pick
   fills-none l = (rw (of-sized t (lowestFree t) 64 sized) e, rw (of-sized t (filled t k clock) t sized, ← e, le-ltb row 64 l) refl)
+
+  pub fills-row : (t′ : List ℕ) → t′ ≡ putRow t row k clock → (row ≡ whereSized t (lowestFree t) 64) × (t′ ≡ whereSized t (filled t k clock) t)
+  unfolding filled pick
+  fills-row t′ h = go (decLt row 64)
+    where
+      go : Dec (row < 64) → (row ≡ whereSized t (lowestFree t) 64) × (t′ ≡ whereSized t (filled t k clock) t)
+      go (yes l) = (rw (of-sized t (lowestFree t) 64 sized) e, rw (of-sized t (filled t k clock) t sized, ← e, lt-ltb row 64 l) h)
+      go (no l) = let (found, left) = fills-none (omega arith) in (found, h ∙ put-out t row k clock (omega arith) ∙ left)
 
 -- the code's index of a row's first number
 pub cell-first : (t : List ℕ) (i : ℕ) → cell t i 0 ≡ getD t (4 * i) 0

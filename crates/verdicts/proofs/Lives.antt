@@ -166,7 +166,7 @@ module _ (now : ℕ) (t : List ℕ) where
 
       go : (rowDead now t i ≡ true) ⊎ (rowDead now t i ≡ false) → Dec (i < 64) → Free (freed now t) i
       go (inl dead) (yes l) = free-is (freed now t) i .0 (zeros-free (freed now t) i (free-dead now t 64 i l dead))
-      go (inl dead) (no l) = as-was (λ j m. free-ahead now t 64 i j (omega arith) m)
+      go (inl dead) (no l) = as-was (λ j m. free-ahead now t 64 i j (omega arith))
       go (inr live) d = as-was (test-kept i live)
 
   module _ (good : tableBad now t ≡ false) (i : ℕ) where

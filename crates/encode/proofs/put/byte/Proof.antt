@@ -22,7 +22,7 @@ same-length : tie.Need-same-length
 same-length c = search needs
 
 returns-2 : tie.Need-returns-2
-returns-2 c = byte-in _ _ _ (omega arith)
+returns-2 c = byte-in _ _ _
 
 pub byte-spec : {M : Type 1} → statement M
 byte-spec =

@@ -2,10 +2,12 @@
 -- Assumes nothing.
 use mathlib.Core.Path.{sym, _∙_, ap}
 use mathlib.Core.List.{[]}
+use native.Mathlib.Omega.{arith}
 use Rattle.node.specs.Call.{callOf, laterVerdict}
 use Rattle.node.proofs.Spreads.{role-spreading}
 use Rattle.node.proofs.Outcomes.{own-outcome, answer-outcome, duplicate-outcome, later-outcome, names-apart}
 use Rattle.node_state.specs.Table.{isKnown}
+use Rattle.node_state.proofs.Masks.{up-below}
 use Rattle.node_state.proofs.Rows.{of-sized}
 use borrow.Author.Needs.{needs}
 use Rattle.node.proofs.spread.judge.Statement.{statement}
@@ -33,7 +35,7 @@ is-ours-requires : tie.Need-is-ours-requires
 is-ours-requires c κs = role-spreading (c .before .before .before .before .before .before .args .message .now) (c .before .before .before .before .before .before .args .s) (c .before .before .before .before .before .before .pre .1) .within
 
 answer-requires : tie.Need-answer-requires
-answer-requires c κs = (c .before .before .before .before .before .before .before .before .before .pre .0 .small, (c .before .before .before .before .before .before .before .before .before .pre .0 .fits, role-spreading (c .before .before .before .before .before .before .before .before .before .args .message .now) (c .before .before .before .before .before .before .before .before .before .args .s) (c .before .before .before .before .before .before .before .before .before .pre .1) .within))
+answer-requires c κs = (up-below 8 (c .before .before .before .before .before .before .before .before .before .args .node .links) (c .before .before .before .before .before .before .before .before .before .args .interface) (omega (arith, c .before .before .before .before .before .before .before .before .before .good)) (c .before .before .before .before .before .before .before .before .before .pre .0 .up), (c .before .before .before .before .before .before .before .before .before .pre .0 .fits, role-spreading (c .before .before .before .before .before .before .before .before .before .args .message .now) (c .before .before .before .before .before .before .before .before .before .args .s) (c .before .before .before .before .before .before .before .before .before .pre .1) .within))
 
 same-length : tie.Need-same-length
 same-length c = search needs

@@ -44,7 +44,7 @@ same-length c = search needs
 
 returns-3 : tie.Need-returns-3
 unfolding others
-returns-3 c = norow-outcome (c .before .before .before .before .before .before .before .before .before .before .before .before .before .args .node) (c .before .before .before .before .before .before .before .before .before .before .before .before .before .args .table .now) (callOf (c .before .before .before .before .before .before .before .before .before .before .before .before .before .args .node .clock) (c .before .before .before .before .before .before .before .before .before .before .before .before .before .args .interface) [] (c .before .before .before .before .before .before .before .before .before .before .before .before .before .args .message .now) (c .before .before .before .before .before .before .before .before .before .before .before .before .before .args .out .now)) (c .before .before .before .before .before .before .before .before .before .before .before .before .before .args .s) (c .before .before .before .before .before .before .before .before .if1 .left) (λ e. c .before .before .before .before .before .before .if2 .left (c .before .before .before .before .before .before .before .others .ensures ∙ e)) (c .before .before .before .before .before .before .before .before .before .before .before .before .before .pre .0 .sized) _ _ _ (c .before .before .before .before .fill-lowest .ensures) _ (c .quiet3 .ensures) (c .before .if3 .taken)
+returns-3 c = norow-outcome (c .before .before .before .before .before .before .before .before .before .before .before .before .before .args .node) (c .before .before .before .before .before .before .before .before .before .before .before .before .before .args .table .now) (callOf (c .before .before .before .before .before .before .before .before .before .before .before .before .before .args .node .clock) (c .before .before .before .before .before .before .before .before .before .before .before .before .before .args .interface) [] (c .before .before .before .before .before .before .before .before .before .before .before .before .before .args .message .now) (c .before .before .before .before .before .before .before .before .before .before .before .before .before .args .out .now)) (c .before .before .before .before .before .before .before .before .before .before .before .before .before .args .s) (c .before .before .before .before .before .before .before .before .if1 .left) (λ e. c .before .before .before .before .before .before .if2 .left (c .before .before .before .before .before .before .before .others .ensures ∙ e)) _ _ _ (c .before .before .before .before .fill-lowest .ensures) (c .before .before .before .before .before .before .before .before .before .before .before .before .before .pre .0 .sized) _ (c .quiet3 .ensures) (c .before .if3 .taken)
 
 put-onward-requires : tie.Need-put-onward-requires
 put-onward-requires c κs = search needs
@@ -60,7 +60,7 @@ same-length-3 c = search needs
 
 returns-4 : tie.Need-returns-4
 unfolding others
-returns-4 c = relay-outcome (c .before .before .before .before .before .before .before .before .before .before .before .before .before .before .before .before .before .args .node) (c .before .before .before .before .before .before .before .before .before .before .before .before .before .before .before .before .before .args .table .now) (callOf (c .before .before .before .before .before .before .before .before .before .before .before .before .before .before .before .before .before .args .node .clock) (c .before .before .before .before .before .before .before .before .before .before .before .before .before .before .before .before .before .args .interface) [] (c .before .before .before .before .before .before .before .before .before .before .before .before .before .before .before .before .before .args .message .now) (c .before .before .before .before .before .before .before .before .before .before .before .before .before .before .before .before .before .args .out .now)) (c .before .before .before .before .before .before .before .before .before .before .before .before .before .before .before .before .before .args .s) (c .before .before .before .before .before .before .before .before .before .before .before .before .if1 .left) (λ e. c .before .before .before .before .before .before .before .before .before .before .if2 .left (c .before .before .before .before .before .before .before .before .before .before .before .others .ensures ∙ e)) (c .before .before .before .before .before .before .before .before .before .before .before .before .before .before .before .before .before .pre .0 .sized) _ _ _ (c .before .before .before .before .before .before .before .before .fill-lowest .ensures) (c .before .before .before .before .before .before .before .before .before .before .before .before .before .before .before .before .before .pre .1 .1) _ _ (rw (← (c .before .before .before .before .before .before .before .before .before .before .before .others .ensures), ← (c .before .before .before .put-onward .ensures .0)) (c .relayed .ensures)) (c .before .before .before .put-onward .ensures .1) (c .before .before .before .before .before .if3 .left)
+returns-4 c = relay-outcome (c .before .before .before .before .before .before .before .before .before .before .before .before .before .before .before .before .before .args .node) (c .before .before .before .before .before .before .before .before .before .before .before .before .before .before .before .before .before .args .table .now) (callOf (c .before .before .before .before .before .before .before .before .before .before .before .before .before .before .before .before .before .args .node .clock) (c .before .before .before .before .before .before .before .before .before .before .before .before .before .before .before .before .before .args .interface) [] (c .before .before .before .before .before .before .before .before .before .before .before .before .before .before .before .before .before .args .message .now) (c .before .before .before .before .before .before .before .before .before .before .before .before .before .before .before .before .before .args .out .now)) (c .before .before .before .before .before .before .before .before .before .before .before .before .before .before .before .before .before .args .s) (c .before .before .before .before .before .before .before .before .before .before .before .before .if1 .left) (λ e. c .before .before .before .before .before .before .before .before .before .before .if2 .left (c .before .before .before .before .before .before .before .before .before .before .before .others .ensures ∙ e)) _ _ _ (c .before .before .before .before .before .before .before .before .fill-lowest .ensures) (c .before .before .before .before .before .before .before .before .before .before .before .before .before .before .before .before .before .pre .1 .1) _ _ (rw (← (c .before .before .before .before .before .before .before .before .before .before .before .others .ensures), ← (c .before .before .before .put-onward .ensures .0)) (c .relayed .ensures)) (c .before .before .before .put-onward .ensures .1) (c .before .before .before .before .before .if3 .left)
 
 pub relay-or-end-spec : {M : Type 1} → statement M
 relay-or-end-spec =

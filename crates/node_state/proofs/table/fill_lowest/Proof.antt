@@ -26,7 +26,7 @@ same-length : tie.Need-same-length
 same-length c = search needs
 
 returns-2 : tie.Need-returns-2
-returns-2 c = fills-row _ _ _ _ (c .before .before .before .before .before .before .before .if1 .left) (c .before .before .before .before .before .lowest-free .ensures) _ (c .before .before .before .before .if2 .taken) (c .before .before .put-row .ensures)
+returns-2 c = fills-row _ _ _ _ (c .before .before .before .before .before .before .before .if1 .left) (c .before .before .before .before .before .lowest-free .ensures) _ (c .before .before .put-row .ensures)
 
 same-length-2 : tie.Need-same-length-2
 same-length-2 c = search needs
