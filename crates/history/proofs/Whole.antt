@@ -7,6 +7,7 @@ use mathlib.Core.List.{List, [], _∷_, map}
 use Prim.Native.Nat.{ℕ, _+_, _-_, _*_, _^_, _≤_, _<_, zero-le}
 use native.Mathlib.Nat.{le-trans, mul-le-mul-right}
 use native.Mathlib.Omega.{arith}
+use lib.Count.{ones}
 use lib.ListN.{length, take, drop, length-map}
 use lib.Seq.{take-append-seam}
 use lib.Pow.{pow-mono}
@@ -29,7 +30,7 @@ use Rattle.roundtrip.specs.Lower.{onward}
 use Rattle.node.specs.Call.{Call, After, relayed, nodeCall, Passed}
 use Rattle.node.specs.History.{Event, call, links, Step, steps, finally, isRelay, saysRelay, maskOf, lengthOf, Told, told, relaysOf, given, sent, clockOf, arrivedOn, interfacesIn, copies, copiesOf, SameKey, apartBy, Apart, GoesOut, Near, Few, WholeList}
 use Rattle.node.specs.Demand.{Demand3}
-use Rattle.node_state.proofs.Masks.{record-links, up-below, taken-down}
+use Rattle.node_state.proofs.Masks.{record-links, up-below, taken-down, others-fewer}
 use Rattle.node_state.proofs.Rows.{put-holds, length-free, life-least, table-sized}
 use Rattle.node_state.proofs.Keys.{key-life, key-used}
 use Rattle.node.proofs.Outcomes.{arrives}
@@ -223,12 +224,13 @@ module _ (x : Step) (passes : Passed (x .node) (x .table) (x .call .clock) (x .c
       every-imp (λ j. (j < 8) × (hasBit (outgoing x) j ≡ true)) (λ j. j < x .node .interfaces) (λ j h. up-below (x .node .interfaces) (outgoing x) j small-mask (h .1))
       (interfacesIn 8 (outgoing x)) (interfaces-up 8 (outgoing x))
 
+  copies-many : length (interfacesIn 8 (outgoing x)) ≡ ones (outgoing x)
+  copies-many = length-interfaces 8 (outgoing x) (le-trans small-mask (pow-mono (record-links (x .node) (passes .good) .most)))
+
   went-tally : (s : Spread) → x .after ≡ relayed (clocked (x .node) (x .call .clock)) (freed (x .call .clock) (x .table)) (x .call) s → x .after .called .node .tally ≡ x .node .tally + length (copies x)
   unfolding relayed tallied clocked others outgoing
   went-tally s is =
-      let fits : outgoing x < 2 ^ 8 = le-trans small-mask (pow-mono (record-links (x .node) (passes .good) .most)) in
-      ap (λ (z : After). z .called .node .tally) is
-      ∙ ap (λ (z : ℕ). x .node .tally + z) (sym (length-interfaces 8 (outgoing x) fits) ∙ ap length (sym (went-copies x s is)))
+      ap (λ (z : After). z .called .node .tally) is ∙ ap (λ (z : ℕ). x .node .tally + z) (sym copies-many ∙ ap length (sym (went-copies x s is)))
 
 module _ (x : Step) (s : Spread) (k : Known x s) where
   known-sent : sent x .count ≡ s .objective .count - 1
@@ -240,10 +242,8 @@ module _ (x : Step) (s : Spread) (k : Known x s) where
       ∙ onward-count (x .call .message) s (k .facts .role)
 
   known-sound : Sound (x .node .interfaces) x
-  unfolding arrivedOn rowOf
+  unfolding arrivedOn rowOf others outgoing
   known-sound =
-      let below = arrives (x .node) (x .call .interface) (k .facts .passes .good) (k .facts .passes .arrives) .below in
-      let others-differ = every-imp (λ j. j ≢ x .call .interface) (λ j. x .call .interface ≢ j) (λ j d e. d (sym e)) (interfacesIn 8 (outgoing x)) (copies-differ x (k .facts .passes)) in
       let same = went-copies x s (k .is) in
       record {
         out = record {
@@ -254,8 +254,7 @@ module _ (x : Step) (s : Spread) (k : Known x s) where
           lower = rw (known-sent, known-given x s k) (omega (arith, k .facts .counts));
         };
         row = k .facts .room;
-        some-left =
-            rw same (omega (arith, pigeonhole (x .node .interfaces) (x .call .interface ∷ interfacesIn 8 (outgoing x)) (others-differ, interfaces-distinct 8 (outgoing x)) (below, copies-below x (k .facts .passes))));
+        some-left = rw (same, copies-many x (k .facts .passes)) (omega (arith, others-fewer (x .node) (x .call .interface) (k .facts .passes .good)));
       }
 
 sound : (n : ℕ) (es : List Event) → (r : Record) (t : List ℕ) → r .interfaces ≡ n → Every (Sound n) (relaysOf (steps r t es))

@@ -1,5 +1,5 @@
 -- One node call (the rules, "Refusal numbers", "Record and relay table" and "Verdicts"): what it answers, and the record, the table and the output after it.
-use Prim.Native.Nat.{ℕ, _^_, _≤_, _<_}
+use Prim.Native.Nat.{ℕ, _^_, _≤_}
 use mathlib.Core.Bool.{Bool, true, false, not, _&&_}
 use mathlib.Core.List.{List}
 use mathlib.Core.Path.{_≡_}

@@ -1,18 +1,19 @@
--- The interfaces in a mask: what is up is below a bound and part of the mask, and the mask without the arriving link.
+-- The interfaces in a mask: what is up is below a bound and part of the mask, and the mask without the arriving link, which has fewer ones.
 -- Assumes nothing.
 use mathlib.Core.Path.{_≡_, refl, ap, _∙_}
 use mathlib.Core.Bool.{true, false, _||_}
 use Prim.Native.Nat.{ℕ, zero, suc, _+_, _-_, _*_, _/_, _%_, _^_, _≤_, _<_}
-use native.Mathlib.Nat.{le-trans, mod-lt, div-eq-of-lt, one-mul}
+use native.Mathlib.Nat.{le-trans, mod-lt, div-eq-of-lt, one-mul, pow-suc}
 use native.Mathlib.Decide.{decLt}
 use native.Mathlib.Omega.{arith}
 use lib.Dec.{ltb, leb, eqb, lit<}
+use lib.Count.{ones, ones-step, ones-le}
 use lib.Pow.{shl-exact, pow-pos, pow-mono, split, high}
 use borrow.Author.Tests.{ltb-false, leb-false, eqb-true, eqb-false, ne-eqb, le-ltb}
 use Rattle.base.specs.Bits.{hasBit}
 use Rattle.base.proofs.Bools.{or-left, or-right}
 use Rattle.node_state.specs.declared.Record.{Record}
-use Rattle.node_state.specs.Record.{linksBad, recordBad}
+use Rattle.node_state.specs.Record.{linksBad, recordBad, others}
 
 -- the count and mask of links that aren't bad
 pub record Fit (interfaces mask : ℕ) : Type 0 where
@@ -95,3 +96,25 @@ taken-down mask i e = go (mask / 2 ^ i) refl
         let odd′ : suc q % 2 ≡ 1 = rw z at odd in
         let even : q % 2 ≡ 0 = omega arith in
         rw (quot, even) refl
+
+-- a mask that isn't full has fewer ones than bits
+ones-fewer : (n mask : ℕ) → mask + 1 < 2 ^ n → ones mask < n
+ones-fewer zero mask h = let one : 2 ^ 0 ≡ 1 = refl in absurd (omega arith)
+ones-fewer (suc n) mask h = by (mask % 2) refl (ones-fewer n (mask / 2))
+  where
+    double : 2 ^ suc n ≡ 2 ^ n * 2
+    double = pow-suc 2 n
+
+    by : (b : ℕ) → mask % 2 ≡ b → (mask / 2 + 1 < 2 ^ n → ones (mask / 2) < n) → ones mask < suc n
+    by zero e rest = let most = ones-le n (mask / 2) (omega (arith, double)) in omega (arith, ones-step mask)
+    by (suc b) e rest = let fewer = rest (omega (arith, double)) in omega (arith, ones-step mask)
+
+-- so the links up, less one, are fewer than the interfaces
+pub others-fewer : (r : Record) (i : ℕ) → recordBad r ≡ false → ones (others r i) < r .interfaces
+unfolding others
+others-fewer r i good =
+    let f = record-links r good in
+    let two : 2 ^ 1 ≤ 2 ^ r .interfaces = pow-mono (f .some) in
+    let one : 2 ^ 1 ≡ 2 = refl in
+    let some : 0 < 2 ^ i = pow-pos i in
+    ones-fewer (r .interfaces) (r .links - 2 ^ i) (omega (arith, f .small))

@@ -1,48 +1,17 @@
 -- The tally never wraps: a call adds at most 7, and a record with more than 2^63 is refused.
 -- Assumes nothing.
-use mathlib.Core.Path.{_≡_, sym, ap, subst}
-use mathlib.Core.Logic.{_≢_}
-use mathlib.Core.Bool.{true, false}
+use mathlib.Core.Path.{_≡_, ap}
 use mathlib.Core.List.{List, [], _∷_}
 use Prim.Native.Nat.{ℕ, _+_, _-_, _^_, _≤_, _<_}
-use native.Mathlib.Nat.{le-refl, le-trans}
+use native.Mathlib.Nat.{le-refl}
 use native.Mathlib.Omega.{arith}
 use lib.Count.{ones}
-use lib.ListN.{length}
-use lib.Pow.{pow-mono}
-use Rattle.base.specs.Lists.{Every}
-use Rattle.base.specs.Bits.{hasBit}
-use Rattle.base.proofs.Bools.{not-both}
-use Rattle.base.proofs.Lists.{every-imp}
-use Rattle.base.proofs.Pigeonhole.{pigeonhole}
 use Rattle.node_state.specs.declared.Record.{Record}
-use Rattle.node_state.specs.Record.{recordBad, arrivalBad, others, clocked, tallied, setLinks}
+use Rattle.node_state.specs.Record.{others, clocked, tallied, setLinks}
 use Rattle.node.specs.Call.{Call, After, relayed, nodeCall}
-use Rattle.node.specs.History.{Event, call, links, finally, interfacesIn}
-use Rattle.node_state.proofs.Masks.{record-links, record-tally, up-below, taken-down}
-use Rattle.node.proofs.Outcomes.{arrives}
-use Rattle.history.proofs.Copies.{interfaces-up, interfaces-distinct, length-interfaces}
+use Rattle.node.specs.History.{Event, call, links, finally}
+use Rattle.node_state.proofs.Masks.{record-links, record-tally, others-fewer}
 use Rattle.history.proofs.Calls.{View, stayed, ended, went, view, links-keep}
-
--- the copies of one relay and the arriving interface are different interfaces
-few-copies : (r : Record) (i : ℕ) → recordBad r ≡ false → arrivalBad r i ≡ false → ones (others r i) + 1 ≤ r .interfaces
-unfolding others
-few-copies r i good arrival =
-    let a = arrives r i good arrival in
-    let fit = record-links r good in
-    let mask = r .links - 2 ^ i in
-    let small : mask < 2 ^ r .interfaces = let l = fit .small in omega arith in
-    let up = interfaces-up 8 mask in
-    let apart : Every (λ j. i ≢ j) (interfacesIn 8 mask) =
-    every-imp (λ j. (j < 8) × (hasBit mask j ≡ true)) (λ j. i ≢ j)
-    (λ j h e. not-both (hasBit mask i) (subst (λ (z : ℕ). hasBit mask z ≡ true) (sym e) (h .1)) (taken-down (r .links) i (a .up))) (interfacesIn 8 mask) up
-    in
-    let below : Every (λ j. j < r .interfaces) (interfacesIn 8 mask) =
-    every-imp (λ j. (j < 8) × (hasBit mask j ≡ true)) (λ j. j < r .interfaces) (λ j h. up-below (r .interfaces) mask j small (h .1)) (interfacesIn 8 mask) up
-    in
-    let many : length (interfacesIn 8 mask) ≡ ones mask = length-interfaces 8 mask (le-trans small (pow-mono (fit .most))) in
-    let most : length (i ∷ interfacesIn 8 mask) ≤ r .interfaces = pigeonhole (r .interfaces) (i ∷ interfacesIn 8 mask) (apart, interfaces-distinct 8 mask) (a .below, below) in
-    omega arith
 
 -- what a call adds, and that it adds nothing to a tally above 2^63
 added : (r : Record) (t : List ℕ) (c : Call) (b : After) (most : ℕ) → 2 ^ 63 + 7 ≤ most → View r t c b
@@ -52,7 +21,7 @@ added r t c b most room (stayed nb tb e) = let same = ap (λ (n : Record). n .ta
 added r t c b most room (ended p nb tb e) = let same = ap (λ (n : Record). n .tally) nb in (omega arith, λ h. omega arith)
 added r t c b most room (went s k e) =
     let same : b .called .node .tally ≡ r .tally + ones (r .links - 2 ^ c .interface) = ap (λ (z : After). z .called .node .tally) e in
-    let few : ones (r .links - 2 ^ c .interface) + 1 ≤ r .interfaces = few-copies r (c .interface) (k .passes .good) (k .passes .arrives) in
+    let few : ones (r .links - 2 ^ c .interface) < r .interfaces = others-fewer r (c .interface) (k .passes .good) in
     let eight : r .interfaces ≤ 8 = record-links r (k .passes .good) .most in
     let less : r .tally ≤ 2 ^ 63 = record-tally r (k .passes .good) in
     (omega arith, λ h. omega arith)

@@ -1,7 +1,6 @@
 -- `encode::put::byte` meets its contract.
 -- Assumes nothing.
 use Rattle.encode.proofs.Puts.{byte-over, byte-in}
-use native.Mathlib.Omega.{arith}
 use borrow.Author.Needs.{needs}
 use Rattle.encode.proofs.put.byte.Statement.{statement}
 use Rattle.encode.proofs.put.byte.Tie as tie

@@ -3,7 +3,6 @@
 use mathlib.Core.Path.{refl}
 use native.Mathlib.Omega.{arith}
 use Rattle.node_state.proofs.Masks.{one-bit, up-below, up-le}
-use borrow.Author.Needs.{needs}
 use Rattle.node.proofs.links.others.Statement.{statement}
 use Rattle.node.proofs.links.others.Tie as tie
 use Rattle.node.proofs.links.others.Reads as reads
