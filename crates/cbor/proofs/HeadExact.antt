@@ -13,6 +13,7 @@ use borrow.Author.Tests.{lt-ltb, le-ltb, lt-leb, ne-eqb, ltb-true, ltb-false, le
 use Rattle.base.specs.Pick.{pick}
 use Rattle.base.specs.BigEndian.{bigEndian, bytesOf, Bytes}
 use Rattle.base.proofs.Picks.{pick-case, both}
+use Rattle.base.proofs.Parts.{there}
 use Rattle.base.proofs.Digits.{length-bytes, read-back, spelled, big-endian-lt}
 use Rattle.cbor.specs.declared.head.Initial.{Initial}
 use Rattle.cbor.specs.declared.head.HeadRead.{HeadRead}
@@ -183,19 +184,19 @@ unfolding bigEndian bytesOf
 one-spelled [] h l = absurd (omega arith)
 one-spelled (x ∷ s) h l = ap (λ (v : ℕ). v ∷ []) (omega arith)
 
-small-info : (first : ℕ) (s : List ℕ) → widthOf (first % 32) ≤ length s → leastOf (widthOf (first % 32)) ≤ argOf first (widthOf (first % 32)) s
+small-info : (first : ℕ) (s : List ℕ) → leastOf (widthOf (first % 32)) ≤ argOf first (widthOf (first % 32)) s
     → argOf first (widthOf (first % 32)) s < 2 ^ 8 → Info first s (widthOf (first % 32))
-unfolding widthOf leastOf infoOf argOf bytesOf pick
+unfolding widthOf leastOf infoOf argOf bigEndian bytesOf pick
 small-info first s =
-    pick-case P (ltb info 24) (λ e h l a. record { same = refl; digits = refl; sized = Sized.in-first (ltb-true info 24 e) })
-    (λ _. pick-case P (eqb info 24) (λ e h l a. record { same = sym (eqb-true info 24 e); digits = one-spelled s h a; sized = Sized.one a })
-    (λ _. both P (eqb info 25) (λ h l a. absurd (omega arith)) (both P (eqb info 26) (λ h l a. absurd (omega arith)) (λ h l a. absurd (omega arith)))))
+    pick-case P (ltb info 24) (λ e l a. record { same = refl; digits = refl; sized = Sized.in-first (ltb-true info 24 e) })
+    (λ _. pick-case P (eqb info 24) (λ e l a. record { same = sym (eqb-true info 24 e); digits = one-spelled s (there s 0 (omega arith)) a; sized = Sized.one a })
+    (λ _. both P (eqb info 25) (λ l a. absurd (omega arith)) (both P (eqb info 26) (λ l a. absurd (omega arith)) (λ l a. absurd (omega arith)))))
   where
     info : ℕ
     info = first % 32
 
     P : ℕ → Type 0
-    P width = width ≤ length s → leastOf width ≤ argOf first width s → argOf first width s < 2 ^ 8 → Info first s width
+    P width = leastOf width ≤ argOf first width s → argOf first width s < 2 ^ 8 → Info first s width
 
 abbrev pub SmallIs : List ℕ → HeadRead → Type 0
 SmallIs s (HeadRead.Refused number place) = Unit {0}
@@ -207,9 +208,9 @@ unfolding headAt headBytes
 small-is [] = tt
 small-is (first ∷ s) =
     first-case P first s (λ _ _. tt) (λ _. tt) (λ _ _. tt)
-    (λ lt room. judged-case P (first / 32) (argOf first width s) width (λ _ _ _. tt) (λ _ _. tt)
+    (λ _ _. judged-case P (first / 32) (argOf first width s) width (λ _ _ _. tt) (λ _ _. tt)
     (λ simple short low small.
-    let i = small-info first s room (short (λ e. omega arith)) small in
+    let i = small-info first s (short (λ e. omega arith)) small in
     record {
       width = width;
       bytes = rw (one-add width, i .same, i .digits, div-add-mod' first 32);

@@ -165,8 +165,8 @@ module _ (left : ℕ) (s : List ℕ) (major arg len : ℕ) (h : Spelt s major ar
 
 pub step-is : (left : ℕ) (s : List ℕ) → Bytes s → StepIs left s (stepAt left s)
 unfolding stepAt stepFrom
-step-is left s b = by (headAt s) refl (head-is s b)
+step-is left s b = by (headAt s) refl
   where
-    by : (x : HeadRead) → headAt s ≡ x → HeadIs s x → StepIs left s (stepFrom left (length s) x)
-    by (HeadRead.Refused number place) e i = let f = head-fault left s number place b e in record { fault = f .0; at = f .1 }
-    by (HeadRead.Head major arg len) e i = step-of-is left s major arg len i b
+    by : (x : HeadRead) → headAt s ≡ x → StepIs left s (stepFrom left (length s) x)
+    by (HeadRead.Refused number place) e = let f = head-fault left s number place b e in record { fault = f .0; at = f .1 }
+    by (HeadRead.Head major arg len) e = step-of-is left s major arg len (subst (HeadIs s) e (head-is s b)) b

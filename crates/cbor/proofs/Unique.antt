@@ -3,11 +3,11 @@
 use mathlib.Core.Path.{_≡_, refl, sym, ap, ap₂, _∙_, subst₃}
 use mathlib.Core.List.{List, _++_, append-assoc}
 use mathlib.Core.Bool.{true, false}
-use Prim.Native.Nat.{ℕ, _+_, _/_}
+use Prim.Native.Nat.{ℕ, _+_, _*_, _/_}
 use native.Mathlib.Omega.{arith}
 use Rattle.base.proofs.Parts.{cancel}
-use lib.ListN.{length, take}
-use lib.Seq.{take-at}
+use lib.ListN.{length, take, drop}
+use lib.Seq.{take-at, drop-at}
 use Rattle.cbor.specs.declared.head.HeadRead.{HeadRead}
 use Rattle.cbor.specs.Head.{headAt}
 use Rattle.cbor.specs.Tree.{Item, Items, headBytes, Right, count, encode, encodes, Good, Goods}
@@ -62,11 +62,12 @@ alike x y r r′ g g′ e =
     let width : c .width ≡ a .width = omega arith in
     subst₃ (Kind y) major width arg (c .kind)
 
--- what follows two heads that are the same
-after : (m w a a′ : ℕ) (t r t′ r′ : List ℕ) → a′ ≡ a → (headBytes m w a ++ t) ++ r ≡ (headBytes m w a′ ++ t′) ++ r′ → t ++ r ≡ t′ ++ r′
-after m w a a′ t r t′ r′ e q =
-    cancel (headBytes m w a) (t ++ r) (t′ ++ r′)
-    (sym (append-assoc (headBytes m w a) t r) ∙ q ∙ append-assoc (headBytes m w a′) t′ r′ ∙ ap (λ (k : ℕ). headBytes m w k ++ (t′ ++ r′)) e)
+-- what follows two heads of one width
+after : (m w a a′ : ℕ) (t r t′ r′ : List ℕ) → (headBytes m w a ++ t) ++ r ≡ (headBytes m w a′ ++ t′) ++ r′ → t ++ r ≡ t′ ++ r′
+after m w a a′ t r t′ r′ q =
+    sym (drop-at (headBytes m w a) (t ++ r) (1 + w) (length-head m w a))
+    ∙ ap (drop (1 + w)) (sym (append-assoc (headBytes m w a) t r) ∙ q ∙ append-assoc (headBytes m w a′) t′ r′)
+    ∙ drop-at (headBytes m w a′) (t′ ++ r′) (1 + w) (length-head m w a′)
 
 -- the first bytes of two strings of the same length
 front : (bs cs r r′ : List ℕ) → length cs ≡ length bs → bs ++ r ≡ cs ++ r′ → bs ≡ cs
@@ -85,27 +86,27 @@ same-simple w n _ Kind.simple = refl
 module _ (w : ℕ) (r r′ : List ℕ) where
   same-bytes : (bs : List ℕ) (y : Item) (n : ℕ) → n ≡ length bs → Kind y 2 w n → encode (Item.string false w bs) ++ r ≡ encode y ++ r′ → Item.string false w bs ≡ y
   unfolding encode
-  same-bytes bs _ _ e (Kind.bytes {bs = cs}) q = ap (Item.string false w) (front bs cs r r′ e (after 2 w (length bs) (length cs) bs r cs r′ e q))
+  same-bytes bs _ _ e (Kind.bytes {bs = cs}) q = ap (Item.string false w) (front bs cs r r′ e (after 2 w (length bs) (length cs) bs r cs r′ q))
 
   same-text : (bs : List ℕ) (y : Item) (n : ℕ) → n ≡ length bs → Kind y 3 w n → encode (Item.string true w bs) ++ r ≡ encode y ++ r′ → Item.string true w bs ≡ y
   unfolding encode
-  same-text bs _ _ e (Kind.text {bs = cs}) q = ap (Item.string true w) (front bs cs r r′ e (after 3 w (length bs) (length cs) bs r cs r′ e q))
+  same-text bs _ _ e (Kind.text {bs = cs}) q = ap (Item.string true w) (front bs cs r r′ e (after 3 w (length bs) (length cs) bs r cs r′ q))
 
   same-tagged : (n : ℕ) (x y : Item) (m : ℕ) → m ≡ n → ((z : Item) → Good z → encode x ++ r ≡ encode z ++ r′ → x ≡ z)
       → Kind y 6 w m → Good y → encode (Item.tagged w n x) ++ r ≡ encode y ++ r′ → Item.tagged w n x ≡ y
   unfolding encode
-  same-tagged n x _ _ e same (Kind.tagged {n = m} {x = z}) g q = ap₂ (Item.tagged w) (sym e) (same z (g .1) (after 6 w n m (encode x) r (encode z) r′ e q))
+  same-tagged n x _ _ e same (Kind.tagged {n = m} {x = z}) g q = ap₂ (Item.tagged w) (sym e) (same z (g .1) (after 6 w n m (encode x) r (encode z) r′ q))
 
   module _ (xs : Items) (same : (ys : Items) → Goods ys → count ys ≡ count xs → encodes xs ++ r ≡ encodes ys ++ r′ → xs ≡ ys) where
     same-array : (y : Item) (n : ℕ) → n ≡ count xs → Kind y 4 w n → Good y → encode (Item.array w xs) ++ r ≡ encode y ++ r′ → Item.array w xs ≡ y
     unfolding encode
-    same-array _ _ e (Kind.array {xs = ys}) g q = ap (Item.array w) (same ys (g .1) e (after 4 w (count xs) (count ys) (encodes xs) r (encodes ys) r′ e q))
+    same-array _ _ e (Kind.array {xs = ys}) g q = ap (Item.array w) (same ys (g .1) e (after 4 w (count xs) (count ys) (encodes xs) r (encodes ys) r′ q))
 
-    same-map : (y : Item) (n : ℕ) → n ≡ count xs / 2 → Kind y 5 w n → Good (Item.map w xs) → Good y → encode (Item.map w xs) ++ r ≡ encode y ++ r′ → Item.map w xs ≡ y
+    same-map : (y : Item) (n : ℕ) → n ≡ count xs / 2 → Kind y 5 w n → count xs / 2 * 2 ≡ count xs → Good y → encode (Item.map w xs) ++ r ≡ encode y ++ r′ → Item.map w xs ≡ y
     unfolding encode
-    same-map _ _ e (Kind.map {xs = ys}) f g q =
+    same-map _ _ e (Kind.map {xs = ys}) even g q =
         ap (Item.map w)
-        (same ys (g .2) (omega (arith, f .1, g .1)) (after 5 w (count xs / 2) (count ys / 2) (encodes xs) r (encodes ys) r′ e q))
+        (same ys (g .2) (omega (arith, g .1)) (after 5 w (count xs / 2) (count ys / 2) (encodes xs) r (encodes ys) r′ q))
 
 mutual
   unfolding first count encode
@@ -118,7 +119,7 @@ mutual
   unique (Item.array w xs) y r r′ g g′ e =
       same-array w r r′ xs (λ ys h c q. uniques xs ys r r′ (g .1) h c q) y (count xs) refl (alike (Item.array w xs) y r r′ g g′ e) g′ e
   unique (Item.map w xs) y r r′ g g′ e =
-      same-map w r r′ xs (λ ys h c q. uniques xs ys r r′ (g .2) h c q) y (count xs / 2) refl (alike (Item.map w xs) y r r′ g g′ e) g g′ e
+      same-map w r r′ xs (λ ys h c q. uniques xs ys r r′ (g .2) h c q) y (count xs / 2) refl (alike (Item.map w xs) y r r′ g g′ e) (g .1) g′ e
   unique (Item.tagged w n x) y r r′ g g′ e =
       same-tagged w r r′ n x y n refl (λ z h q. unique x z r r′ (g .1) h q) (alike (Item.tagged w n x) y r r′ g g′ e) g′ e
   unique (Item.simple w n) y r r′ g g′ e = same-simple w n y (alike (Item.simple w n) y r r′ g g′ e)

@@ -4,7 +4,7 @@ use mathlib.Core.Path.{_≡_, refl, sym, ap, _∙_, subst}
 use mathlib.Core.Logic.{inl, inr}
 use mathlib.Core.List.{List, []}
 use mathlib.Core.Bool.{Bool, true, false}
-use Prim.Native.Nat.{ℕ, suc, _+_, _-_, _≤_, _<_}
+use Prim.Native.Nat.{ℕ, zero, suc, _+_, _-_, _≤_, _<_}
 use native.Mathlib.Omega.{arith}
 use lib.ListN.{length, take, drop, length-drop}
 use lib.Dec.{ltb, leb, eqb}
@@ -151,6 +151,11 @@ abbrev pub ObjectiveWalked : ℕ → List ℕ → ObjectiveRead → Type 0
 ObjectiveWalked levels s (ObjectiveRead.Bad place) = Unit {0}
 ObjectiveWalked levels s (ObjectiveRead.Got o size bad long) = Passes (suc (leftUnder levels)) 1 s 0 size
 
+-- a head that another is read after has some bytes
+some-first : (s : List ℕ) (next : ℕ) → tokenAt s 0 .next ≡ next → tokenAt s next .major < 8 → 1 ≤ next
+some-first s zero e there = omega (arith, token-has s 0 .some there)
+some-first s (suc n) e there = omega arith
+
 -- both: one byte is its own head's, its name's, its flags' and its count's
 objective-told : (levels base : ℕ) (s : List ℕ) → ObjectiveOk base (length s) (objectiveIn levels base s) × ObjectiveWalked levels s (objectiveIn levels base s)
 unfolding objectiveIn objectiveNamed objectiveFrom
@@ -163,7 +168,7 @@ objective-told levels base s =
     (λ t₅. pick-case P (ltb 255 (upTo 255 c)) (λ _. (tt, tt))
     (λ t₆.
     let array : a .major ≡ 4 = is-array a (eqb-false (itemsIn a) 0 t₁) in
-    let made = got array (eqb-true (n .major) 3 t₂) (ltb-false 15 (upTo 15 f) t₅) (ltb-false 255 (upTo 255 c) t₆) in
+    let made = got (eqb-true (n .major) 3 t₂) (ltb-false 15 (upTo 15 f) t₅) (ltb-false 255 (upTo 255 c) t₆) in
     let (parts, four, end, three) = made len in
     pick-case P (eqb (a .arg) 3) (λ t₇. ((made 0 .0, four, end, omega arith), array-passes s 0 array (rw (eqb-true (a .arg) 3 t₇) three)))
     (λ t₇. pick-case P (eqb len 0) (λ _. (tt, tt))
@@ -192,12 +197,12 @@ objective-told levels base s =
     P : ObjectiveRead → Type 0
     P r = ObjectiveOk base (length s) r × ObjectiveWalked levels s r
 
-    got : a .major ≡ 4 → n .major ≡ 3 → upTo 15 f ≤ 15 → upTo 255 c ≤ 255 → (len : ℕ)
+    got : n .major ≡ 3 → upTo 15 f ≤ 15 → upTo 255 c ≤ 255 → (len : ℕ)
         → ObjectiveParts (base + length s) (objectiveFrom base n (upTo 15 f) c (upTo 255 c) len) × (4 ≤ c .next) × (c .next ≤ length s) × Passes (leftUnder levels) 3 s (a .next) (c .next)
-    got array is-text few byte len =
+    got is-text few byte len =
         let (flags, _) = is-number 15 f few in
         let (number, same) = is-number 255 c byte in
-        let a₁ : 0 + 1 ≤ a .next = token-has s 0 .some (omega arith) in
+        let a₁ : 1 ≤ a .next = some-first s (a .next) refl (omega arith) in
         let n₁ : a .next + 1 ≤ n .next = token-has s (a .next) .some (omega arith) in
         let f₁ : n .next + 1 ≤ f .next = token-has s (n .next) .some (omega arith) in
         let c₁ : f .next + 1 ≤ c .next = token-has s (f .next) .some (omega arith) in
@@ -287,16 +292,17 @@ module _ (base : ℕ) (s : List ℕ) where
   tagged-told at o bad long (LocatorRead.Got l size b) parts later h walked close = ((parts, omega arith, omega arith, later), close (at + size) (passes-within (walked (leftUnder pairLevels))))
 
   -- a pair from its objective on
-  led-told : (n at : ℕ) (x : ObjectiveRead) → 1 ≤ at → ObjectiveOk (base + at) (length s - at) x → ObjectiveWalked pairLevels (drop at s) x
-      → ((e : ℕ) → Passes (suc (leftUnder pairLevels)) n s at e → Passes (suc (suc (leftUnder pairLevels))) 1 s 0 e) → Told (pairLed base s n at x)
+  led-told : (x : ObjectiveRead) → tokenAt s 0 .major ≡ 4 → ObjectiveOk (base + tokenAt s 0 .next) (length s - tokenAt s 0 .next) x
+      → ObjectiveWalked pairLevels (drop (tokenAt s 0 .next) s) x → Told (pairLed base s (tokenAt s 0 .arg) (tokenAt s 0 .next) x)
   unfolding pairLed pairTail isEmpty
-  led-told n at (ObjectiveRead.Bad place) some h walked close = (tt, tt)
-  led-told n at (ObjectiveRead.Got o size bad long) some h walked close =
+  led-told (ObjectiveRead.Bad place) array h walked = (tt, tt)
+  led-told (ObjectiveRead.Got o size bad long) array h walked =
+      let some : 0 + 1 ≤ at = token-has s 0 .some (omega arith) in
       let end : base + at + (length s - at) ≡ base + length s = omega arith in
       let parts = subst (λ (e : ℕ). ObjectiveParts e o) end (h .0) in
       pick-case Told (eqb n 2)
       (λ two.
-      let second : Second (at + size) = λ e tag. close e (rw (eqb-true n 2 two) (passes-then (passes-within walked) tag)) in
+      let second : Second (at + size) = λ e tag. array-passes s 0 array (rw (eqb-true n 2 two) (passes-then (passes-within walked) tag)) in
       pick-case Told _
       (λ e.
       let (four, none) = empty-is w e in
@@ -305,6 +311,12 @@ module _ (base : ℕ) (s : List ℕ) where
       (λ _. tagged-told (at + size) o bad long _ parts (omega (arith, h .3)) (locator-within s (base + (at + size)) (at + size) _ _ refl refl) (locator-walked (base + (at + size)) (drop (at + size) s)) second))
       (λ _. (tt, tt))
     where
+      n : ℕ
+      n = tokenAt s 0 .arg
+
+      at : ℕ
+      at = tokenAt s 0 .next
+
       w : Token
       w = tokenAt s (at + size)
 
@@ -316,8 +328,7 @@ module _ (base : ℕ) (s : List ℕ) where
       pick-case Told (eqb (itemsIn a) 0) (λ _. (tt, tt))
       (λ t.
       let four = is-array a (eqb-false (itemsIn a) 0 t) in
-      led-told (a .arg) (a .next) _ (token-has s 0 .some (omega arith)) (objective-within pairLevels s (base + a .next) (a .next) _ _ refl refl)
-      (objective-walked pairLevels (base + a .next) (drop (a .next) s)) (λ e items. array-passes s 0 four items))
+      led-told _ four (objective-within pairLevels s (base + a .next) (a .next) _ _ refl refl) (objective-walked pairLevels (base + a .next) (drop (a .next) s)))
 
   -- a pair that is read lies within the part
   pair-ok : PairOk base (length s) (pairIn base s)

@@ -1,6 +1,6 @@
 -- One scalar value and its bytes: they are accepted, what is accepted after a lead byte spells one, and the bytes tell which one.
 -- Assumes nothing.
-use mathlib.Core.Path.{_≡_, _∙_}
+use mathlib.Core.Path.{_≡_, refl, _∙_}
 use mathlib.Core.Logic.{inl, inr, ⊎-elim}
 use mathlib.Core.List.{List, [], _∷_, _++_}
 use Prim.Native.Nat.{ℕ, suc, _+_, _-_, _*_, _/_, _%_, _^_, _<_, _≤_}
@@ -23,6 +23,11 @@ tails-case b P none one two three past =
     pick-case P (ltb b 0xE0) (λ e. one (ltb-false b 0xC2 l1) (ltb-true b 0xE0 e)) (λ l2.
     pick-case P (ltb b 0xF0) (λ e. two (ltb-false b 0xE0 l2) (ltb-true b 0xF0 e)) (λ l3.
     pick-case P (ltb b 0xF5) (λ e. three (ltb-false b 0xF0 l3) (ltb-true b 0xF5 e)) (λ l4. past (ltb-false b 0xF5 l4)))))
+
+-- a byte that tails follow
+pub lead-from : (b : ℕ) → (tailsOf b ≡ 0 → ⊥) → 0xC2 ≤ b
+lead-from b =
+    tails-case b (λ n. (n ≡ 0 → ⊥) → 0xC2 ≤ b) (λ _ some. absurd (some refl)) (λ l _ _. l) (λ l _ _. omega arith) (λ l _ _. omega arith) (λ l _. omega arith)
 
 least-case : (b : ℕ) (P : ℕ → Type 0) → (b ≡ 0xE0 → P 0xA0) → (b ≡ 0xF0 → P 0x90) → ((b ≡ 0xE0 → ⊥) → (b ≡ 0xF0 → ⊥) → P 0x80) → P (leastTail b)
 unfolding leastTail
@@ -54,9 +59,11 @@ ascii : (b : ℕ) (s : List ℕ) → b < 0x80 → goesOn 0 0x80 0xBF (b ∷ s) �
 unfolding goesOn pick
 ascii b s h = rw (lt-ltb b 0x80 h)
 
-lead : (due b t : ℕ) (s : List ℕ) → 0x80 ≤ b → tailsOf b ≡ suc due → leastTail b ≤ t → t ≤ greatestTail b → goesOn 0 0x80 0xBF (b ∷ t ∷ s) ≡ goesOn due 0x80 0xBF s
+lead : (due b t : ℕ) (s : List ℕ) → tailsOf b ≡ suc due → leastTail b ≤ t → t ≤ greatestTail b → goesOn 0 0x80 0xBF (b ∷ t ∷ s) ≡ goesOn due 0x80 0xBF s
 unfolding goesOn pick
-lead due b t s h e l g = rw (le-ltb b 0x80 h, e, ne-eqb (suc due) 0 (λ q. omega arith), le-ltb t (leastTail b) l, le-ltb (greatestTail b) t g)
+lead due b t s e l g =
+    let low = lead-from b (λ z. omega arith) in
+    rw (le-ltb b 0x80 (omega arith), e, ne-eqb (suc due) 0 (λ q. omega arith), le-ltb t (leastTail b) l, le-ltb (greatestTail b) t g)
 
 tail : (due t : ℕ) (s : List ℕ) → 0x80 ≤ t → t ≤ 0xBF → goesOn (suc due) 0x80 0xBF (t ∷ s) ≡ goesOn due 0x80 0xBF s
 unfolding goesOn pick
@@ -66,7 +73,7 @@ passed-two : (c : ℕ) (r : List ℕ) → 0x80 ≤ c → c < 0x800 → goesOn 0 
 passed-two c r l h =
     let b = 0xC0 + c / 2 ^ 6 in
     let t = 0x80 + c % 2 ^ 6 in
-    lead 0 b t r (omega arith) (tails-case b (λ n. n ≡ 1) (omega arith) (omega arith) (omega arith) (omega arith) (omega arith))
+    lead 0 b t r (tails-case b (λ n. n ≡ 1) (omega arith) (omega arith) (omega arith) (omega arith) (omega arith))
     (least-case b (λ x. x ≤ t) (omega arith) (omega arith) (omega arith)) (greatest-case b (λ x. t ≤ x) (omega arith) (omega arith) (omega arith))
 
 passed-three : (c : ℕ) (r : List ℕ) → Scalar c → 0x800 ≤ c → c < 0x10000
@@ -74,7 +81,7 @@ passed-three : (c : ℕ) (r : List ℕ) → Scalar c → 0x800 ≤ c → c < 0x1
 passed-three c r g l h =
     let b = 0xE0 + c / 2 ^ 12 in
     let t = 0x80 + c / 2 ^ 6 % 2 ^ 6 in
-    lead 1 b t _ (omega arith) (tails-case b (λ n. n ≡ 2) (omega arith) (omega arith) (omega arith) (omega arith) (omega arith))
+    lead 1 b t _ (tails-case b (λ n. n ≡ 2) (omega arith) (omega arith) (omega arith) (omega arith) (omega arith))
     (least-case b (λ x. x ≤ t) (omega arith) (omega arith) (omega arith))
     (greatest-case b (λ x. t ≤ x) (λ e. ⊎-elim (λ k. omega arith) (λ k. omega arith) g) (omega arith) (omega arith))
     ∙ tail 0 (0x80 + c % 2 ^ 6) r (omega arith) (omega arith)
@@ -84,7 +91,7 @@ passed-four : (c : ℕ) (r : List ℕ) → 0x10000 ≤ c → c ≤ 0x10FFFF
 passed-four c r l h =
     let b = 0xF0 + c / 2 ^ 18 in
     let t = 0x80 + c / 2 ^ 12 % 2 ^ 6 in
-    lead 2 b t _ (omega arith) (tails-case b (λ n. n ≡ 3) (omega arith) (omega arith) (omega arith) (omega arith) (omega arith))
+    lead 2 b t _ (tails-case b (λ n. n ≡ 3) (omega arith) (omega arith) (omega arith) (omega arith) (omega arith))
     (least-case b (λ x. x ≤ t) (omega arith) (omega arith) (omega arith)) (greatest-case b (λ x. t ≤ x) (omega arith) (omega arith) (omega arith))
     ∙ tail 1 (0x80 + c / 2 ^ 6 % 2 ^ 6) _ (omega arith) (omega arith)
     ∙ tail 0 (0x80 + c % 2 ^ 6) r (omega arith) (omega arith)

@@ -1,11 +1,13 @@
 -- `utf8::is_utf8` meets its contract. The loop's invariant: the bytes from `at` on are UTF-8 just where the whole is.
 -- The measure is what is left of the length.
 -- Assumes nothing.
-use mathlib.Core.Path.{_≡_, refl, ap, _∙_}
+use mathlib.Core.Path.{_≡_, refl, sym, ap, _∙_}
 use mathlib.Core.Bool.{Bool, true}
 use mathlib.Core.List.{List, _∷_}
 use Prim.Native.Nat.{ℕ, _≤_, _<_, _-_, _+_}
+use native.Mathlib.Decide.{decLt}
 use native.Mathlib.Numerals.{add-one}
+use native.Mathlib.Omega.{arith}
 use borrow.Author.Needs.{needs}
 use borrow.Author.Tests.{lt-ltb}
 use lib.ListN.{length, take, drop, getD}
@@ -26,8 +28,12 @@ module _ (s : List ℕ) (at : ℕ) (inv : isUtf8 (drop at s) ≡ isUtf8 s) where
   other : (r : Bool) → r ≡ isUtf8 (take (length s - at) (drop at s)) → r ≡ isUtf8 s
   other r is = is ∙ ap isUtf8 (rest-is at s) ∙ inv
 
-  next : at < length s → getD s at 0 < 0x80 → isUtf8 (drop (at + 1) s) ≡ isUtf8 s
-  next within test = rw (drop-cons s at 0 within, ascii (getD s at 0) _ test, ← add-one) at inv
+  next : getD s at 0 < 0x80 → isUtf8 (drop (at + 1) s) ≡ isUtf8 s
+  next test = by (decLt at (length s))
+    where
+      by : Dec (at < length s) → isUtf8 (drop (at + 1) s) ≡ isUtf8 s
+      by (yes within) = rw (drop-cons s at 0 within, ascii (getD s at 0) _ test, ← add-one) at inv
+      by (no past) = ap isUtf8 (drop-past s (at + 1) (omega arith) ∙ sym (drop-past s at (omega arith))) ∙ inv
 
   end : length s ≤ at → true ≡ isUtf8 s
   unfolding isUtf8 goesOn
@@ -67,7 +73,7 @@ loop-less : tie.Need-loop-less Inv-loop μ-loop
 loop-less c = search needs
 
 loop-again : tie.Need-loop-again Inv-loop μ-loop
-loop-again c = next _ _ (c .before .before .before .loop .inv) (c .before .before .loop-test .taken) (c .if1 .left)
+loop-again c = next _ _ (c .before .before .before .loop .inv) (c .if1 .left)
 
 returns-2 : tie.Need-returns-2 Inv-loop μ-loop
 returns-2 c = end _ _ (c .before .loop .inv) (c .loop-test .left)
