@@ -100,10 +100,6 @@ module _ (left : ℕ) (s : List ℕ) (major arg len : ℕ) (h : Spelt s major ar
         bytes = rw (long, ← k .bytes) (sym (take-add len arg s));
       }
 
-  opening : (n : ℕ) → 4 ≤ major → major < 7 → itemsHeld major arg ≡ n → ((ys : Items) → Goods ys → count ys ≡ n → NodeIs s len ys) → OpeningIs s len n
-  opening n lo hi holds node =
-      record { major = major; width = h .width; arg = arg; bytes = h .bytes; right = h .right; low = lo; high = hi; holds = holds; node = node }
-
   array : major ≡ 4 → (ys : Items) → Goods ys → count ys ≡ arg → NodeIs s len ys
   unfolding encode depth
   array e ys g c =
@@ -125,6 +121,30 @@ module _ (left : ℕ) (s : List ℕ) (major arg len : ℕ) (h : Spelt s major ar
       record { item = Item.tagged (k .width) arg y; good = (k .right, g .0); deeper = omega arith; bytes = rw (append-nil, ← k .bytes) }
   tagged e (Items.more y (Items.more z zs)) g c = absurd (omega arith)
 
+  -- as many items as an array, a map or a tag holds
+  filled : 4 ≤ major → major < 7 → (ys : Items) → Goods ys → count ys ≡ itemsHeld major arg → NodeIs s len ys
+  unfolding itemsHeld
+  filled lo hi ys g =
+      pick-case Made (eqb major 4) (λ e. array (eqb-true major 4 e) ys g)
+      (λ e. pick-case Made (eqb major 5) (λ f. map (eqb-true major 5 f) ys g) (λ f. tagged (omega (arith, eqb-false major 4 e, eqb-false major 5 f)) ys g))
+    where
+      Made : ℕ → Type 0
+      Made n = count ys ≡ n → NodeIs s len ys
+
+  opening : (n : ℕ) → 4 ≤ major → major < 7 → itemsHeld major arg ≡ n → OpeningIs s len n
+  opening n lo hi holds =
+      record {
+        major = major;
+        width = h .width;
+        arg = arg;
+        bytes = h .bytes;
+        right = h .right;
+        low = lo;
+        high = hi;
+        holds = holds;
+        node = λ ys g c. filled lo hi ys g (c ∙ sym holds);
+      }
+
   -- an array, a map or a tag
   opens-is : 4 ≤ major → major < 7 → StepIs left s (opens major arg len)
   unfolding opens itemsOf itemsHeld pick
@@ -132,9 +152,9 @@ module _ (left : ℕ) (s : List ℕ) (major arg len : ℕ) (h : Spelt s major ar
     where
       by : (p q : Bool) → eqb major 4 ≡ p → eqb major 5 ≡ q
           → StepIs left s (pick p (Step.Opened len arg false) (pick q (Step.Opened len arg true) (Step.Opened len 1 false)))
-      by true q e f = opening arg lo hi (rw e) (array (eqb-true major 4 e))
-      by false true e f = opening (2 * arg) lo hi (rw (e, f)) (map (eqb-true major 5 f))
-      by false false e f = opening 1 lo hi (rw (e, f)) (tagged (omega (arith, eqb-false major 4 e, eqb-false major 5 f)))
+      by true q e f = opening arg lo hi (rw e)
+      by false true e f = opening (2 * arg) lo hi (rw (e, f))
+      by false false e f = opening 1 lo hi (rw (e, f))
 
   deep : 4 ≤ major → major < 7 → left ≡ 0 → FaultIs left s 6 0
   unfolding placeOf pick
