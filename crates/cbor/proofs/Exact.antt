@@ -83,20 +83,20 @@ module _ (most : ℕ) where
   Passed at s stack e = (used : ℕ) × (e ≡ at + used) × Lacks stack s used
 
   -- a step, where what follows it is known
-  stepped : (f at n e : ℕ) (s stack : List ℕ) → Bytes s
-      → ((at′ : ℕ) (s′ stack′ : List ℕ) → Bytes s′ → run most f at′ s′ stack′ ≡ ItemRead.Ends e → Passed at′ s′ stack′ e)
+  stepped : (go : ℕ → List ℕ → List ℕ → ItemRead) (at n e : ℕ) (s stack : List ℕ) → Bytes s
+      → ((at′ : ℕ) (s′ stack′ : List ℕ) → Bytes s′ → go at′ s′ stack′ ≡ ItemRead.Ends e → Passed at′ s′ stack′ e)
       → (x : Step) → StepOk (most - length stack) (length s) x → StepIs (most - length stack) s x
-      → next (run most f) at s (n ∷ stack) x ≡ ItemRead.Ends e → Passed at s (suc n ∷ stack) e
+      → next go at s (n ∷ stack) x ≡ ItemRead.Ends e → Passed at s (suc n ∷ stack) e
   unfolding next
-  stepped f at n e s stack b rec (Step.Refused number place) ok is q = absurd (never number (at + place) e q)
-  stepped f at n e s stack b rec (Step.Passed len) ok is q =
+  stepped go at n e s stack b rec (Step.Refused number place) ok is q = absurd (never number (at + place) e q)
+  stepped go at n e s stack b rec (Step.Passed len) ok is q =
       let (used, sum, l) = rec (at + len) (drop len s) (n ∷ stack) (bytes-drop len s b) q in
       let (long, split) = leaf-front s len (ok .1) is in (
         length (encode (is .item)) + used,
         omega arith,
         before (is .item) (Lacks stack) n _ s (drop len s) used (is .good) (omega (arith, is .flat)) split l,
       )
-  stepped f at n e s stack b rec (Step.Opened len k pairs) ok is q =
+  stepped go at n e s stack b rec (Step.Opened len k pairs) ok is q =
       let (used, sum, l) = rec (at + len) (drop len s) (itemsOf k pairs ∷ n ∷ stack) (bytes-drop len s b) q in
       let node = is .node (l .items) (l .good) (l .counted) in
       let (long, split) = node-front s len (l .items) (ok .0 .1) node (l .rest) (l .is) in (
@@ -113,7 +113,7 @@ module _ (most : ℕ) where
       let (used, sum, l) = parse f at s stack e b q in
       (used, sum, nothing (Lacks stack) _ s used l)
   parse (suc f) at s (suc n ∷ stack) e b q =
-      stepped f at n e s stack b (λ at′ s′ stack′ b′ q′. parse f at′ s′ stack′ e b′ q′)
+      stepped (run most f) at n e s stack b (λ at′ s′ stack′ b′ q′. parse f at′ s′ stack′ e b′ q′)
       (stepAt (most - length stack) s) (step-ok _ s) (step-is _ s b) q
 
 -- one item alone

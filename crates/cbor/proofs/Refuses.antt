@@ -102,25 +102,25 @@ module _ (most number : ℕ) where
       }
 
   -- a step, where what follows it is known
-  stepped : (f at n place : ℕ) (s stack : List ℕ) → Bytes s → enough s (suc n ∷ stack) ≤ suc f
-      → ((at′ : ℕ) (s′ stack′ : List ℕ) → Bytes s′ → enough s′ stack′ ≤ f → run most f at′ s′ stack′ ≡ ItemRead.Refused number place
+  stepped : (go : ℕ → List ℕ → List ℕ → ItemRead) (f at n place : ℕ) (s stack : List ℕ) → Bytes s → enough s (suc n ∷ stack) ≤ suc f
+      → ((at′ : ℕ) (s′ stack′ : List ℕ) → Bytes s′ → enough s′ stack′ ≤ f → go at′ s′ stack′ ≡ ItemRead.Refused number place
       → (p : ℕ) × (place ≡ at′ + p) × Stopped stack′ s′ p)
       → (x : Step) → StepOk (most - length stack) (length s) x → StepIs (most - length stack) s x
-      → next (run most f) at s (n ∷ stack) x ≡ ItemRead.Refused number place → (p : ℕ) × (place ≡ at + p) × Stopped (suc n ∷ stack) s p
+      → next go at s (n ∷ stack) x ≡ ItemRead.Refused number place → (p : ℕ) × (place ≡ at + p) × Stopped (suc n ∷ stack) s p
   unfolding next enough encodeBegun
-  stepped f at n place s stack b turns rec (Step.Refused number′ p) ok is q =
+  stepped go f at n place s stack b turns rec (Step.Refused number′ p) ok is q =
       let e : number′ ≡ number = cc in
       let g : at + p ≡ place = cc in (
         p,
         sym g,
         fault-here n s stack p (subst (λ (m : ℕ). FirstFault (most - length stack) s m p) e (first-is (most - length stack) s number′ p is)),
       )
-  stepped f at n place s stack b turns rec (Step.Passed len) ok is q =
+  stepped go f at n place s stack b turns rec (Step.Passed len) ok is q =
       let d = length-drop len s in
       let (p, sum, l) = rec (at + len) (drop len s) (n ∷ stack) (bytes-drop len s b) (omega arith) q in
       let (long, split) = leaf-front s len (ok .1) is in
       (length (encode (is .item)) + p, omega arith, after-item (is .item) n s (drop len s) stack p (is .good) (omega (arith, is .flat)) split l)
-  stepped f at n place s stack b turns rec (Step.Opened len k pairs) ok is q =
+  stepped go f at n place s stack b turns rec (Step.Opened len k pairs) ok is q =
       let d = length-drop len s in
       let (p, sum, l) = rec (at + len) (drop len s) (itemsOf k pairs ∷ n ∷ stack) (bytes-drop len s b) (omega arith) q in
       opened p sum l
@@ -146,7 +146,7 @@ module _ (most number : ℕ) where
       let (p, sum, l) = parse f at place s stack b (omega arith) q in
       (p, sum, inl (nothing (Stopped stack) _ s p l))
   parse (suc f) at place s (suc n ∷ stack) b turns q =
-      stepped f at n place s stack b turns (λ at′ s′ stack′ b′ t′ q′. parse f at′ place s′ stack′ b′ t′ q′)
+      stepped (run most f) f at n place s stack b turns (λ at′ s′ stack′ b′ t′ q′. parse f at′ place s′ stack′ b′ t′ q′)
       (stepAt (most - length stack) s) (step-ok _ s) (step-is _ s b) q
 
   -- the one item that is looked for

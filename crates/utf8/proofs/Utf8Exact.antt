@@ -3,7 +3,7 @@
 use mathlib.Core.Path.{_≡_, refl, sym, ap, ap₂, _∙_}
 use mathlib.Core.Logic.{_↔_}
 use Rattle.base.proofs.Parts.{cancel}
-use mathlib.Core.Bool.{true, false, false≢true}
+use mathlib.Core.Bool.{Bool, true, false, false≢true}
 use mathlib.Core.List.{List, [], _∷_, _++_}
 use Prim.Native.Nat.{ℕ, zero, suc, _<_, _≤_}
 use native.Mathlib.Omega.{arith}
@@ -48,14 +48,14 @@ joined b s =
     (λ l h _. joined-two b s l h) (λ l h _. joined-three b s l h) (λ l h _. joined-four b s l h) (λ _ some _. absurd (some refl))
 
 -- a byte with nothing due, where what is accepted after it is what the state asks for
-begun : (b low high : ℕ) (s : List ℕ) → ((due low high : ℕ) → goesOn due low high s ≡ true → Rest due low high s) → goesOn 0 low high (b ∷ s) ≡ true → Text (b ∷ s)
-unfolding goesOn
-begun b low high s rest = pick-case (λ x. x ≡ true → Text (b ∷ s)) (ltb b 0x80) alone (λ _. led)
+begun : (go : (due low high : ℕ) → Bool) (b low high : ℕ) (s : List ℕ) → ((due low high : ℕ) → go due low high ≡ true → Rest due low high s)
+    → pick (ltb b 0x80) (go 0 low high) (pick (eqb (tailsOf b) 0) false (go (tailsOf b) (leastTail b) (greatestTail b))) ≡ true → Text (b ∷ s)
+begun go b low high s rest = pick-case (λ x. x ≡ true → Text (b ∷ s)) (ltb b 0x80) alone (λ _. led)
   where
-    alone : ltb b 0x80 ≡ true → goesOn 0 low high s ≡ true → Text (b ∷ s)
+    alone : ltb b 0x80 ≡ true → go 0 low high ≡ true → Text (b ∷ s)
     alone t e = put (b ∷ []) s (spells-one b (ltb-true b 0x80 t)) (rest 0 low high e)
 
-    led : pick (eqb (tailsOf b) 0) false (goesOn (tailsOf b) (leastTail b) (greatestTail b) s) ≡ true → Text (b ∷ s)
+    led : pick (eqb (tailsOf b) 0) false (go (tailsOf b) (leastTail b) (greatestTail b)) ≡ true → Text (b ∷ s)
     led e =
         let p = past (eqb (tailsOf b) 0) e false≢true in
         joined b s (eqb-false (tailsOf b) 0 (p .0)) (rest (tailsOf b) (leastTail b) (greatestTail b) (p .1))
@@ -65,7 +65,7 @@ accepted : (s : List ℕ) (due low high : ℕ) → goesOn due low high s ≡ tru
 unfolding goesOn textBytes
 accepted [] zero low high e = ([], tt, refl)
 accepted [] (suc due) low high e = absurd (omega (arith, eqb-true (suc due) 0 e))
-accepted (b ∷ s) zero low high e = begun b low high s (accepted s) e
+accepted (b ∷ s) zero low high e = begun (λ due low high. goesOn due low high s) b low high s (accepted s) e
 accepted (b ∷ s) (suc due) low high e =
     let p = past (ltb b low) e false≢true in
     let q = past (ltb high b) (p .1) false≢true in
