@@ -3,16 +3,18 @@
 -- Assumes nothing.
 use mathlib.Core.Path.{_≡_, refl, sym, ap, _∙_}
 use mathlib.Core.Logic.{_≢_}
-use mathlib.Core.List.{List}
+use mathlib.Core.List.{List, [], _∷_}
 use mathlib.Core.Bool.{Bool, true, false}
 use Prim.Native.Nat.{ℕ, _≤_, _<_}
 use native.Mathlib.Omega.{arith}
 use lib.ListN.{length}
 use lib.Dec.{ltb, eqb}
-use borrow.Author.Tests.{eqb-true, eqb-false, eq-eqb, ne-eqb, lt-ltb, le-ltb}
+use borrow.Author.Tests.{eqb-true, eq-eqb, ne-eqb, lt-ltb, le-ltb}
 use Rattle.base.specs.Pick.{pick}
-use Rattle.base.proofs.Picks.{pick-case}
+use Rattle.base.proofs.Picks.{pick-case, both}
 use Rattle.cbor.specs.declared.item.ItemRead.{ItemRead}
+use Rattle.cbor.specs.Head.{headAt}
+use Rattle.cbor.specs.Token.{nothingAt, tokenFrom, tokenAt, itemsIn}
 use Rattle.cbor.specs.Item.{firstItem}
 use Rattle.message.specs.declared.Message.{Message}
 use Rattle.message.specs.declared.Reading.{Reading}
@@ -36,10 +38,16 @@ fitting : (s : List ℕ) → length s ≢ 0 → length s ≤ mostBytes → exami
 unfolding examined pick
 fitting s some most = rw (ne-eqb (length s) 0 some, le-ltb mostBytes (length s) most)
 
+-- no bytes are no message
+shaped-some : (s : List ℕ) {m : Message} {end : ℕ} → shaped s ≡ E.Accepted m end → length s ≢ 0
+unfolding shaped tokenAt tokenFrom nothingAt itemsIn headAt pick
+shaped-some [] q = absurd (let z : _≡_ {A = ℕ} 0 1 = cc in omega arith)
+shaped-some (x ∷ s) q = λ z. omega arith
+
 -- a message
-module _ (s : List ℕ) (r : Examined) (some : length s ≢ 0) (most : length s ≤ mostBytes) (is : r ≡ shaped s) (m : Message) (end : ℕ) (found : r ≡ E.Accepted m end) where
+module _ (s : List ℕ) (r : Examined) (most : length s ≤ mostBytes) (is : r ≡ shaped s) (m : Message) (end : ℕ) (found : r ≡ E.Accepted m end) where
   walked : examined s ≡ framed s (ItemRead.Ends end)
-  walked = fitting s some most ∙ ap (framed s) (parts-walked s (sym is ∙ found))
+  walked = fitting s (shaped-some s (sym is ∙ found)) most ∙ ap (framed s) (parts-walked s (sym is ∙ found))
 
   pub read-whole : end ≡ length s → Reading.Read m ≡ readOf s
   unfolding readOf framed placeless pick
@@ -70,22 +78,22 @@ read-refused s r number place n some most is found same =
 pub read-shaped : (s : List ℕ) (m : Message) → readOf s ≡ Reading.Read m → (length s ≢ 0) × (shaped s ≡ E.Accepted m (length s))
 unfolding readOf examined framed placeless
 read-shaped s m =
-    pick-case P (eqb (length s) 0) (λ _ q. absurd (let z : _≡_ {A = ℕ} 0 1 = cc in omega arith))
-    (λ e. pick-case P (ltb mostBytes (length s)) (λ _ q. absurd (let z : _≡_ {A = ℕ} 0 1 = cc in omega arith)) (λ _. by (eqb-false (length s) 0 e) (firstItem 0 s) refl))
+    both P (eqb (length s) 0) (λ q. absurd (let z : _≡_ {A = ℕ} 0 1 = cc in omega arith))
+    (both P (ltb mostBytes (length s)) (λ q. absurd (let z : _≡_ {A = ℕ} 0 1 = cc in omega arith)) (by (firstItem 0 s) refl))
   where
     P : Examined → Type 0
     P x = placeless x ≡ Reading.Read m → (length s ≢ 0) × (shaped s ≡ E.Accepted m (length s))
 
-    found : length s ≢ 0 → firstItem 0 s ≡ ItemRead.Ends (length s) → (x : Examined) → shaped s ≡ x → P x
-    found some w (E.Refused number place) e q = absurd (let z : _≡_ {A = ℕ} 0 1 = cc in omega arith)
-    found some w (E.Accepted m′ end) e q =
+    found : firstItem 0 s ≡ ItemRead.Ends (length s) → (x : Examined) → shaped s ≡ x → P x
+    found w (E.Refused number place) e q = absurd (let z : _≡_ {A = ℕ} 0 1 = cc in omega arith)
+    found w (E.Accepted m′ end) e q =
         let same : m′ ≡ m = cc in
         let ends : ItemRead.Ends end ≡ ItemRead.Ends (length s) = sym (parts-walked s e) ∙ w in
         let full : end ≡ length s = cc in
-        (some, rw (same, full) at e)
+        (shaped-some s e, rw (same, full) at e)
 
-    by : length s ≢ 0 → (x : ItemRead) → firstItem 0 s ≡ x → P (framed s x)
-    by some (ItemRead.Refused number place) w = λ q. absurd (let z : _≡_ {A = ℕ} 0 1 = cc in omega arith)
-    by some (ItemRead.Ends end) w =
-        pick-case P (eqb end (length s)) (λ t. found some (w ∙ ap ItemRead.Ends (eqb-true end (length s) t)) (shaped s) refl)
+    by : (x : ItemRead) → firstItem 0 s ≡ x → P (framed s x)
+    by (ItemRead.Refused number place) w = λ q. absurd (let z : _≡_ {A = ℕ} 0 1 = cc in omega arith)
+    by (ItemRead.Ends end) w =
+        pick-case P (eqb end (length s)) (λ t. found (w ∙ ap ItemRead.Ends (eqb-true end (length s) t)) (shaped s) refl)
         (λ _ q. absurd (let z : _≡_ {A = ℕ} 0 1 = cc in omega arith))

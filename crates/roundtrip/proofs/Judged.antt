@@ -200,7 +200,7 @@ module _ (source : List ℕ) where
       (λ h. (h .0 .name, (h .0 .value, h .1)))
 
   -- a locator
-  place-exactly : (p : Place) → Judges (okPlace source p) (PlaceSays source p)
+  place-exactly : {G : Type 0} (p : Place) → Tells G (okPlace source p ≡ true) (PlaceSays source p)
   unfolding okPlace
   place-exactly p =
       retold (unless-exactly (least-exactly (p .kind) 103) (unless-exactly (least-exactly 106 (p .kind)) (inside-exactly source (p .content))))
@@ -208,9 +208,9 @@ module _ (source : List ℕ) where
       (λ h. (h .least, (h .most, h .content)))
 
   -- a pair's locator or none
-  tag-exactly : (p : Place) → Judges (okNoneOr source p) (Blank p ⊎ PlaceSays source p)
+  tag-exactly : {G : Type 0} (p : Place) → Tells G (okNoneOr source p ≡ true) (Blank p ⊎ PlaceSays source p)
   unfolding okNoneOr
-  tag-exactly p = (
+  tag-exactly {G} p = (
     λ b. pick-case (λ r. r ≡ true → Blank p ⊎ PlaceSays source p) (eqb (p .kind) 0)
         (λ e h. let f = blank-exactly p .0 b h in inl (record { kind = eqb-true (p .kind) 0 e; at = f .0; len = f .1 .0; protocol = f .1 .1 .0; port = f .1 .1 .1 }))
         (λ e h. inr (place-exactly p .0 b h)),
@@ -219,12 +219,12 @@ module _ (source : List ℕ) where
     where
       back : Blank p ⊎ PlaceSays source p → pick (eqb (p .kind) 0) (blankPlace p) (okPlace source p) ≡ true
       back (inl h) =
-          pick-case (λ r. r ≡ true) (eqb (p .kind) 0) (λ e. blank-exactly {G = Bytes source} p .1 (h .at, (h .len, (h .protocol, h .port)))) (λ e. absurd (eqb-false (p .kind) 0 e (h .kind)))
+          pick-case (λ r. r ≡ true) (eqb (p .kind) 0) (λ e. blank-exactly {G = G} p .1 (h .at, (h .len, (h .protocol, h .port)))) (λ e. absurd (eqb-false (p .kind) 0 e (h .kind)))
       back (inr h) =
-          pick-case (λ r. r ≡ true) (eqb (p .kind) 0) (λ e. absurd (omega (arith, eqb-true (p .kind) 0 e, h .least))) (λ e. place-exactly p .1 h)
+          pick-case (λ r. r ≡ true) (eqb (p .kind) 0) (λ e. absurd (omega (arith, eqb-true (p .kind) 0 e, h .least))) (λ e. place-exactly {G = G} p .1 h)
 
   -- the locators of a list
-  rows-exactly : (list : List ℕ) → Judges (okRows source list) (Rows list placeRow (λ k. PlaceSays source (placeAt list (placeRow * k))))
+  rows-exactly : {G : Type 0} (list : List ℕ) → Tells G (okRows source list ≡ true) (Rows list placeRow (λ k. PlaceSays source (placeAt list (placeRow * k))))
   unfolding okRows okRow
   rows-exactly list =
       each-exactly placeRow (okRow source list) (λ k. PlaceSays source (placeAt list (placeRow * k))) (λ k. place-exactly (placeAt list (placeRow * k))) list
@@ -254,7 +254,7 @@ module _ (source : List ℕ) where
   extra-exactly (X.With o) = entry-exactly (entryOf o)
 
   -- how a negotiation ends
-  outcome-exactly : (e : Outcome) → Judges (okOutcome source e) (OutcomeSays source e)
+  outcome-exactly : {G : Type 0} (e : Outcome) → Tells G (okOutcome source e ≡ true) (OutcomeSays source e)
   unfolding okOutcome
   outcome-exactly E.Accept = (λ b h. tt, λ h. refl)
   outcome-exactly E.Decline = (λ b h. tt, λ h. refl)

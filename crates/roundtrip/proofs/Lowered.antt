@@ -139,7 +139,7 @@ module _ (u h r : List ℕ) (n : ℕ) where
             within = omega (arith, token-is old (k .next) j refl .start, ap (λ (v : Span). v .at) same′, ap (λ (v : Span). v .len) same′);
             shape =
                 rw all at
-                (further (j .next) (discoveryAt new m at) (λ o e. S.Good (M.Discovery session i o) e 0 0) low
+                (further (j .next) (discoveryAt new m at) (λ o e. S.Good (M.Discovery session i o) e 0 0)
                 (λ o e got. rw (front-token h r n u at (omega arith) (omega arith), front-token h r n u (k .next) (omega arith) low, t₁, t₂, t₃, got, ← same, ← same′)) x);
           }
 
@@ -209,20 +209,20 @@ module _ (u h r : List ℕ) (n : ℕ) where
       P x = x ≡ S.Good (M.Flood session i ttl o series) end 0 0 → Found
 
       -- with the opening, the first pair and the other pairs of the new bytes
-      made : ltb m 5 ≡ false → {opening : Opening} {next : ℕ} {tag : Tag} {size : ℕ} → next ≤ length u
+      made : ltb m 5 ≡ false → {opening : Opening} {next : ℕ} {tag : Tag} {size : ℕ}
           → (at ≤ length u) × (opening .initiator .at + opening .initiator .len ≤ length u) × (openingAt new at ≡ OpeningRead.Got opening next)
           → (x : Recounted (drop next u) h n (pairAt new next) (λ o e. PairRead.Got o tag e 0 0) size)
           → PairsMove (next + size) end (next + (length (drop next u) + length (head 0 n) + x .rest))
           (pairsFrom new (m - 4 - 1) (next + (length (drop next u) + length (head 0 n) + x .rest)) 0 0)
           → opening .session ≡ session → opening .initiator ≡ i → opening .ttl ≡ ttl → record { at = next; many = m - 4 } ≡ series → Found
-      made t {next = next} low (start, within, first) x (size, ends, run) a b c d =
-          let to : next + (length (drop next u) + length (head 0 n) + x .rest) + size ≡ length u + length (head 0 n) + (x .rest + size) = omega (arith, length-drop next u) in
+      made t {next = next} (start, within, first) x (size, ends, run) a b c d =
+          let to : next + (length (drop next u) + length (head 0 n) + x .rest) + size ≡ length u + length (head 0 n) + (x .rest + size + (next - length u)) = omega (arith, length-drop next u) in
           record {
             start = start;
             within = rw b at within;
             shape =
                 record {
-                  rest = x .rest + size;
+                  rest = x .rest + size + (next - length u);
                   objective = x .objective;
                   sized = omega (arith, x .sized, length-drop next u);
                   is = rw (t, first, x .is, run, ← a, ← b, ← c, ← d, to);
@@ -235,7 +235,7 @@ module _ (u h r : List ℕ) (n : ℕ) where
           → pairsFrom old (m - 4 - 1) (next + size) 0 0 ≡ PairsRead.Ran end 0 0
           → opening .session ≡ session → opening .initiator ≡ i → opening .ttl ≡ ttl → record { at = next; many = m - 4 } ≡ series → Found
       paired t {opening} {next} e {size} (low, tag, x) run =
-          made t low (opening-kept at opening next low e) x
+          made t (opening-kept at opening next low e) x
           (pairs-move old new (m - 4 - 1) (next + size) (next + (length (drop next u) + length (head 0 n) + x .rest)) end
           (λ y.
           let from : next + size + y ≡ length u + length h + (x .rest + y) = omega (arith, x .sized, length-drop next u) in

@@ -3,19 +3,18 @@
 use mathlib.Core.Path.{_≡_, refl, sym, ap, ap₂, _∙_, subst}
 use mathlib.Core.List.{List, [], _∷_, _++_, flatMap, append-assoc, append-nil}
 use mathlib.Core.Option.{Option, none, some}
-use Prim.Native.Nat.{ℕ, _+_, _≤_, _<_}
+use Prim.Native.Nat.{ℕ, _+_, _≤_}
 use native.Mathlib.Omega.{arith}
 use lib.Dec.{lit<}
 use lib.ListN.{length, length-append}
 use Rattle.base.specs.Lists.{Every}
-use Rattle.base.proofs.Lists.{every-of}
 use Rattle.cbor.specs.Put.{head}
 use Rattle.cbor.specs.Tree.{headBytes}
 use Rattle.message.specs.Read.{mostBytes}
 use Rattle.syntax.specs.Message.{Loc, Obj, Pair, Aim, Ending, Msg}
 use Rattle.description.specs.Encoding.{string, numberOrNull, reached, fixed, encodeLoc, oneMore, encodeObj, maybeObj, howMany, locOrEmpty, encodePair, targetItems, encodeTargets, encodeEnding, opening, exchange, encodeMsg}
-use Rattle.description.proofs.Items.{more-le, many-le}
-use Rattle.roundtrip.proofs.Script.{Small, Piece, spell, spells, Like, Valued, array-next, number-next, string-next, text-number, number-text, perhaps, Each, perhaps-next, value-next}
+use Rattle.description.proofs.Items.{more-le}
+use Rattle.roundtrip.proofs.Script.{Small, Piece, spell, spells, Like, Valued, array-rest, array-next, number-next, string-next, array-none, none-array, text-number, number-text, perhaps, Each, perhaps-next, value-next}
 
 -- a head first
 array-spelt : (n : ℕ) (ts : List Piece) → spells (Piece.array n ∷ ts) ≡ head 4 n ++ spells ts
@@ -35,18 +34,6 @@ module _ {A : Type 0} (one : A → List Piece → List Piece) where
   unfolding all flatMap
   all-spelt encode spelt [] ts = refl
   all-spelt encode spelt (x ∷ xs) ts = spelt x (all xs ts) ∙ rw (all-spelt encode spelt xs ts, append-assoc)
-
-  -- as many of two lists passed, where one of each is
-  all-next : (P Q : A → Type 0) → ((x x′ : A) (ts ts′ : List Piece) → P x → Q x → Q x′ → Like (one x ts) (one x′ ts′) → (x ≡ x′) × Like ts ts′)
-      → (xs xs′ : List A) {ts ts′ : List Piece} → length xs ≡ length xs′ → Every P xs → Every Q xs → Every Q xs′ → Like (all xs ts) (all xs′ ts′) → (xs ≡ xs′) × Like ts ts′
-  unfolding all
-  all-next P Q next [] [] e h v v′ like = (refl, like)
-  all-next P Q next [] (x ∷ xs) e h v v′ like = absurd (omega arith)
-  all-next P Q next (x ∷ xs) [] e h v v′ like = absurd (omega arith)
-  all-next P Q next (x ∷ xs) (x′ ∷ xs′) e (h, hs) (v, vs) (v′, vs′) like =
-      let (same, l₁) = next x x′ _ _ h v v′ like in
-      let (rest, l₂) = all-next P Q next xs xs′ (omega arith) hs vs vs′ l₁ in
-      (ap₂ (λ (x : A) (xs : List A). x ∷ xs) same rest, l₂)
 
 -- there are no more than bytes, where each has some
 all-few : {A : Type 0} (encode : A → List ℕ) → ((x : A) → 1 ≤ length (encode x)) → (xs : List A) → length xs ≤ length (flatMap encode xs)
@@ -86,11 +73,24 @@ objective-ext o o′ a b c d = same a b c d
 objective-next : {o o′ : Obj (List ℕ)} {ts ts′ : List Piece} → SmallObj o → ValuedObj o → ValuedObj o′ → Like (objective o ts) (objective o′ ts′) → (o ≡ o′) × Like ts ts′
 objective-next {o} {o′} (hf, hc) v v′ l =
     let (many, l₁) = array-next (omega (arith, more-le (o .value))) l in
-    let (name, l₂) = string-next (lit< tt) l₁ in
+    let (name, l₂) = string-next l₁ in
     let (flags, l₃) = number-next hf l₂ in
     let (count, l₄) = number-next hc l₃ in
     let (value, l₅) = value-next v v′ (omega arith) l₄ in
     (objective-ext o o′ name flags count value, l₅)
+
+-- a value that is the last piece
+value-last : {v v′ : List ℕ} → Like (Piece.value v ∷ []) (Piece.value v′ ∷ []) → v ≡ v′
+unfolding spells spell
+value-last {v} {v′} l = sym (append-nil v) ∙ l .same ∙ append-nil v′
+
+-- an objective that is the last, whatever its value is
+objective-last : {o o′ : Obj (List ℕ)} → SmallObj o → Like (objective o []) (objective o′ []) → o ≡ o′
+objective-last {o} {o′} (hf, hc) l =
+    let (name, l₁) = string-next (array-rest l) in
+    let (flags, l₂) = number-next hf l₁ in
+    let (count, l₃) = number-next hc l₂ in
+    objective-ext o o′ name flags count (value-last l₃)
 
 -- ---- locators
 -- a locator's kind
@@ -156,31 +156,30 @@ kind-range (Loc.domain t p q) = (omega arith, omega arith)
 kind-range (Loc.uri t p q) = (omega arith, omega arith)
 
 -- a string and two numbers
-fixed-next : {major : ℕ} {a a′ : List ℕ} {p p′ q q′ : ℕ} {ts ts′ : List Piece} → major < 7 → Small p → Small q
+fixed-next : {major : ℕ} {a a′ : List ℕ} {p p′ q q′ : ℕ} {ts ts′ : List Piece} → Small p → Small q
     → Like (Piece.string major a ∷ Piece.number p ∷ Piece.number q ∷ ts) (Piece.string major a′ ∷ Piece.number p′ ∷ Piece.number q′ ∷ ts′)
     → (a ≡ a′) × (p ≡ p′) × (q ≡ q′) × Like ts ts′
-fixed-next hm hp hq l =
-    let (a, l₁) = string-next hm l in
+fixed-next hp hq l =
+    let (a, l₁) = string-next l in
     let (p, l₂) = number-next hp l₁ in
     let (q, l₃) = number-next hq l₂ in
     (a, p, q, l₃)
 
 -- locators of one kind
 located-next : {k : ℕ} {l l′ : Loc} {ts ts′ : List Piece} → Locates k l → Locates k l′ → SmallLoc l → Like (located l ts) (located l′ ts′) → (l ≡ l′) × Like ts ts′
-located-next Locates.v6 Locates.v6 (hp, hq) l = let (a, p, q, r) = fixed-next (lit< tt) hp hq l in (rw (a, p, q), r)
-located-next Locates.v4 Locates.v4 (hp, hq) l = let (a, p, q, r) = fixed-next (lit< tt) hp hq l in (rw (a, p, q), r)
-located-next Locates.domain Locates.domain (hp, hq) l = let (a, p, q, r) = fixed-next (lit< tt) hp hq l in (rw (a, p, q), r)
+located-next Locates.v6 Locates.v6 (hp, hq) l = let (a, p, q, r) = fixed-next hp hq l in (rw (a, p, q), r)
+located-next Locates.v4 Locates.v4 (hp, hq) l = let (a, p, q, r) = fixed-next hp hq l in (rw (a, p, q), r)
+located-next Locates.domain Locates.domain (hp, hq) l = let (a, p, q, r) = fixed-next hp hq l in (rw (a, p, q), r)
 located-next (Locates.uri {p = p} {q = q}) (Locates.uri {p = p′} {q = q′}) (hp, hq) l =
-    let (a, l₁) = string-next (lit< tt) l in
+    let (a, l₁) = string-next l in
     let (b, l₂) = perhaps-next {p = p} {p′ = p′} hp l₁ in
     let (c, l₃) = perhaps-next {p = q} {p′ = q′} hq l₂ in (rw (a, b, c), l₃)
 
 -- a locator passed
 locator-next : {l l′ : Loc} {ts ts′ : List Piece} → SmallLoc l → Like (locator l ts) (locator l′ ts′) → (l ≡ l′) × Like ts ts′
 locator-next {l} {l′} h like =
-    let (_, l₁) = array-next (lit< tt) like in
-    let (kind, l₂) = number-next (omega (arith, kind-range l)) l₁ in
-    located-next (locates l) (subst (λ (k : ℕ). Locates k l′) (sym kind) (locates l′)) h l₂
+    let (kind, l₁) = number-next (omega (arith, kind-range l)) (array-rest like) in
+    located-next (locates l) (subst (λ (k : ℕ). Locates k l′) (sym kind) (locates l′)) h l₁
 
 -- the pieces of locators
 abbrev locators : List Loc → List Piece → List Piece
@@ -204,8 +203,14 @@ locators-few = all-few encodeLoc locator-bytes
 
 -- as many locators passed
 locators-next : (ls ls′ : List Loc) {ts ts′ : List Piece} → length ls ≡ length ls′ → Every SmallLoc ls → Like (locators ls ts) (locators ls′ ts′) → (ls ≡ ls′) × Like ts ts′
-locators-next ls ls′ e h like =
-    all-next locator SmallLoc (λ _. Unit {0}) (λ l l′ _ _ h _ _ like. locator-next {l = l} {l′ = l′} h like) ls ls′ e h (every-of (λ _. Unit {0}) ls (λ _ _. tt)) (every-of (λ _. Unit {0}) ls′ (λ _ _. tt)) like
+unfolding all
+locators-next [] [] e h like = (refl, like)
+locators-next [] (x ∷ ls) e h like = absurd (omega arith)
+locators-next (x ∷ ls) [] e h like = absurd (omega arith)
+locators-next (x ∷ ls) (x′ ∷ ls′) e (h, hs) like =
+    let (same, l₁) = locator-next {l = x} {l′ = x′} h like in
+    let (rest, l₂) = locators-next ls ls′ (omega arith) hs l₁ in
+    (ap₂ (λ (l : Loc) (ls : List Loc). l ∷ ls) same rest, l₂)
 
 -- ---- pairs
 -- the pieces of a pair's locator or none
@@ -221,7 +226,7 @@ tagged-spelt (some l) ts = locator-spelt l ts
 
 -- it is passed
 tagged-next : (t t′ : Option Loc) {ts ts′ : List Piece} → Each SmallLoc t → Like (tagged t ts) (tagged t′ ts′) → (t ≡ t′) × Like ts ts′
-tagged-next none none h l = let (_, l₁) = array-next (lit< tt) l in (refl, l₁)
+tagged-next none none h l = (refl, array-rest l)
 tagged-next none (some x) h l = absurd (omega (arith, array-next (lit< tt) l .0))
 tagged-next (some x) none h l = absurd (omega (arith, array-next (lit< tt) l .0))
 tagged-next (some x) (some x′) h l = let (same, l₁) = locator-next {l = x} {l′ = x′} h l in (ap some same, l₁)
@@ -253,23 +258,23 @@ pair-ext p p′ a b = ap₂ (λ (o : Obj (List ℕ)) (l : Option Loc). (o, l)) a
 -- a pair passed
 pair-next : {p p′ : Pair (List ℕ)} {ts ts′ : List Piece} → SmallPair p → ValuedPair p → ValuedPair p′ → Like (pair p ts) (pair p′ ts′) → (p ≡ p′) × Like ts ts′
 pair-next {p} {p′} (ho, ht) v v′ l =
-    let (_, l₁) = array-next (lit< tt) l in
-    let (same, l₂) = objective-next ho v v′ l₁ in
-    let (tag, l₃) = tagged-next (p .1) (p′ .1) ht l₂ in
-    (pair-ext p p′ same tag, l₃)
+    let (same, l₁) = objective-next ho v v′ (array-rest l) in
+    let (tag, l₂) = tagged-next (p .1) (p′ .1) ht l₁ in
+    (pair-ext p p′ same tag, l₂)
 
 -- the pieces of pairs
 abbrev pairs : List (Pair (List ℕ)) → List Piece → List Piece
 pairs = all pair
 
--- a pair has a byte
-pair-bytes : (p : Pair (List ℕ)) → 1 ≤ length (encodePair p)
-unfolding encodePair head headBytes
-pair-bytes p = simp length-append (omega arith)
-
--- so there are no more pairs than bytes
-pairs-few : (ps : List (Pair (List ℕ))) → length ps ≤ length (flatMap encodePair ps)
-pairs-few = all-few encodePair pair-bytes
+-- pairs up to the end are the same
+pairs-once : (ps ps′ : List (Pair (List ℕ))) → Every SmallPair ps → Every ValuedPair ps → Every ValuedPair ps′ → Like (pairs ps []) (pairs ps′ []) → ps ≡ ps′
+unfolding all
+pairs-once [] [] h v v′ l = refl
+pairs-once [] (p ∷ ps) h v v′ l = absurd (none-array l)
+pairs-once (p ∷ ps) [] h v v′ l = absurd (array-none l)
+pairs-once (p ∷ ps) (p′ ∷ ps′) (h, hs) (v, vs) (v′, vs′) l =
+    let (same, l₁) = pair-next {p = p} {p′ = p′} h v v′ l in
+    ap₂ (λ (p : Pair (List ℕ)) (ps : List (Pair (List ℕ))). p ∷ ps) same (pairs-once ps ps′ hs vs vs′ l₁)
 
 -- ---- an objective that may be left out
 -- its pieces
@@ -283,13 +288,12 @@ unfolding spells maybeObj
 extra-spelt none = refl
 extra-spelt (some o) = objective-spelt o [] ∙ append-nil (encodeObj o)
 
--- as many are the same
-extra-once : (o o′ : Option (Obj (List ℕ))) → howMany o ≡ howMany o′ → Each SmallObj o → Each ValuedObj o → Each ValuedObj o′ → Like (extra o) (extra o′) → o ≡ o′
-unfolding howMany
-extra-once none none e h v v′ l = refl
-extra-once none (some o) e h v v′ l = absurd (omega arith)
-extra-once (some o) none e h v v′ l = absurd (omega arith)
-extra-once (some o) (some o′) e h v v′ l = ap some (objective-next h v v′ l .0)
+-- so it is the same
+extra-once : (o o′ : Option (Obj (List ℕ))) → Each SmallObj o → Like (extra o) (extra o′) → o ≡ o′
+extra-once none none h l = refl
+extra-once none (some o) h l = absurd (none-array l)
+extra-once (some o) none h l = absurd (array-none l)
+extra-once (some o) (some o′) h l = ap some (objective-last h l)
 
 -- ---- a Response's locators or divert, and its objective
 -- their pieces
@@ -315,17 +319,16 @@ targets-spelt (Aim.divert ls) ts =
     array-spelt (1 + length ls) (Piece.number 100 ∷ locators ls ts) ∙ rw (number-spelt 100 (locators ls ts), locators-spelt ls ts) (simp append-assoc)
 
 -- locators, and then an objective or none: no objective is a locator
-aimed-once : (ls ls′ : List Loc) (o o′ : Option (Obj (List ℕ))) → length ls + howMany o ≡ length ls′ + howMany o′ → Every SmallLoc ls → Each SmallObj o → Each ValuedObj o → Each ValuedObj o′
-    → Like (locators ls (extra o)) (locators ls′ (extra o′)) → (ls ≡ ls′) × (o ≡ o′)
-unfolding all howMany
-aimed-once [] [] o o′ e h ho v v′ l = (refl, extra-once o o′ (omega arith) ho v v′ l)
-aimed-once [] (x′ ∷ ls′) none o′ e h ho v v′ l = absurd (omega arith)
-aimed-once [] (x′ ∷ ls′) (some o) o′ e h ho v v′ l = absurd (text-number (array-next (omega (arith, more-le (o .value))) l .1))
-aimed-once (x ∷ ls) [] o none e h ho v v′ l = absurd (omega arith)
-aimed-once (x ∷ ls) [] o (some o′) e h ho v v′ l = absurd (number-text (array-next (lit< tt) l .1))
-aimed-once (x ∷ ls) (x′ ∷ ls′) o o′ e (h, hs) ho v v′ l =
+aimed-once : (ls ls′ : List Loc) (o o′ : Option (Obj (List ℕ))) → Every SmallLoc ls → Each SmallObj o → Like (locators ls (extra o)) (locators ls′ (extra o′)) → (ls ≡ ls′) × (o ≡ o′)
+unfolding all
+aimed-once [] [] o o′ h ho l = (refl, extra-once o o′ ho l)
+aimed-once [] (x′ ∷ ls′) none o′ h ho l = absurd (none-array l)
+aimed-once [] (x′ ∷ ls′) (some o) o′ h ho l = absurd (text-number (array-rest l))
+aimed-once (x ∷ ls) [] o none h ho l = absurd (array-none l)
+aimed-once (x ∷ ls) [] o (some o′) h ho l = absurd (number-text (array-rest l))
+aimed-once (x ∷ ls) (x′ ∷ ls′) o o′ (h, hs) ho l =
     let (same, l₁) = locator-next {l = x} {l′ = x′} h l in
-    let (rest, obj) = aimed-once ls ls′ o o′ (omega arith) hs ho v v′ l₁ in
+    let (rest, obj) = aimed-once ls ls′ o o′ hs ho l₁ in
     (ap₂ (λ (l : Loc) (ls : List Loc). l ∷ ls) same rest, obj)
 
 -- the lead of a divert is no locator's
@@ -333,11 +336,11 @@ led-apart : (l : Loc) → (locatorKind l ≡ 100 → ⊥) × (100 ≡ locatorKin
 led-apart l = (λ e. omega (arith, kind-range l), λ e. omega (arith, kind-range l))
 
 -- locators are no divert
-mixed : (ls ls′ : List Loc) (o o′ : Option (Obj (List ℕ))) → length ls + howMany o ≡ 1 + howMany o′ → Like (targets (Aim.locators ls) (extra o)) (targets (Aim.divert ls′) (extra o′)) → ⊥
-unfolding targets all howMany
-mixed [] ls′ none o′ e l = omega arith
-mixed [] ls′ (some o) o′ e l = text-number (array-next (omega (arith, more-le (o .value))) l .1)
-mixed (x ∷ ls) ls′ o o′ e l = led-apart x .0 (number-next (omega (arith, kind-range x)) (array-next (lit< tt) l .1) .0)
+mixed : (ls ls′ : List Loc) (o o′ : Option (Obj (List ℕ))) → Like (targets (Aim.locators ls) (extra o)) (targets (Aim.divert ls′) (extra o′)) → ⊥
+unfolding targets all
+mixed [] ls′ none o′ l = none-array l
+mixed [] ls′ (some o) o′ l = text-number (array-rest l)
+mixed (x ∷ ls) ls′ o o′ l = led-apart x .0 (number-next (omega (arith, kind-range x)) (array-rest l) .0)
 
 -- so many locators as have bytes
 divert-few : (ls : List Loc) → length ls ≤ length (encodeTargets (Aim.divert ls))
@@ -350,26 +353,25 @@ many-small ls ts l =
     omega (arith, l .few, ap length (targets-spelt (Aim.divert ls) ts), length-append (encodeTargets (Aim.divert ls)) (spells ts), divert-few ls)
 
 -- and no divert is locators
-mixed-back : (ls ls′ : List Loc) (o o′ : Option (Obj (List ℕ))) → 1 + howMany o ≡ length ls′ + howMany o′ → Like (targets (Aim.divert ls) (extra o)) (targets (Aim.locators ls′) (extra o′)) → ⊥
-unfolding targets all howMany
-mixed-back ls [] o none e l = omega arith
-mixed-back ls [] o (some o′) e l = number-text (array-next (many-small ls (extra o) l) l .1)
-mixed-back ls (x′ ∷ ls′) o o′ e l = led-apart x′ .1 (number-next (lit< tt) (array-next (many-small ls (extra o) l) l .1) .0)
+mixed-back : (ls ls′ : List Loc) (o o′ : Option (Obj (List ℕ))) → Like (targets (Aim.divert ls) (extra o)) (targets (Aim.locators ls′) (extra o′)) → ⊥
+unfolding targets all
+mixed-back ls [] o none l = array-none l
+mixed-back ls [] o (some o′) l = number-text (array-rest l)
+mixed-back ls (x′ ∷ ls′) o o′ l = led-apart x′ .1 (number-next (lit< tt) (array-rest l) .0)
 
 -- so they are the same
-targets-once : (x x′ : Aim) (o o′ : Option (Obj (List ℕ))) → targetItems x + howMany o ≡ targetItems x′ + howMany o′ → SmallTargets x → Each SmallObj o → Each ValuedObj o → Each ValuedObj o′
-    → Like (targets x (extra o)) (targets x′ (extra o′)) → (x ≡ x′) × (o ≡ o′)
-unfolding targets targetItems
-targets-once (Aim.locators ls) (Aim.locators ls′) o o′ e h ho v v′ l =
-    let (same, obj) = aimed-once ls ls′ o o′ e h ho v v′ l in
+targets-once : (x x′ : Aim) (o o′ : Option (Obj (List ℕ))) → SmallTargets x → Each SmallObj o → Like (targets x (extra o)) (targets x′ (extra o′)) → (x ≡ x′) × (o ≡ o′)
+unfolding targets
+targets-once (Aim.locators ls) (Aim.locators ls′) o o′ h ho l =
+    let (same, obj) = aimed-once ls ls′ o o′ h ho l in
     (ap Aim.locators same, obj)
-targets-once (Aim.locators ls) (Aim.divert ls′) o o′ e h ho v v′ l = absurd (mixed ls ls′ o o′ e l)
-targets-once (Aim.divert ls) (Aim.locators ls′) o o′ e h ho v v′ l = absurd (mixed-back ls ls′ o o′ e l)
-targets-once (Aim.divert ls) (Aim.divert ls′) o o′ e h ho v v′ l =
+targets-once (Aim.locators ls) (Aim.divert ls′) o o′ h ho l = absurd (mixed ls ls′ o o′ l)
+targets-once (Aim.divert ls) (Aim.locators ls′) o o′ h ho l = absurd (mixed-back ls ls′ o o′ l)
+targets-once (Aim.divert ls) (Aim.divert ls′) o o′ h ho l =
     let (many, l₁) = array-next (many-small ls (extra o) l) l in
     let (_, l₂) = number-next (lit< tt) l₁ in
     let (same, l₃) = locators-next ls ls′ (omega arith) h l₂ in
-    (ap Aim.divert same, extra-once o o′ (omega arith) ho v v′ l₃)
+    (ap Aim.divert same, extra-once o o′ ho l₃)
 
 -- ---- how a negotiation ends
 -- its pieces
@@ -403,7 +405,7 @@ ending-once Ending.decline Ending.decline l = refl
 ending-once Ending.decline (Ending.reason t) l = absurd (omega (arith, ended-heads (lit< tt) (lit< tt) l .0))
 ending-once (Ending.reason t) Ending.accept l = absurd (omega (arith, ended-heads (lit< tt) (lit< tt) l .1))
 ending-once (Ending.reason t) Ending.decline l = absurd (omega (arith, ended-heads (lit< tt) (lit< tt) l .0))
-ending-once (Ending.reason t) (Ending.reason t′) l = ap Ending.reason (string-next (lit< tt) (ended-heads (lit< tt) (lit< tt) l .2) .0)
+ending-once (Ending.reason t) (Ending.reason t′) l = ap Ending.reason (string-next (ended-heads (lit< tt) (lit< tt) l .2) .0)
 
 -- ---- messages
 -- how many items a message's array has
@@ -533,73 +535,48 @@ ValuedMsg (Msg.synch s o) = ValuedObj o
 ValuedMsg (Msg.flood s i t ps) = Every ValuedPair ps
 ValuedMsg (Msg.invalid s v) = Valued v
 
--- so many items as have bytes
-targets-few : (x : Aim) → targetItems x ≤ length (encodeTargets x)
-unfolding targetItems encodeTargets head headBytes
-targets-few (Aim.locators ls) = locators-few ls
-targets-few (Aim.divert ls) = omega arith
-
--- so the items of a message are few
-items-small : (m : Msg (List ℕ)) → length (encodeMsg m) ≤ mostBytes → Small (itemsOf m)
-unfolding itemsOf encodeMsg
-items-small Msg.noop h = omega arith
-items-small (Msg.discovery s i o) h = omega arith
-items-small (Msg.response s i t x o) h = omega (arith, simp length-append at h, targets-few x, many-le o)
-items-small (Msg.request-negotiation s o) h = omega arith
-items-small (Msg.request-synchronization s o) h = omega arith
-items-small (Msg.negotiate s o) h = omega arith
-items-small (Msg.end s e) h = omega arith
-items-small (Msg.wait s t) h = omega arith
-items-small (Msg.synch s o) h = omega arith
-items-small (Msg.flood s i t ps) h = omega (arith, simp length-append at h, pairs-few ps)
-items-small (Msg.invalid s v) h = omega (arith, more-le v)
-
 -- a session and an objective are the same
-exchange-once : {s s′ : ℕ} {o o′ : Obj (List ℕ)} → Small s → SmallObj o → ValuedObj o → ValuedObj o′ → Like (exchanged s o) (exchanged s′ o′) → (s ≡ s′) × (o ≡ o′)
-exchange-once hs ho v v′ l =
+exchange-once : {s s′ : ℕ} {o o′ : Obj (List ℕ)} → Small s → SmallObj o → Like (exchanged s o) (exchanged s′ o′) → (s ≡ s′) × (o ≡ o′)
+exchange-once hs ho l =
     let (s, l₁) = number-next hs l in
-    let (o, l₂) = objective-next ho v v′ l₁ in
-    (s, o)
+    (s, objective-last ho l₁)
 
 -- what follows the kind
-rest-once : {k : ℕ} {a b : Msg (List ℕ)} → Told k a → Told k b → itemsOf a ≡ itemsOf b → SmallMsg a → ValuedMsg a → ValuedMsg b → Like (rest a) (rest b) → a ≡ b
-unfolding itemsOf rest
-rest-once Told.noop Told.noop e h v v′ l = refl
-rest-once Told.discovery Told.discovery e (hs, ho) v v′ l =
+rest-once : {k : ℕ} {a b : Msg (List ℕ)} → Told k a → Told k b → SmallMsg a → ValuedMsg a → ValuedMsg b → Like (rest a) (rest b) → a ≡ b
+unfolding rest
+rest-once Told.noop Told.noop h v v′ l = refl
+rest-once Told.discovery Told.discovery (hs, ho) v v′ l =
     let (s, l₁) = number-next hs l in
-    let (i, l₂) = string-next (lit< tt) l₁ in
-    let (o, l₃) = objective-next ho v v′ l₂ in
-    rw (s, i, o)
-rest-once (Told.response {x = x} {o}) (Told.response {x = x′} {o = o′}) e (hs, ht, hx, ho) v v′ l =
+    let (i, l₂) = string-next l₁ in
+    rw (s, i, objective-last ho l₂)
+rest-once (Told.response {x = x} {o}) (Told.response {x = x′} {o = o′}) (hs, ht, hx, ho) v v′ l =
     let (s, l₁) = number-next hs l in
-    let (i, l₂) = string-next (lit< tt) l₁ in
+    let (i, l₂) = string-next l₁ in
     let (t, l₃) = number-next ht l₂ in
-    let (same, obj) = targets-once x x′ o o′ (omega arith) hx ho v v′ l₃ in
+    let (same, obj) = targets-once x x′ o o′ hx ho l₃ in
     rw (s, i, t, same, obj)
-rest-once Told.request-negotiation Told.request-negotiation e (hs, ho) v v′ l = let (s, o) = exchange-once hs ho v v′ l in ap₂ Msg.request-negotiation s o
-rest-once Told.request-synchronization Told.request-synchronization e (hs, ho) v v′ l = let (s, o) = exchange-once hs ho v v′ l in ap₂ Msg.request-synchronization s o
-rest-once Told.negotiate Told.negotiate e (hs, ho) v v′ l = let (s, o) = exchange-once hs ho v v′ l in ap₂ Msg.negotiate s o
-rest-once (Told.end {e = x}) (Told.end {e = x′}) e h v v′ l =
+rest-once Told.request-negotiation Told.request-negotiation (hs, ho) v v′ l = let (s, o) = exchange-once hs ho l in ap₂ Msg.request-negotiation s o
+rest-once Told.request-synchronization Told.request-synchronization (hs, ho) v v′ l = let (s, o) = exchange-once hs ho l in ap₂ Msg.request-synchronization s o
+rest-once Told.negotiate Told.negotiate (hs, ho) v v′ l = let (s, o) = exchange-once hs ho l in ap₂ Msg.negotiate s o
+rest-once (Told.end {e = x}) (Told.end {e = x′}) h v v′ l =
     let (s, l₁) = number-next h l in
     ap₂ Msg.end s (ending-once x x′ l₁)
-rest-once Told.wait Told.wait e (hs, ht) v v′ l =
+rest-once Told.wait Told.wait (hs, ht) v v′ l =
     let (s, l₁) = number-next hs l in
     ap₂ Msg.wait s (number-next ht l₁ .0)
-rest-once Told.synch Told.synch e (hs, ho) v v′ l = let (s, o) = exchange-once hs ho v v′ l in ap₂ Msg.synch s o
-rest-once (Told.flood {ps = ps}) (Told.flood {ps = ps′}) e (hs, ht, hp) v v′ l =
+rest-once Told.synch Told.synch (hs, ho) v v′ l = let (s, o) = exchange-once hs ho l in ap₂ Msg.synch s o
+rest-once (Told.flood {ps = ps}) (Told.flood {ps = ps′}) (hs, ht, hp) v v′ l =
     let (s, l₁) = number-next hs l in
-    let (i, l₂) = string-next (lit< tt) l₁ in
+    let (i, l₂) = string-next l₁ in
     let (t, l₃) = number-next ht l₂ in
-    let (same, _) = all-next pair SmallPair ValuedPair (λ p p′ _ _. pair-next {p = p} {p′ = p′}) ps ps′ (omega arith) hp v v′ l₃ in
-    rw (s, i, t, same)
-rest-once Told.invalid Told.invalid e h v v′ l =
+    rw (s, i, t, pairs-once ps ps′ hp v v′ l₃)
+rest-once Told.invalid Told.invalid h v v′ l =
     let (s, l₁) = number-next h l in
-    ap₂ Msg.invalid s (value-next v v′ (omega arith) l₁ .0)
+    ap₂ Msg.invalid s (value-last l₁)
 
 -- Two messages with the same encoding are the same.
 pub message-once : {a b : Msg (List ℕ)} → SmallMsg a → ValuedMsg a → ValuedMsg b → length (encodeMsg a) ≤ mostBytes → encodeMsg a ≡ encodeMsg b → a ≡ b
 message-once {a} {b} h v v′ few e =
     let l : Like (pieces a) (pieces b) = record { same = pieces-spelt a ∙ e ∙ sym (pieces-spelt b); few = rw (pieces-spelt a) few } in
-    let (many, l₁) = array-next (items-small a few) l in
-    let (kind, l₂) = number-next (told a .1) l₁ in
-    rest-once (told a .0) (subst (λ (n : ℕ). Told n b) (sym kind) (told b .0)) many h v v′ l₂
+    let (kind, l₁) = number-next (told a .1) (array-rest l) in
+    rest-once (told a .0) (subst (λ (n : ℕ). Told n b) (sym kind) (told b .0)) h v v′ l₁

@@ -4,7 +4,7 @@
 use mathlib.Core.Path.{_≡_, refl, sym, ap, _∙_, subst}
 use mathlib.Core.List.{List, _++_}
 use mathlib.Core.Bool.{true, false}
-use Prim.Native.Nat.{ℕ, _+_, _≤_, _<_}
+use Prim.Native.Nat.{ℕ, _+_, _-_, _≤_, _<_}
 use native.Mathlib.Nat.{add-zero, add-assoc}
 use native.Mathlib.Omega.{arith}
 use lib.Dec.{ltb, eqb, lit<}
@@ -66,12 +66,12 @@ pub record Recounted {X : Type 0} (u h : List ℕ) (n : ℕ) (read : X) (answer 
   pub count : objective .count ≡ n
 
 -- so is what has p bytes before it
-pub further : {X Y : Type 0} {u h : List ℕ} {n : ℕ} {read : X} {answer : Objective → ℕ → X} {size : ℕ} (p : ℕ) (read′ : Y) (answer′ : Objective → ℕ → Y) → p ≤ length u
+pub further : {X Y : Type 0} {u h : List ℕ} {n : ℕ} {read : X} {answer : Objective → ℕ → X} {size : ℕ} (p : ℕ) (read′ : Y) (answer′ : Objective → ℕ → Y)
     → ((o : Objective) (e : ℕ) → read ≡ answer o e → read′ ≡ answer′ o (p + e)) → Recounted (drop p u) h n read answer size → Recounted u h n read′ answer′ (p + size)
-further {u = u} {n = n} p read′ answer′ within then x =
-    let to : p + (length (drop p u) + length (head 0 n) + x .rest) ≡ length u + length (head 0 n) + x .rest = omega (arith, length-drop p u) in
+further {u = u} {n = n} p read′ answer′ then x =
+    let to : p + (length (drop p u) + length (head 0 n) + x .rest) ≡ length u + length (head 0 n) + (x .rest + (p - length u)) = omega (arith, length-drop p u) in
     record {
-      rest = x .rest;
+      rest = x .rest + (p - length u);
       objective = x .objective;
       sized = omega (arith, x .sized, length-drop p u);
       is = then (x .objective) _ (x .is) ∙ ap (answer′ (x .objective)) to;

@@ -106,9 +106,8 @@ module _ (s : List ℕ) (o : Objective) (h : ObjectiveParts (length s) o) where
       let is : new ≡ onward s o = sym (append-assoc (before s o) (head 0 (o .count - 1)) r) in
       let size : length s ≡ length (before s o) + (length (between s o) + length r) = sym (ap length spelt-whole) ∙ simp length-append in
       let size′ : length new ≡ length (before s o) + (length (head 0 (o .count - 1)) + length r) = simp length-append in
-      let some : 1 ≤ length (head 0 (o .count - 1)) = omega (arith, length-head 0 (shortest (o .count - 1)) (o .count - 1)) in
       let read : readOf new ≡ Reading.Read (x .message) =
-      sym (read-whole new (shaped new) (λ z. omega arith) (omega (arith, shorter s o h, ap length is)) refl (x .message) _ (x .read) (omega (arith, x .sized))) in (
+      sym (read-whole new (shaped new) (omega (arith, shorter s o h, ap length is)) refl (x .message) _ (x .read) (omega (arith, x .sized))) in (
         x .message,
         subst (λ (l : List ℕ). readOf l ≡ Reading.Read (x .message)) is read,
         subst (λ (l : List ℕ). Relays l m o (onward s o) (x .message)) spelt-whole (subst (λ (l : List ℕ). Relays (before s o ++ (between s o ++ r)) m o l (x .message)) is (x .relays)),

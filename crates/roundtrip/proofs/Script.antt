@@ -1,22 +1,23 @@
 -- What the writer writes, as a list of its pieces, and how two such lists that spell the same bytes agree from left to right.
 -- Assumes nothing.
-use mathlib.Core.Path.{_≡_, refl, sym, ap, _∙_}
+use mathlib.Core.Path.{_≡_, refl, sym, ap, ap₂, _∙_}
 use mathlib.Core.List.{List, [], _∷_, _++_, append-assoc}
 use mathlib.Core.Option.{Option}
 use Prim.Native.Nat.{ℕ, _+_, _*_, _^_, _≤_, _<_}
 use native.Mathlib.Decide.{decLt}
 use native.Mathlib.Omega.{arith}
 use lib.Dec.{lit<}
-use lib.ListN.{length, take, getD, length-append}
-use lib.Seq.{take-at}
+use lib.ListN.{length, take, drop, getD, length-append}
+use lib.Seq.{take-at, drop-at}
+use borrow.Author.Tests.{lt-ltb}
 use Rattle.base.specs.Pick.{pick}
 use Rattle.base.proofs.Parts.{cancel}
 use Rattle.cbor.specs.declared.head.HeadRead.{HeadRead}
-use Rattle.cbor.specs.Head.{headAt}
+use Rattle.cbor.specs.Head.{widthOf, headAt}
 use Rattle.cbor.specs.Item.{mostLevels}
 use Rattle.cbor.specs.Put.{head}
 use Rattle.cbor.specs.Tree.{Item, infoOf, shortest, headBytes, encode, depth, Good}
-use Rattle.cbor.proofs.HeadExact.{shortest-case}
+use Rattle.cbor.proofs.HeadExact.{length-head, shortest-case}
 use Rattle.cbor.proofs.PutExact.{head-reads-back}
 use Rattle.cbor.proofs.Unique.{unique}
 use Rattle.message.specs.Read.{mostBytes}
@@ -48,25 +49,39 @@ first-byte : (m m′ n n′ : ℕ) (r r′ : List ℕ) → head m n ++ r ≡ hea
 unfolding head headBytes
 first-byte m m′ n n′ r r′ e = ap (λ (l : List ℕ). getD l 0 0) e
 
--- two shortest heads that begin the same bytes, where the first argument is small
-module _ (m m′ n n′ : ℕ) (r r′ : List ℕ) (hm : m < 7) (hm′ : m′ < 7) (h : Small n) (e : head m n ++ r ≡ head m′ n′ ++ r′) where
-  -- they are the same head
-  head-same : (m ≡ m′) × (n ≡ n′)
-  head-same =
-      elim (decLt n′ (2 ^ 32)) [
-        | yes l ↦
-            let first : headAt (head m n ++ r) ≡ HeadRead.Head m n (length (head m n)) = head-reads-back m n r hm (omega arith) in
-            let second : headAt (head m′ n′ ++ r′) ≡ HeadRead.Head m′ n′ (length (head m′ n′)) = head-reads-back m′ n′ r′ hm′ (omega arith) in
-            let same : HeadRead.Head m n (length (head m n)) ≡ HeadRead.Head m′ n′ (length (head m′ n′)) = sym first ∙ ap headAt e ∙ second in
-            (cc, cc)
-        | no l ↦ absurd (omega (arith, first-byte m m′ n n′ r r′ e, info-small n h, info-great n′ (omega arith)))
-      ]
+-- how many bytes of argument a shortest head has, by its additional information
+info-width : (n : ℕ) → widthOf (infoOf (shortest n) n) ≡ shortest n
+unfolding infoOf widthOf pick
+info-width n = shortest-case (λ w. widthOf (infoOf w n) ≡ w) n (λ a. rw (lt-ltb n 24 a)) (λ a b. refl) (λ a b. refl) (λ a b. refl) (λ a. refl)
 
-  -- and what follows is the same
+-- two shortest heads that begin the same bytes
+module _ (m m′ n n′ : ℕ) (r r′ : List ℕ) (e : head m n ++ r ≡ head m′ n′ ++ r′) where
+  -- their major types are the same, and their additional information
+  first-same : (m ≡ m′) × (infoOf (shortest n) n ≡ infoOf (shortest n′) n′)
+  first-same = (
+    omega (arith, first-byte m m′ n n′ r r′ e, info-least n, info-least n′),
+    omega (arith, first-byte m m′ n n′ r r′ e, info-least n, info-least n′),
+  )
+
+  -- what follows is the same
   head-rest : r ≡ r′
+  unfolding head
   head-rest =
-      let (a, b) = head-same in
-      cancel (head m n) r r′ (e ∙ ap (λ (k : ℕ). head k n′ ++ r′) (sym a) ∙ ap (λ (k : ℕ). head m k ++ r′) (sym b))
+      let width : shortest n ≡ shortest n′ = sym (info-width n) ∙ ap widthOf (first-same .1) ∙ info-width n′ in
+      let long : length (head m′ n′) ≡ length (head m n) = omega (arith, length-head m (shortest n) n, length-head m′ (shortest n′) n′) in
+      sym (drop-at (head m n) r (length (head m n)) refl) ∙ ap (drop (length (head m n))) e ∙ drop-at (head m′ n′) r′ (length (head m n)) long
+
+  -- and they are the same head, where the first argument is small
+  head-same : Small n → (m ≡ m′) × (n ≡ n′)
+  unfolding head headBytes
+  head-same h =
+      let same : head 0 n ++ r ≡ head 0 n′ ++ r′ = ap₂ (λ (info : ℕ) (l : List ℕ). (0 * 32 + info) ∷ l) (first-same .1) (ap (drop 1) e) in
+      let small : n′ < 2 ^ 32 =
+      elim (decLt n′ (2 ^ 32)) [ yes l ↦ l | no l ↦ absurd (omega (arith, first-same .1, info-small n h, info-great n′ (omega arith))) ] in
+      let first : headAt (head 0 n ++ r) ≡ HeadRead.Head 0 n (length (head 0 n)) = head-reads-back 0 n r (lit< tt) (omega arith) in
+      let second : headAt (head 0 n′ ++ r′) ≡ HeadRead.Head 0 n′ (length (head 0 n′)) = head-reads-back 0 n′ r′ (lit< tt) (omega arith) in
+      let whole : HeadRead.Head 0 n (length (head 0 n)) ≡ HeadRead.Head 0 n′ (length (head 0 n′)) = sym first ∙ ap headAt same ∙ second in
+      (first-same .0, cc)
 
 -- ---- pieces
 -- the head of an array, a number, null, a string of a major type, and a value's bytes
@@ -107,19 +122,21 @@ pub data Valued : List ℕ → Type 0 where
 
 -- ---- step by step
 -- the head of an array passed
+pub array-rest : {n n′ : ℕ} {ts ts′ : List Piece} → Like (Piece.array n ∷ ts) (Piece.array n′ ∷ ts′) → Like ts ts′
+unfolding spells spell
+array-rest {n} {n′} {ts} {ts′} l = rest-like l (head-rest 4 4 n n′ (spells ts) (spells ts′) (l .same))
+
+-- with its number of items
 pub array-next : {n n′ : ℕ} {ts ts′ : List Piece} → Small n → Like (Piece.array n ∷ ts) (Piece.array n′ ∷ ts′) → (n ≡ n′) × Like ts ts′
 unfolding spells spell
-array-next {n} {n′} {ts} {ts′} h l = (
-  head-same 4 4 n n′ (spells ts) (spells ts′) (lit< tt) (lit< tt) h (l .same) .1,
-  rest-like l (head-rest 4 4 n n′ (spells ts) (spells ts′) (lit< tt) (lit< tt) h (l .same)),
-)
+array-next {n} {n′} {ts} {ts′} h l = (head-same 4 4 n n′ (spells ts) (spells ts′) (l .same) h .1, array-rest l)
 
 -- a number passed
 pub number-next : {n n′ : ℕ} {ts ts′ : List Piece} → Small n → Like (Piece.number n ∷ ts) (Piece.number n′ ∷ ts′) → (n ≡ n′) × Like ts ts′
 unfolding spells spell
 number-next {n} {n′} {ts} {ts′} h l = (
-  head-same 0 0 n n′ (spells ts) (spells ts′) (lit< tt) (lit< tt) h (l .same) .1,
-  rest-like l (head-rest 0 0 n n′ (spells ts) (spells ts′) (lit< tt) (lit< tt) h (l .same)),
+  head-same 0 0 n n′ (spells ts) (spells ts′) (l .same) h .1,
+  rest-like l (head-rest 0 0 n n′ (spells ts) (spells ts′) (l .same)),
 )
 
 -- the length of a string that is the first piece
@@ -128,30 +145,39 @@ unfolding spells spell W.string
 string-small {major} {bs} {ts} l = omega (arith, l .few, length-append (head major (length bs) ++ bs) (spells ts), length-append (head major (length bs)) bs)
 
 -- a string passed
-pub string-next : {major : ℕ} {bs bs′ : List ℕ} {ts ts′ : List Piece} → major < 7 → Like (Piece.string major bs ∷ ts) (Piece.string major bs′ ∷ ts′) → (bs ≡ bs′) × Like ts ts′
+pub string-next : {major : ℕ} {bs bs′ : List ℕ} {ts ts′ : List Piece} → Like (Piece.string major bs ∷ ts) (Piece.string major bs′ ∷ ts′) → (bs ≡ bs′) × Like ts ts′
 unfolding spells spell W.string
-string-next {major} {bs} {bs′} {ts} {ts′} hm l =
-    let h = string-small l in
+string-next {major} {bs} {bs′} {ts} {ts′} l =
     let e : head major (length bs) ++ (bs ++ spells ts) ≡ head major (length bs′) ++ (bs′ ++ spells ts′) =
     sym (append-assoc (head major (length bs)) bs (spells ts)) ∙ l .same ∙ append-assoc (head major (length bs′)) bs′ (spells ts′) in
-    let (_, long) = head-same major major (length bs) (length bs′) (bs ++ spells ts) (bs′ ++ spells ts′) hm hm h e in
-    let rest = head-rest major major (length bs) (length bs′) (bs ++ spells ts) (bs′ ++ spells ts′) hm hm h e in
+    let (_, long) = head-same major major (length bs) (length bs′) (bs ++ spells ts) (bs′ ++ spells ts′) e (string-small l) in
+    let rest = head-rest major major (length bs) (length bs′) (bs ++ spells ts) (bs′ ++ spells ts′) e in
     let same : bs ≡ bs′ = sym (take-at bs (spells ts) (length bs) refl) ∙ ap (take (length bs)) rest ∙ take-at bs′ (spells ts′) (length bs) (sym long) in
     (same, rest-like l (cancel bs (spells ts) (spells ts′) (rest ∙ ap (λ (k : List ℕ). k ++ spells ts′) (sym same))))
+
+-- an array's head is not nothing
+pub array-none : {n : ℕ} {ts : List Piece} → Like (Piece.array n ∷ ts) [] → ⊥
+unfolding spells spell head headBytes
+array-none l = omega (arith, ap length (l .same))
+
+-- the other way round
+turned : {ts ts′ : List Piece} → Like ts ts′ → Like ts′ ts
+turned l = record { same = sym (l .same); few = rw (sym (l .same)) (l .few) }
+
+-- nor is nothing an array's head
+pub none-array : {n : ℕ} {ts : List Piece} → Like [] (Piece.array n ∷ ts) → ⊥
+none-array l = array-none (turned l)
 
 -- a text is no number
 pub text-number : {n : ℕ} {bs : List ℕ} {ts ts′ : List Piece} → Like (Piece.string 3 bs ∷ ts) (Piece.number n ∷ ts′) → ⊥
 unfolding spells spell W.string
 text-number {n} {bs} {ts} {ts′} l =
     let e : head 3 (length bs) ++ (bs ++ spells ts) ≡ head 0 n ++ spells ts′ = sym (append-assoc (head 3 (length bs)) bs (spells ts)) ∙ l .same in
-    omega (arith, head-same 3 0 (length bs) n (bs ++ spells ts) (spells ts′) (lit< tt) (lit< tt) (string-small l) e .0)
+    omega (arith, first-same 3 0 (length bs) n (bs ++ spells ts) (spells ts′) e)
 
 -- nor the other way round
 pub number-text : {n : ℕ} {bs : List ℕ} {ts ts′ : List Piece} → Like (Piece.number n ∷ ts) (Piece.string 3 bs ∷ ts′) → ⊥
-number-text {ts′ = ts′} l = text-number (turned l)
-  where
-    turned : {ts ts′ : List Piece} → Like ts ts′ → Like ts′ ts
-    turned l = record { same = sym (l .same); few = rw (sym (l .same)) (l .few) }
+number-text l = text-number (turned l)
 
 -- a number or null
 abbrev pub perhaps : Option ℕ → Piece

@@ -23,11 +23,11 @@ enum-known-answer c = search needs
 
 returns-3 : tie.Need-returns-3
 returns-3 c =
-    read-whole _ _ (c .before .before .before .before .before .before .if1 .left) (c .before .before .before .before .before .if2 .left) (c .before .before .before .before .examine .ensures) _ _ (c .before .before .answer .given .1) (c .if3 .taken)
+    read-whole _ _ (c .before .before .before .before .before .if2 .left) (c .before .before .before .before .examine .ensures) _ _ (c .before .before .answer .given .1) (c .if3 .taken)
 
 returns-4 : tie.Need-returns-4
 returns-4 c =
-    read-over _ _ (c .before .before .before .before .before .before .if1 .left) (c .before .before .before .before .before .if2 .left) (c .before .before .before .before .examine .ensures) _ _ (c .before .before .answer .given .1) (c .if3 .left)
+    read-over _ _ (c .before .before .before .before .before .if2 .left) (c .before .before .before .before .examine .ensures) _ _ (c .before .before .answer .given .1) (c .if3 .left)
 
 enum-known-answer-2 : tie.Need-enum-known-answer-2
 enum-known-answer-2 c = search needs
