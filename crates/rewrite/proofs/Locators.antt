@@ -3,7 +3,7 @@
 use mathlib.Core.Path.{_≡_, refl, sym, ap, _∙_, subst}
 use mathlib.Core.Logic.{inl, inr}
 use mathlib.Core.List.{List, [], _∷_, _++_}
-use Prim.Native.Nat.{ℕ, suc, _+_, _*_, _-_, _≤_, _<_}
+use Prim.Native.Nat.{ℕ, suc, _+_, _*_, _-_, _≤_}
 use native.Mathlib.Decide.{decLt}
 use native.Mathlib.Nat.{add-assoc}
 use native.Mathlib.Omega.{arith}
@@ -20,6 +20,7 @@ use Rattle.options.specs.declared.locator.Locator.the-variants as L
 use Rattle.options.specs.declared.locator.LocatorRead.{LocatorRead}
 use Rattle.options.specs.Text.{spanOf}
 use Rattle.options.specs.Locator.{locatorOf, locatorIn, locatorReached, locatorAt, locatorNumbers}
+use Rattle.options.proofs.Fits.{locator-within}
 use Rattle.syntax.specs.Message.{Loc}
 use Rattle.grammar.specs.Cddl.{LocatorItem, LocatorItems}
 use Rattle.grammar.specs.Stands as S
@@ -82,8 +83,9 @@ place-behind ns rest i e = let sum : placeRow * suc i ≡ length ns + placeRow *
 
 -- ---- what it tells
 -- an address of so many bytes lies in the message
-address-in : (m : List ℕ) (at n : ℕ) → 1 ≤ n → length (take n (drop at m)) ≡ n → Inside m (spanOf at n)
-address-in m at n h e = inr (omega (arith, length-take n (drop at m), length-drop at m))
+address-in : (m : List ℕ) (at n : ℕ) → length (take n (drop at m)) ≡ n → Inside m (spanOf at n)
+address-in m at n e =
+    elim (decLt 0 n) [ yes h ↦ inr (omega (arith, length-take n (drop at m), length-drop at m)) | no h ↦ inl (omega arith) ]
 
 -- a locator that was read is the place of its numbers
 pub record PlaceIs (m : List ℕ) (p : Place) (loc : Loc) : Type 0 where
@@ -93,9 +95,9 @@ pub record PlaceIs (m : List ℕ) (p : Place) (loc : Loc) : Type 0 where
 pub placed : {m : List ℕ} {x : Item} (l : Locator) → TextIn m l → LocatorItem x (S.locOf m l) → (rest : List ℕ) → PlaceIs m (placeAt (locatorNumbers l ++ rest) 0) (S.locOf m l)
 unfolding locatorNumbers placeAt placeLoc S.locOf pick
 placed (L.V6 at protocol port) t (LocatorItem.v6 n _ _) rest =
-    record { is = refl; says = record { least = lit≤ tt; most = lit≤ tt; content = address-in _ at 16 (lit≤ tt) n } }
+    record { is = refl; says = record { least = lit≤ tt; most = lit≤ tt; content = address-in _ at 16 n } }
 placed (L.V4 at protocol port) t (LocatorItem.v4 n _ _) rest =
-    record { is = refl; says = record { least = lit≤ tt; most = lit≤ tt; content = address-in _ at 4 (lit≤ tt) n } }
+    record { is = refl; says = record { least = lit≤ tt; most = lit≤ tt; content = address-in _ at 4 n } }
 placed (L.Domain name protocol port) t i rest = record { is = refl; says = record { least = lit≤ tt; most = lit≤ tt; content = t } }
 placed (L.Uri uri protocol port) t i rest =
     record { is = refl; says = record { least = lit≤ tt; most = lit≤ tt; content = t } }
@@ -117,9 +119,9 @@ module _ (s : List ℕ) where
   locator-row p i list e = ap (locatorStoredFrom i list) e
 
   -- and what comes after it
-  locator-next : {p e : ℕ} {l : Locator} {bad : ℕ} → p < e → locatorAt s p ≡ LocatorRead.Got l (e - p) bad → locatorNext s p ≡ e
+  locator-next : (p : ℕ) {e : ℕ} {l : Locator} {bad : ℕ} → locatorAt s p ≡ LocatorRead.Got l (e - p) bad → locatorNext s p ≡ e
   unfolding locatorNext locatorNextFrom
-  locator-next {p} h q = ap (locatorNextFrom p) q ∙ omega arith
+  locator-next p {e} {l} {bad} q = ap (locatorNextFrom p) q ∙ omega (arith, locator-within s p p _ (LocatorRead.Got l (e - p) bad) refl q .0)
 
   -- the locators that stand in a message
   pub locators-rows : {p e : ℕ} {xs : Items} {ls : List Loc} → StandAll s p e xs → LocatorItems xs ls → (rows : List (List ℕ)) × Locators p rows ls
@@ -132,5 +134,5 @@ module _ (s : List ℕ) where
       let (rows, more) = locators-rows (c .rest) is in (
         locatorNumbers l ∷ rows,
         Chain.step (locator-five l) (λ i list. locator-row p i list read) (λ rest. (told rest .is ∙ described, told rest .says))
-            (subst (λ (k : ℕ). Locators k rows ls) (sym (locator-next (advances (c .first)) read)) more),
+            (subst (λ (k : ℕ). Locators k rows ls) (sym (locator-next p read)) more),
       )

@@ -4,16 +4,19 @@ use mathlib.Core.Path.{_≡_, refl, sym, ap, ap₂, _∙_, subst}
 use mathlib.Core.Logic.{_⊎_, inl, inr}
 use mathlib.Core.List.{List, [], _∷_, _++_, map}
 use mathlib.Core.Option.{Option, none, some}
-use Prim.Native.Nat.{ℕ, suc, _+_, _*_, _-_, _≤_, _<_}
+use Prim.Native.Nat.{ℕ, suc, _+_, _*_, _-_, _≤_}
 use native.Mathlib.Nat.{add-assoc}
+use native.Mathlib.Decide.{decLt}
 use native.Mathlib.Omega.{arith}
 use borrow.Author.Tests.{ne-eqb}
 use lib.ListN.{length, drop, getD, length-drop}
 use lib.Seq.{sets, getD-append-add}
 use Rattle.base.specs.Pick.{pick}
+use Rattle.base.proofs.Parts.{drop-past}
 use Rattle.base.proofs.Picks.{both}
 use Rattle.cbor.specs.Tree.{Item, Items, depth, depths}
-use Rattle.cbor.specs.Token.{tokenAt}
+use Rattle.cbor.specs.Head.{headAt}
+use Rattle.cbor.specs.Token.{nothingAt, tokenFrom, tokenAt, itemsIn}
 use Rattle.options.specs.declared.locator.Locator.{Locator}
 use Rattle.options.specs.declared.locator.Locator.the-variants as L
 use Rattle.options.specs.declared.locator.LocatorRead.{LocatorRead}
@@ -24,7 +27,7 @@ use Rattle.options.specs.declared.pair.PairRead.{PairRead}
 use Rattle.options.specs.Locator.{locatorIn, locatorNumbers}
 use Rattle.options.specs.Objective.{objectiveIn}
 use Rattle.options.specs.Pair.{pairTagged, pairTail, pairLed, pairIn, pairAt, five, tagNumbers, pairNumbers}
-use Rattle.options.proofs.Fits.{ObjectiveOk, objective-within}
+use Rattle.options.proofs.Fits.{pair-within}
 use Rattle.syntax.specs.Message.{Loc, Obj, Pair, valuedPair}
 use Rattle.grammar.specs.Cddl.{LocatorItem, Value, PairItem, PairItems}
 use Rattle.grammar.specs.Stands as S
@@ -57,22 +60,34 @@ unfolding pairTagged
 tagged-ok m at o bad long (LocatorRead.Bad place) h = tt
 tagged-ok m at o bad long (LocatorRead.Got l size b) h = h
 
-tail-ok : (m : List ℕ) (base : ℕ) (s : List ℕ) (at : ℕ) (o : Objective) (bad long : ℕ) → at ≤ length s → base + length s ≤ length m → TagOk m (pairTail base s at o bad long)
-unfolding pairTail
-tail-ok m base s at o bad long h k =
-    both (TagOk m) _ tt (tagged-ok m at o bad long (locatorIn (base + at) (drop at s)) (text-ok m (base + at) (drop at s) (omega (arith, length-drop at s))))
+-- of no bytes
+none-ok : (m : List ℕ) (base : ℕ) → TextOk m (locatorIn base [])
+unfolding locatorIn tokenAt tokenFrom nothingAt itemsIn headAt pick
+none-ok m base = tt
 
-led-ok : (m : List ℕ) (base : ℕ) (s : List ℕ) (n at : ℕ) (x : ObjectiveRead) → base + length s ≤ length m → ObjectiveOk (base + at) (length s - at) x → TagOk m (pairLed base s n at x)
+tail-ok : (m : List ℕ) (base : ℕ) (s : List ℕ) (at : ℕ) (o : Objective) (bad long : ℕ) → base + length s ≤ length m → TagOk m (pairTail base s at o bad long)
+unfolding pairTail
+tail-ok m base s at o bad long k = both (TagOk m) _ tt (tagged-ok m at o bad long (locatorIn (base + at) (drop at s)) text)
+  where
+    -- past the end there is no locator
+    text : TextOk m (locatorIn (base + at) (drop at s))
+    text =
+        elim (decLt (length s) at) [
+          | yes l ↦ subst (λ (t : List ℕ). TextOk m (locatorIn (base + at) t)) (sym (drop-past s at (omega arith))) (none-ok m (base + at))
+          | no l ↦ text-ok m (base + at) (drop at s) (omega (arith, length-drop at s))
+        ]
+
+led-ok : (m : List ℕ) (base : ℕ) (s : List ℕ) (n at : ℕ) (x : ObjectiveRead) → base + length s ≤ length m → TagOk m (pairLed base s n at x)
 unfolding pairLed
-led-ok m base s n at (ObjectiveRead.Bad place) k f = tt
-led-ok m base s n at (ObjectiveRead.Got o size bad long) k f = both (TagOk m) _ (tail-ok m base s (at + size) o bad long (omega arith) k) tt
+led-ok m base s n at (ObjectiveRead.Bad place) k = tt
+led-ok m base s n at (ObjectiveRead.Got o size bad long) k = both (TagOk m) _ (tail-ok m base s (at + size) o bad long k) tt
 
 -- what is read at a place
 tag-ok : (m : List ℕ) (base : ℕ) (s : List ℕ) → base + length s ≤ length m → TagOk m (pairIn base s)
 unfolding pairIn
 tag-ok m base s k =
     both (TagOk m) _ tt
-    (led-ok m base s _ _ (objectiveIn 3 _ (drop (tokenAt s 0 .next) s)) k (objective-within 3 s _ (tokenAt s 0 .next) _ _ refl refl))
+    (led-ok m base s _ _ (objectiveIn 3 _ (drop (tokenAt s 0 .next) s)) k)
 
 -- ---- a row
 -- a tag has five numbers
@@ -164,9 +179,9 @@ module _ (s : List ℕ) where
   pair-row p i list e = ap (R.pairStoredFrom i list) e
 
   -- and what comes after it
-  pair-next : {p e : ℕ} {o : Objective} {tag : Tag} {bad long : ℕ} → p < e → pairAt s p ≡ PairRead.Got o tag (e - p) bad long → R.pairNext s p ≡ e
+  pair-next : (p : ℕ) {e : ℕ} {o : Objective} {tag : Tag} {bad long : ℕ} → pairAt s p ≡ PairRead.Got o tag (e - p) bad long → R.pairNext s p ≡ e
   unfolding R.pairNext R.pairNextFrom
-  pair-next {p} h q = ap (R.pairNextFrom p) q ∙ omega arith
+  pair-next p {e} {o} {tag} {bad} {long} q = ap (R.pairNextFrom p) q ∙ omega (arith, pair-within s p p _ (PairRead.Got o tag (e - p) bad long) refl q .1)
 
   -- what the numbers tell
   pair-tells : {obj : Obj Value} {loc : Option Loc} (o : Objective) (tag : Tag) → Goals s o obj → ((rest : List ℕ) → TagIs s (placeAt (tagNumbers tag ++ rest) 0) loc) → (rest : List ℕ)
@@ -187,5 +202,5 @@ module _ (s : List ℕ) where
       let (rows, more) = pairs-rows (omega (arith, d)) (c .rest) is in (
         R.pairCells o tag ∷ rows,
         Chain.step (pair-twelve o tag) (λ i list. pair-row p i list read) (pair-tells o tag (objective-goals objective) (tag-tells tag text i described))
-            (subst (λ (k : ℕ). Pairs k rows (map (valuedPair valueBytes) ps)) (sym (pair-next (advances (c .first)) read)) more),
+            (subst (λ (k : ℕ). Pairs k rows (map (valuedPair valueBytes) ps)) (sym (pair-next p read)) more),
       )

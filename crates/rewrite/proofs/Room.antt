@@ -3,6 +3,7 @@
 use mathlib.Core.Path.{_≡_}
 use mathlib.Core.List.{List}
 use Prim.Native.Nat.{ℕ, _+_, _*_, _/_, _≤_}
+use native.Mathlib.Nat.{le-trans, mul-le-mul-left, mul-div-le}
 use native.Mathlib.Omega.{arith}
 use lib.Dec.{ltb}
 use lib.ListN.{length}
@@ -21,21 +22,20 @@ use Rattle.rewrite.specs.Lent.{mostNumbers}
 
 -- ---- rows
 -- the test of room is passed
-fits : (list : List ℕ) (size many : ℕ) → many ≤ length list / size → size * many ≤ length list
-    → pick (ltb (length list / size) many) (length list + 1) (size * many) ≤ length list
+fits : (list : List ℕ) (size many : ℕ) → many ≤ length list / size → pick (ltb (length list / size) many) (length list + 1) (size * many) ≤ length list
 unfolding pick
-fits list size many h k = rw (le-ltb (length list / size) many h) k
+fits list size many h = rw (le-ltb (length list / size) many h) (le-trans (mul-le-mul-left size h) (mul-div-le (length list) size))
 
 module _ (s : List ℕ) (few : length s ≤ mostBytes) (list : List ℕ) (long : mostNumbers ≤ length list) where
   -- of locators, which have six bytes at least, in five numbers
   locators-fit : (series : Series) → Six s series → R.seriesEnd placeRow series list ≤ length list
   unfolding R.seriesEnd
-  locators-fit series six = fits list 5 (series .many) (omega arith) (omega arith)
+  locators-fit series six = fits list 5 (series .many) (omega arith)
 
   -- of pairs, which have six too, in twelve
   pairs-fit : (series : Series) → Six s series → R.seriesEnd pairRow series list ≤ length list
   unfolding R.seriesEnd
-  pairs-fit series six = fits list 12 (series .many) (omega arith) (omega arith)
+  pairs-fit series six = fits list 12 (series .many) (omega arith)
 
   -- of a message
   message-fit : (m : Message) → MessageParts s m → R.rowsEnd m list ≤ length list
