@@ -74,7 +74,7 @@ unfolding encode string
 initiator-encodes g (Initiator.initiator _) = rw (bytes-head (g .0))
 
 -- an objective, with or without a value
-objective-encodes : {x : Item} {o : Obj Value} → Good x → ObjectiveItem x o → encode x ≡ encodeObj (valuedObj valueBytes o)
+pub objective-encodes : {x : Item} {o : Obj Value} → Good x → ObjectiveItem x o → encode x ≡ encodeObj (valuedObj valueBytes o)
 unfolding encode count encodeObj string valuedObj valueBytes oneMore
 objective-encodes g (ObjectiveItem.bare _ _) =
     rw (array-head (g .0), text-head (g .1 .0 .0), number-head (g .1 .1 .0), number-head (g .1 .1 .1 .0)) (simp (append-assoc, append-nil))

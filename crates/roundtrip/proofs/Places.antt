@@ -58,6 +58,10 @@ stands-whole {s} {x} g e =
       within = omega arith;
     }
 
+-- and what stands in all the bytes is encoded as they are
+pub whole-stands : {s : List ℕ} {x : Item} → Stands s 0 (length s) x → encode x ≡ s
+whole-stands {s} {x} a = sym (append-nil (encode x)) ∙ ap (λ (t : List ℕ). encode x ++ t) (sym (drop-length s)) ∙ sym (a .is)
+
 -- what stands before a message's third item, and the items from there on
 pub opened-place : {s : List ℕ} {w k kind p q r session : ℕ} {i : Span} {from : List ℕ} {y z : Item} {xs : Items}
     → Stands s 0 (length s) (Item.array w (Items.more (uint k kind) (Items.more y (Items.more z xs))))
