@@ -26,7 +26,7 @@ use Rattle.rewrite.proofs.ByKind.{kind-says}
 pub described-says : (s list : List ℕ) (m : Message) → readOf s ≡ Reading.Read m → rowsEnd m list ≤ length list → (a : Accepted s)
     → Says s (rowsLent s m list) (descriptionOf m) (plain (a .message .msg))
 described-says s list m q room a =
-    kind-says s list (accepted-described s m q a) (a .message .is) (a .message .one .good) (a .message .one .shallow) (a .message .one .bytes) room
+    kind-says s list (accepted-described s m q a) (a .message .is) (a .message .one .shallow) (a .message .one .bytes) room
 
 -- So what was read, described and written again is the same bytes, where the output has room for them.
 pub described-written : (s list out : List ℕ) (m : Message) → Bytes s → readOf s ≡ Reading.Read m → rowsEnd m list ≤ length list → length s ≤ length out

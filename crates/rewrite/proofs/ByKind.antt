@@ -1,17 +1,16 @@
 -- The description and the rows of a message that was read say the message: by its kinds.
 -- Assumes nothing.
 use mathlib.Core.Path.{_≡_, refl, sym, ap, ap₂, _∙_, subst}
-use mathlib.Core.List.{List, _++_, map, append-assoc}
+use mathlib.Core.List.{List, [], _∷_, _++_, map, append-assoc, append-nil}
 use mathlib.Core.Option.{Option, some, Option·map}
 use Prim.Native.Nat.{ℕ, _*_, _/_, _≤_}
 use native.Mathlib.Omega.{arith}
 use lib.Dec.{ltb, lit<}
 use lib.ListN.{length, take}
 use Rattle.cbor.specs.Item.{mostLevels}
-use Rattle.cbor.specs.Put.{head}
-use Rattle.cbor.specs.Tree.{Item, Items, encode, depth, depths, Good}
+use Rattle.cbor.specs.Tree.{Item, Items, headBytes, count, encode, depth, depths}
 use Rattle.syntax.specs.Message.{Loc, Obj, Pair, Aim, Ending, Msg, valuedObj, valuedPair, valued}
-use Rattle.grammar.specs.Cddl.{LocatorItems, Value, PairItems, MessageItem}
+use Rattle.grammar.specs.Cddl.{uint, text, array, Protocol, Port, OrNull, LocatorItem, LocatorItems, ObjectiveItem, Value, PairItem, PairItems, EndingItem, MessageItem}
 use Rattle.grammar.specs.Stands.{StandAll}
 use Rattle.grammar.proofs.Pairs.{pairDepth}
 use Rattle.message.specs.declared.Series.{Series}
@@ -21,19 +20,61 @@ use Rattle.options.specs.declared.Outcome.{Outcome}
 use Rattle.message.specs.declared.Message.{Message}
 use Rattle.exact.specs.Describes.{SeriesIs, AimIs, ExtraIs, OutcomeIs, Describes}
 use Rattle.exact.proofs.Described.{locators-count, pairs-count}
-use Rattle.description.specs.Encoding.{string, encodeEnding, opening, encodeMsg}
 use Rattle.description.specs.Describe.{placeRow, pairRow, placeLoc, placeAt, rowLoc, locsOf, targetsOf, extraOf, rowPair, pairsOf, endOf, msgOf}
 use Rattle.describe.specs.Describe as D
 use Rattle.describe.specs.Rows as R
 use Rattle.roundtrip.specs.Plain.{valueBytes, plain}
 use Rattle.roundtrip.specs.Says.{PlaceSays, PairSays, Rows, ExtraSays, OutcomeSays, Says}
-use Rattle.roundtrip.proofs.Encodes.{plain-encodes, pairs-many}
-use Rattle.roundtrip.proofs.Places.{past-item, stands-whole, opened-place}
+use Rattle.roundtrip.proofs.Encodes.{pairs-many}
 use Rattle.rewrite.specs.Lent.{rowsLent}
 use Rattle.rewrite.proofs.Filled.{joined, rows-many, lent, told-rows}
 use Rattle.rewrite.proofs.Spans.{string-cuts, value-cuts, end-cuts, objective-goals}
 use Rattle.rewrite.proofs.Locators.{placeOf, place-behind, Locators, locators-rows}
 use Rattle.rewrite.proofs.Pairs.{rowAt, rowOf, row-behind, pairOf, InOrder, Pairs, pairs-rows}
+
+-- ---- how many levels the items of pairs have: as many as any others of the same pairs
+-- a protocol has none
+protocol-flat : {x : Item} {n : ℕ} → Protocol x n → depth x ≡ 0
+unfolding depth
+protocol-flat Protocol.tcp = refl
+protocol-flat Protocol.udp = refl
+
+-- nor has a port
+port-flat : {x : Item} {n : ℕ} → Port x n → depth x ≡ 0
+unfolding depth
+port-flat (Port.port h) = refl
+
+-- nor null
+or-null-flat : {P : Item → ℕ → Type 0} {x : Item} {n : Option ℕ} → ((m : ℕ) → P x m → depth x ≡ 0) → OrNull P x n → depth x ≡ 0
+unfolding depth
+or-null-flat f OrNull.is-null = refl
+or-null-flat f (OrNull.is {n = n} i) = f n i
+
+-- a locator has one
+locator-deep : {x : Item} {l : Loc} → LocatorItem x l → depth x ≡ 1
+unfolding depth
+locator-deep (LocatorItem.v6 _ i j) = rw (protocol-flat i, port-flat j)
+locator-deep (LocatorItem.v4 _ i j) = rw (protocol-flat i, port-flat j)
+locator-deep (LocatorItem.domain i j) = rw (protocol-flat i, port-flat j)
+locator-deep (LocatorItem.uri i j) = rw (or-null-flat (λ n. protocol-flat) i, or-null-flat (λ n. port-flat) j)
+
+-- an objective's are those of its value
+objective-deep : {x y : Item} {obj : Obj Value} → ObjectiveItem x obj → ObjectiveItem y obj → depth x ≡ depth y
+unfolding depth
+objective-deep (ObjectiveItem.bare _ _) (ObjectiveItem.bare _ _) = refl
+objective-deep (ObjectiveItem.valued _ _) (ObjectiveItem.valued _ _) = refl
+
+-- a pair's
+pair-deep : {x y : Item} {p : Pair Value} → PairItem x p → PairItem y p → depth x ≡ depth y
+unfolding depth
+pair-deep (PairItem.untagged o) (PairItem.untagged o′) = rw (objective-deep o o′)
+pair-deep (PairItem.tagged o l) (PairItem.tagged o′ l′) = rw (objective-deep o o′, locator-deep l, locator-deep l′)
+
+-- those of all
+pairs-deep : {xs ys : Items} {ps : List (Pair Value)} → PairItems xs ps → PairItems ys ps → depths xs ≡ depths ys
+unfolding depth
+pairs-deep PairItems.empty PairItems.empty = refl
+pairs-deep (PairItems.more i is) (PairItems.more j js) = rw (pair-deep i j, pairs-deep is js)
 
 module _ (s : List ℕ) where
   -- a list of locators
@@ -95,15 +136,15 @@ module _ (s : List ℕ) where
   extra-says (ExtraIs.with-one o) = let goal = objective-goals o in (goal .says, ap some (goal .is))
 
   -- how a negotiation ends; a reason is the end of the message
-  ending-says : {outcome : Outcome} {ending : Ending} (session : ℕ) → OutcomeIs s outcome ending → encodeMsg (Msg.end session ending) ≡ s
+  ending-says : {outcome : Outcome} {ending : Ending} {x : Item} (before : List ℕ) → OutcomeIs s outcome ending → EndingItem x ending → before ++ encode x ≡ s
       → OutcomeSays s outcome × (endOf s outcome ≡ ending)
-  unfolding endOf encodeMsg encodeEnding string
-  ending-says session OutcomeIs.accept e = (tt, refl)
-  ending-says session OutcomeIs.decline e = (tt, refl)
-  ending-says session (OutcomeIs.reason {content = content} q) e =
-      let before : List ℕ = opening 3 6 session ++ (head 4 2 ++ head 0 102 ++ head 3 (length content)) in
-      let whole : before ++ content ≡ opening 3 6 session ++ encodeEnding (Ending.reason content) = simp append-assoc in
-      let c = end-cuts before content (whole ∙ e) q in
+  unfolding endOf encode count
+  ending-says before OutcomeIs.accept i e = (tt, refl)
+  ending-says before OutcomeIs.decline i e = (tt, refl)
+  ending-says before (OutcomeIs.reason q) (EndingItem.reason {w} {k} {t} {content}) e =
+      let front : List ℕ = before ++ (headBytes 4 w 2 ++ (headBytes 0 k 102 ++ headBytes 3 t (length content))) in
+      let whole : front ++ content ≡ before ++ encode (array w (uint k 102 ∷ text t content ∷ [])) = simp (append-assoc, append-nil) in
+      let c = end-cuts front content (whole ∙ e) q in
       (c .inside, ap Ending.reason (c .is))
 
   -- a Response by its parts
@@ -112,38 +153,41 @@ module _ (s : List ℕ) where
 
   -- ---- the kinds
   -- The description of what was read, with the rows in a list that has room for them, says the message that stands in the bytes.
-  pub kind-says : (list : List ℕ) {m : Message} {msg : Msg Value} {x : Item} → Describes s m msg → MessageItem x msg → Good x → depth x ≤ mostLevels → encode x ≡ s
+  pub kind-says : (list : List ℕ) {m : Message} {msg : Msg Value} {x : Item} → Describes s m msg → MessageItem x msg → depth x ≤ mostLevels → encode x ≡ s
       → R.rowsEnd m list ≤ length list → Says s (rowsLent s m list) (D.descriptionOf m) (plain msg)
-  unfolding R.rowsEnd R.rowsFilled R.rowsIn R.endBy R.filledBy D.descriptionOf msgOf plain valued depth
-  kind-says list Describes.noop i g d e room = record { parts = refl; is = refl }
-  kind-says list (Describes.discovery {session} k n from o) i g d e room =
+  unfolding R.rowsEnd R.rowsFilled R.rowsIn R.endBy R.filledBy D.descriptionOf msgOf plain valued encode count depth
+  kind-says list Describes.noop i d e room = record { parts = refl; is = refl }
+  kind-says list (Describes.discovery {session} k n from o) i d e room =
       let c = string-cuts (from .stands) (from .held) in
       let goal = objective-goals o in
       record { parts = (refl, c .inside, goal .says); is = ap₂ (Msg.discovery session) (c .is) (goal .is) }
-  kind-says list (Describes.response {session} {ttl} k n from t aim extra) i g d e room =
+  kind-says list (Describes.response {session} {ttl} k n from t aim extra) i d e room =
       let c = string-cuts (from .stands) (from .held) in
       let (ls, rows, targets) = aim-lent list aim room in
       let (says, is) = extra-says extra in
       record { parts = (c .inside, rows .says, says); is = response-is (c .is) (targets _ (rows .are)) is }
-  kind-says list (Describes.request-negotiation {session} k n o) i g d e room =
+  kind-says list (Describes.request-negotiation {session} k n o) i d e room =
       let goal = objective-goals o in
       record { parts = (refl, goal .says); is = ap (Msg.request-negotiation session) (goal .is) }
-  kind-says list (Describes.request-synchronization {session} k n o) i g d e room =
+  kind-says list (Describes.request-synchronization {session} k n o) i d e room =
       let goal = objective-goals o in
       record { parts = (refl, goal .says); is = ap (Msg.request-synchronization session) (goal .is) }
-  kind-says list (Describes.negotiate {session} k n o) i g d e room =
+  kind-says list (Describes.negotiate {session} k n o) i d e room =
       let goal = objective-goals o in
       record { parts = (refl, goal .says); is = ap (Msg.negotiate session) (goal .is) }
-  kind-says list (Describes.end {session} outcome) i g d e room = let (says, is) = ending-says session outcome (sym (plain-encodes g i) ∙ e) in record { parts = (refl, says); is = ap (Msg.end session) is }
-  kind-says list Describes.wait i g d e room = record { parts = refl; is = refl }
-  kind-says list (Describes.synch {session} k n o) i g d e room =
+  kind-says list (Describes.end {session} outcome) (MessageItem.end {w} {k} {s = y} {x} i ending) d e room =
+      let before : List ℕ = headBytes 4 w 3 ++ (encode (uint k 6) ++ encode y) in
+      let whole : before ++ encode x ≡ encode (array w (uint k 6 ∷ y ∷ x ∷ [])) = simp (append-assoc, append-nil) in
+      let (says, is) = ending-says before outcome ending (whole ∙ e) in
+      record { parts = (refl, says); is = ap (Msg.end session) is }
+  kind-says list Describes.wait i d e room = record { parts = refl; is = refl }
+  kind-says list (Describes.synch {session} k n o) i d e room =
       let goal = objective-goals o in
       record { parts = (refl, goal .says); is = ap (Msg.synch session) (goal .is) }
-  kind-says list (Describes.flood {session} {ttl} k n from t series h o) (MessageItem.flood sy sz sv pairs) g d e room =
+  kind-says list (Describes.flood {session} {ttl} k n from t series h o) (MessageItem.flood sy sz sv pairs) d e room =
       let c = string-cuts (from .stands) (from .held) in
-      let stand = past-item (opened-place (stands-whole g e) k n from .0) (t .stands) .0 in
-      let rows = pairs-lent list (omega (arith, d)) stand pairs (series .many ∙ pairs-count (series .are)) room in
+      let rows = pairs-lent list (omega (arith, d, pairs-deep pairs (series .are))) (series .stand) (series .are) (series .many ∙ pairs-count (series .are)) room in
       record { parts = (c .inside, rows .says); is = ap₂ (λ (i : List ℕ) (ps : List (Pair (List ℕ))). Msg.flood session i ttl ps) (c .is) (rows .are) }
-  kind-says list (Describes.invalid {session} k n v end) i g d e room =
+  kind-says list (Describes.invalid {session} k n v end) i d e room =
       let c = value-cuts v in
       record { parts = (refl, c .inside); is = ap (Msg.invalid session) (c .is) }
