@@ -1,95 +1,68 @@
 -- `utf8::is_utf8_from` meets its contract. The loop's invariant: the bytes from `at` on go on as the state asks just where the
 -- whole is UTF-8. The measure is what is left of the length.
 -- Assumes nothing.
-use mathlib.Core.Path.{_≡_, refl, _∙_}
+use mathlib.Core.Path.{_≡_, refl, sym, _∙_}
 use mathlib.Core.Bool.{Bool, false}
-use mathlib.Core.List.{List, [], _∷_}
+use mathlib.Core.List.{List, _∷_}
 use Prim.Native.Nat.{ℕ, suc, _≤_, _<_, _-_, _+_}
-use native.Mathlib.Decide.{decLt}
 use native.Mathlib.Numerals.{add-one}
 use native.Mathlib.Omega.{arith}
 use borrow.Author.Needs.{needs}
 use borrow.Author.Tests.{lt-ltb, le-ltb, ne-eqb}
+use lib.Dec.{ltb}
 use lib.ListN.{length, drop, getD}
 use lib.Seq.{drop-cons}
 use Rattle.base.specs.Pick.{pick}
-use Rattle.base.proofs.Parts.{drop-past, there}
+use Rattle.base.proofs.Parts.{drop-past}
+use Rattle.base.proofs.Picks.{both}
 use Rattle.utf8.specs.Utf8.{tailsOf, leastTail, greatestTail, goesOn, isUtf8}
 use Rattle.utf8.proofs.Utf8Scalar.{lead-from}
 use Rattle.utf8.proofs.is_utf8_from.Statement.{statement}
 use Rattle.utf8.proofs.is_utf8_from.Tie as tie
 
--- one turn, at the byte `getD s at 0`
-module _ (s : List ℕ) (due low high at : ℕ) (v : Bool) (inv : goesOn due low high (drop at s) ≡ v) where
-  front : at < length s → goesOn due low high (getD s at 0 ∷ drop (at + 1) s) ≡ v
-  front within = rw (add-one, ← drop-cons s at 0 within) inv
+-- the byte at `at`, in front of the rest
+front : (s : List ℕ) (due low high at : ℕ) (v : Bool) → at < length s → goesOn due low high (drop at s) ≡ v → goesOn due low high (getD s at 0 ∷ drop (at + 1) s) ≡ v
+front s due low high at v within inv = rw (add-one, ← drop-cons s at 0 within) inv
 
-  -- nothing is left past the end
-  past : length s ≤ at → goesOn due low high [] ≡ v
-  past over = rw (drop-past s at over) at inv
-
-  ascii : due ≡ 0 → getD s at 0 < 0x80 → goesOn due low high (drop (at + 1) s) ≡ v
+-- one turn, at the byte b
+module _ (due low high b : ℕ) (t : List ℕ) (v : Bool) (inv : goesOn due low high (b ∷ t) ≡ v) where
+  ascii : due ≡ 0 → b < 0x80 → goesOn due low high t ≡ v
   unfolding goesOn pick
-  ascii none test = by (decLt at (length s))
-    where
-      by : Dec (at < length s) → goesOn due low high (drop (at + 1) s) ≡ v
-      by (yes within) = rw none (rw (none, lt-ltb (getD s at 0) 0x80 test) at (front within))
-      by (no over) = rw (drop-past s (at + 1) (omega arith)) (past (omega arith))
+  ascii none test = rw none (rw (none, lt-ltb b 0x80 test) at inv)
 
-  no-lead : (n : ℕ) → due ≡ 0 → 0x80 ≤ getD s at 0 → n ≡ tailsOf (getD s at 0) → n ≡ 0 → false ≡ v
+  no-lead : (n : ℕ) → due ≡ 0 → 0x80 ≤ b → n ≡ tailsOf b → n ≡ 0 → false ≡ v
   unfolding goesOn pick
-  no-lead n none test is zero-due = rw (none, le-ltb (getD s at 0) 0x80 test, ← is, zero-due) at (front (there s at (omega arith)))
+  no-lead n none test is zero-due = rw (none, le-ltb b 0x80 test, ← is, zero-due) at inv
 
-  led : (n l h : ℕ) → due ≡ 0 → n ≡ tailsOf (getD s at 0) → (n ≡ 0 → ⊥) → l ≡ leastTail (getD s at 0) → h ≡ greatestTail (getD s at 0)
-      → goesOn n l h (drop (at + 1) s) ≡ v
+  led : (n l h : ℕ) → due ≡ 0 → n ≡ tailsOf b → (n ≡ 0 → ⊥) → l ≡ leastTail b → h ≡ greatestTail b → goesOn n l h t ≡ v
   unfolding goesOn pick
   led n l h none is some least greatest =
-      let from : 0xC2 ≤ getD s at 0 = lead-from (getD s at 0) (λ z. some (is ∙ z)) in
-      rw (none, le-ltb (getD s at 0) 0x80 (omega arith), ← is, ne-eqb n 0 some, ← least, ← greatest) at (front (there s at (omega arith)))
+      let lead = lead-from b (λ z. some (is ∙ z)) in
+      rw (none, le-ltb b 0x80 (omega arith), ← is, ne-eqb n 0 some, ← least, ← greatest) at inv
 
-  below : (due ≡ 0 → ⊥) → getD s at 0 < low → false ≡ v
+  below : (due ≡ 0 → ⊥) → b < low → false ≡ v
   unfolding goesOn pick
-  below some test = by (decLt at (length s))
-    where
-      one : due ≡ suc (due - 1)
-      one = omega arith
-
-      by : Dec (at < length s) → false ≡ v
-      by (yes within) = rw (one, lt-ltb (getD s at 0) low test) at (front within)
-      by (no over) = rw (ne-eqb due 0 some) at (past (omega arith))
-
-  above : (due ≡ 0 → ⊥) → high < getD s at 0 → false ≡ v
-  unfolding goesOn pick
-  above some test = by (decLt (getD s at 0) low)
-    where
-      one : due ≡ suc (due - 1)
-      one = omega arith
-
-      by : Dec (getD s at 0 < low) → false ≡ v
-      by (yes under) = below some under
-      by (no from) = rw (one, le-ltb (getD s at 0) low (omega arith), lt-ltb high (getD s at 0) test) at (front (there s at (omega arith)))
-
-  tail : at < length s → (due ≡ 0 → ⊥) → low ≤ getD s at 0 → getD s at 0 ≤ high → goesOn (due - 1) 0x80 0xBF (drop (at + 1) s) ≡ v
-  unfolding goesOn pick
-  tail within some test test′ =
+  below some test =
       let one : due ≡ suc (due - 1) = omega arith in
-      rw (one, le-ltb (getD s at 0) low test, le-ltb high (getD s at 0) test′) at (front within)
+      rw (one, lt-ltb b low test) at inv
+
+  above : (due ≡ 0 → ⊥) → high < b → false ≡ v
+  unfolding goesOn pick
+  above some test =
+      let one : due ≡ suc (due - 1) = omega arith in
+      sym (both (λ (x : Bool). x ≡ false) (ltb b low) refl refl) ∙ rw (one, lt-ltb high b test) at inv
+
+  tail : (due ≡ 0 → ⊥) → low ≤ b → b ≤ high → goesOn (due - 1) 0x80 0xBF t ≡ v
+  unfolding goesOn pick
+  tail some test test′ =
+      let one : due ≡ suc (due - 1) = omega arith in
+      rw (one, le-ltb b low test, le-ltb high b test′) at inv
 
 abbrev Inv-loop : tie.InvT-loop
 Inv-loop s due₀ low₀ high₀ at₀ due low high at = (at ≤ length s) × (goesOn due low high (drop at s) ≡ isUtf8 s)
 
 abbrev μ-loop : tie.MeasureT-loop
 μ-loop s due₀ low₀ high₀ at₀ due low high at = length s - at
-
--- the loop's body
-abbrev Body : Type 0
-Body = tie.In-loop Inv-loop μ-loop
-
-abbrev bytes : Body → List ℕ
-bytes k = k .before .before .before .args .s .now
-
-abbrev place : Body → ℕ
-place k = k .before .loop .at
 
 loop-holds : tie.Need-loop-holds Inv-loop μ-loop
 unfolding isUtf8
@@ -107,7 +80,7 @@ tails-requires c κs = search needs
 returns : tie.Need-returns Inv-loop μ-loop
 returns c =
     let k = c .before .before .before .before .before in
-    no-lead (bytes k) _ _ _ (place k) _ (k .before .loop .inv .1) _ (c .before .before .before .if1 .taken) (c .before .before .if2 .taken)
+    no-lead _ _ _ _ _ _ (front _ _ _ _ _ _ (k .loop-test .taken) (k .before .loop .inv .1)) _ (c .before .before .before .if1 .taken) (c .before .before .if2 .taken)
     (c .before .tails .ensures) (c .if3 .taken)
 
 least-requires : tie.Need-least-requires Inv-loop μ-loop
@@ -124,7 +97,7 @@ loop-again c =
     let k = c .before .before .before in
     let at-loop = k .before .before .before .before in
     let next =
-    led (bytes at-loop) _ _ _ (place at-loop) _ (at-loop .before .loop .inv .1) _ _ _ (k .before .before .if1 .taken)
+    led _ _ _ _ _ _ (front _ _ _ _ _ _ (at-loop .loop-test .taken) (at-loop .before .loop .inv .1)) _ _ _ (k .before .before .if1 .taken)
     (k .tails .ensures) (c .before .before .if3 .left) (c .before .least .ensures) (c .greatest .ensures) in
     (search needs, next)
 
@@ -134,17 +107,17 @@ loop-less-2 c = search needs
 loop-again-2 : tie.Need-loop-again-2 Inv-loop μ-loop
 loop-again-2 c =
     let k = c .before .before .before in
-    (search needs, ascii (bytes k) _ _ _ (place k) _ (k .before .loop .inv .1) (c .before .if1 .taken) (c .if2 .left))
+    (search needs, ascii _ _ _ _ _ _ (front _ _ _ _ _ _ (k .loop-test .taken) (k .before .loop .inv .1)) (c .before .if1 .taken) (c .if2 .left))
 
 returns-2 : tie.Need-returns-2 Inv-loop μ-loop
 returns-2 c =
     let k = c .before .before .before in
-    below (bytes k) _ _ _ (place k) _ (k .before .loop .inv .1) (c .before .if1 .left) (c .if4 .taken)
+    below _ _ _ _ _ _ (front _ _ _ _ _ _ (k .loop-test .taken) (k .before .loop .inv .1)) (c .before .if1 .left) (c .if4 .taken)
 
 returns-3 : tie.Need-returns-3 Inv-loop μ-loop
 returns-3 c =
     let k = c .before .before .before .before in
-    above (bytes k) _ _ _ (place k) _ (k .before .loop .inv .1) (c .before .before .if1 .left) (c .if5 .taken)
+    above _ _ _ _ _ _ (front _ _ _ _ _ _ (k .loop-test .taken) (k .before .loop .inv .1)) (c .before .before .if1 .left) (c .if5 .taken)
 
 sub-due : tie.Need-sub-due Inv-loop μ-loop
 sub-due c = search needs
@@ -155,7 +128,7 @@ loop-less-3 c = search needs
 loop-again-3 : tie.Need-loop-again-3 Inv-loop μ-loop
 loop-again-3 c =
     let k = c .before .before .before .before in
-    (search needs, tail (bytes k) _ _ _ (place k) _ (k .before .loop .inv .1) (k .loop-test .taken) (c .before .before .if1 .left) (c .before .if4 .left) (c .if5 .left))
+    (search needs, tail _ _ _ _ _ _ (front _ _ _ _ _ _ (k .loop-test .taken) (k .before .loop .inv .1)) (c .before .before .if1 .left) (c .before .if4 .left) (c .if5 .left))
 
 returns-4 : tie.Need-returns-4 Inv-loop μ-loop
 unfolding goesOn
