@@ -62,15 +62,7 @@ module _ (source list : List ℕ) (d : Description) (out : List ℕ) (P : Writte
   write-case = by-tests (okDescribed source list d) (ltb mostBytes (length (draftOf source list d))) (accepts (draftOf source list d)) refl refl refl
 
 module _ (source list : List ℕ) (d : Description) (b : Bytes source) where
-  -- a draft that is accepted is the message that was described
-  drafted : okDescribed source list d ≡ true → (a : Accepted (draftOf source list d)) → plain (a .message .msg) ≡ msgOf source list d
-  unfolding draftOf
-  drafted ok a =
-      message-once (plain-small (a .message .is))
-      (plain-valued (a .message .one .good) (a .message .one .shallow) (a .message .is)) (described-exactly source list d .0 b ok .1)
-      (rw (read-encoded _ a) (a .message .one .most)) (read-encoded _ a)
-
-  -- one that passes the tests is
+  -- a draft that passes the tests is accepted, and is the message that was described
   passes-back : Passes source list d → ReadsBack source list d (draftOf source list d)
   unfolding draftOf accepts
   passes-back p =
@@ -80,7 +72,9 @@ module _ (source list : List ℕ) (d : Description) (b : Bytes source) where
         message = m;
         read = q;
         accepted = accepted-exactly (draftOf source list d) (draft-bytes source b list d) .0 (m, q);
-        same = drafted (p .described);
+        same = λ a.
+            message-once (plain-small (a .message .is)) (plain-valued (a .message .one .good) (a .message .one .shallow) (a .message .is))
+            (described-exactly source list d .0 b (p .described) .1) (rw (read-encoded _ a) (a .message .one .most)) (read-encoded _ a);
       }
 
   -- the tests are passed exactly where there is a message that the description says
