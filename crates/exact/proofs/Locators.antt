@@ -3,17 +3,17 @@
 use mathlib.Core.Path.{_≡_, refl, sym, ap, ap₂, _∙_}
 use mathlib.Core.Logic.{_↔_}
 use mathlib.Core.List.{List, [], _∷_, flatMap}
-use mathlib.Core.Bool.{Bool, true, false}
+use mathlib.Core.Bool.{true}
 use Prim.Native.Nat.{ℕ, zero, suc, _+_, _-_, _≤_}
 use native.Mathlib.Nat.{zero-add}
 use native.Mathlib.Omega.{arith}
 use lib.ListN.{length}
-use lib.Dec.{eqb, lit≤}
+use lib.Dec.{lit≤}
 use borrow.Author.Tests.{ne-eqb, eq-eqb}
 use Rattle.base.specs.Pick.{pick}
 use Rattle.base.specs.BigEndian.{Bytes}
 use Rattle.base.specs.Lists.{Every}
-use Rattle.base.proofs.Picks.{pick-case, both}
+use Rattle.base.proofs.Picks.{pick-case}
 use Rattle.cbor.specs.Token.{tokenAt, itemsIn}
 use Rattle.cbor.specs.Tree.{Item, Items, count}
 use Rattle.options.specs.declared.locator.Locator.{Locator}
@@ -29,6 +29,7 @@ use Rattle.grammar.proofs.Pieces.{array-items}
 use Rattle.grammar.proofs.Locators.{LocatorStands, locator-sound, locator-read}
 use Rattle.message.specs.declared.sequence.LocatorsRead.{LocatorsRead}
 use Rattle.message.specs.Sequence.{textLed, locatorThen, locatorsFrom}
+use Rattle.message.proofs.Led.{never-led}
 use Rattle.exact.proofs.Noted.{none-noted, more-noted}
 use Rattle.exact.proofs.Heads.{uint-passed, string-passed, array-passed}
 
@@ -100,11 +101,6 @@ locator-led a (LocatorItem.v4 long i j) = let (number, arg) = number-led a in (n
 locator-led a (LocatorItem.domain i j) = let (number, arg) = number-led a in (number, rw arg (lit≤ tt))
 locator-led a (LocatorItem.uri i j) = let (number, arg) = number-led a in (number, rw arg (lit≤ tt))
 
--- which no text leads
-no-text-led : (s : List ℕ) (p : ℕ) → tokenAt s (tokenAt s p .next) .major ≡ 0 → textLed s p ≡ false
-unfolding textLed
-no-text-led s p e = both (λ (t : Bool). t ≡ false) _ refl (ap (λ (n : ℕ). eqb n 3) e)
-
 -- an array that a text leads
 array-text-led : {s : List ℕ} {p e w v : ℕ} {name : List ℕ} {ys xs : Items} → StandAll s p e (Items.more (Item.array w (Items.more (Item.string true v name) ys)) xs) → textLed s p ≡ true
 unfolding textLed count pick
@@ -119,10 +115,10 @@ objective-led a (ObjectiveItem.bare i j) = array-text-led a
 objective-led a (ObjectiveItem.valued i j) = array-text-led a
 
 -- one locator is passed
-passed : (s : List ℕ) (p n bad : ℕ) {size bad′ : ℕ} {l : Locator} → textLed s p ≡ false → locatorAt s p ≡ LocatorRead.Got l size bad′
+passed : (s : List ℕ) (p n bad : ℕ) {size bad′ : ℕ} {l : Locator} → locatorAt s p ≡ LocatorRead.Got l size bad′
     → locatorsFrom s (suc n) p bad ≡ locatorsFrom s n (p + size) (firstOf bad bad′)
 unfolding locatorsFrom locatorThen pick
-passed s p n bad t e = rw (t, e)
+passed s p n bad e = rw (never-led s p _ _ _ e, e)
 
 -- locators that stand one after the other are passed, whatever follows them
 pub locators-complete : {s : List ℕ} {p e : ℕ} {xs : Items} {ls : List Loc} → StandAll s p e xs → LocatorItems xs ls
@@ -137,7 +133,7 @@ locators-complete {s} {p} a (LocatorItems.more {xs = xs} i is) r bad =
     let more : suc (count xs) + r ≡ suc (count xs + r) = omega arith in (
       bad″,
       ap (λ (n : ℕ). locatorsFrom s n p bad) more
-          ∙ passed s p (count xs + r) bad (no-text-led s p (locator-led a i .0)) same
+          ∙ passed s p (count xs + r) bad same
           ∙ ap (λ (k : ℕ). locatorsFrom s (count xs + r) k (firstOf bad bad′)) step
           ∙ rest,
     )

@@ -26,7 +26,7 @@ use Rattle.grammar.specs.Limits.{Utf8, Short, locTexts, optionalNames, aimTexts
 use Rattle.grammar.specs.Stands.{Stands, StandAll, ArrayHead, ObjectiveIs}
 use Rattle.grammar.proofs.Objectives.{objective-sound}
 use Rattle.grammar.proofs.Bridge.{token-heading, join, none as no-items, last, split, none-end}
-use Rattle.grammar.proofs.Pieces.{array-items, array-at, array-head, number-here, number-is}
+use Rattle.grammar.proofs.Pieces.{array-items, array-head, head-array, number-here, number-is}
 use Rattle.message.specs.declared.Targets.{Targets}
 use Rattle.message.specs.declared.Extra.{Extra}
 use Rattle.message.specs.declared.opening.Opening.{Opening}
@@ -148,28 +148,26 @@ module _ {s : List ℕ} {n at next : ℕ} (k : Kinded s 2 n at) {opening : Openi
   located-sound parts counted = located-of-sound counted _ (locators-sound (k .bytes) parts next 0 (h .ttl .stands .within))
 
   -- a divert, and what follows it
-  divert-finish : {many from p′ q left bad end bad′ long w v : ℕ} {extra : Extra} {xs : Items} {ls : List Loc} → n ≡ 5 + left → many ≡ count xs → (count xs ≡ 0 → ⊥)
-      → LocatorItems xs ls → StandAll s from p′ xs → Stands s next p′ (Item.array w (Items.more (uint v 100) xs)) → ArrayHead s next q (suc many) → Stands s q from (uint v 100) → bad ≡ 0 ↔ Every Utf8 (flatMap locTexts ls)
+  divert-finish : {many from p′ q left bad end bad′ long v : ℕ} {extra : Extra} {xs : Items} {ls : List Loc} → n ≡ 5 + left → many ≡ count xs → (count xs ≡ 0 → ⊥)
+      → LocatorItems xs ls → StandAll s from p′ xs → ArrayHead s next q (suc many) → Stands s q from (uint v 100) → bad ≡ 0 ↔ Every Utf8 (flatMap locTexts ls)
       → RestHere s p′ left bad end bad′ long extra → ShapeOk s (S.Good (responseOf opening (Targets.Divert (record { at = from; many = many })) extra) end bad′ long)
   unfolding count aimTexts
-  divert-finish counted many filled LocatorItems.empty stand whole head lead texts r = absurd (filled refl)
-  divert-finish counted many filled (LocatorItems.more {x} {l} {xs} {ls} i is) stand whole head lead texts r =
-      responded (counted ∙ omega (arith, r .counted)) (join whole (r .stand)) (AimItems.divert (LocatorItems.more i is) (r .are))
+  divert-finish counted many filled LocatorItems.empty stand head lead texts r = absurd (filled refl)
+  divert-finish counted many filled (LocatorItems.more {x} {l} {xs} {ls} i is) stand head lead texts r =
+      responded (counted ∙ omega (arith, r .counted)) (join (head-array head (ap suc many) (join lead stand)) (r .stand)) (AimItems.divert (LocatorItems.more i is) (r .are))
       (AimIs.divert head lead (record { items = Items.more x xs; stand = stand; many = many; are = LocatorItems.more i is }))
       (r .is) (then-noted Utf8 (flatMap locTexts (l ∷ ls)) (optionalNames (r .obj)) texts (r .texts)) (r .names)
 
   -- what the loop answers in a divert
-  divert-of-sound : (left : ℕ) {many from q w v : ℕ} → n ≡ 5 + left → (many ≡ 0 → ⊥) → ArrayHead s next q (suc many) → Stands s q from (uint v 100)
-      → ((e : ℕ) (xs : Items) → many ≡ count xs → StandAll s from e xs → Stands s next e (Item.array w (Items.more (uint v 100) xs)))
+  divert-of-sound : (left : ℕ) {many from q v : ℕ} → n ≡ 5 + left → (many ≡ 0 → ⊥) → ArrayHead s next q (suc many) → Stands s q from (uint v 100)
       → (x : LocatorsRead) → LocatorsOk s from many 0 x → ShapeOk s (divertOf s opening left many from x)
   unfolding divertOf
-  divert-of-sound left counted filled head lead close _ LocatorsOk.refused = ShapeOk.bad
-  divert-of-sound left {many} counted filled head lead close _ (LocatorsOk.ran {e} {left = over} l) =
+  divert-of-sound left counted filled head lead _ LocatorsOk.refused = ShapeOk.bad
+  divert-of-sound left {many} counted filled head lead _ (LocatorsOk.ran {left = over} l) =
       held-case _
       (λ zero.
       let same : many ≡ count (l .items) = omega (arith, l .sum, eqb-true over 0 zero) in
-      let whole = close e (l .items) same (l .stand) in
-      rest-sound (k .bytes) (λ extra end bad′ long r. divert-finish counted same (λ z. filled (same ∙ z)) (l .are) (l .stand) whole head lead (first-noted (l .texts)) r) (l .stand .within))
+      rest-sound (k .bytes) (λ extra end bad′ long r. divert-finish counted same (λ z. filled (same ∙ z)) (l .are) (l .stand) head lead (first-noted (l .texts)) r) (l .stand .within))
 
   -- a divert first
   divert-sound : (left : ℕ) → n ≡ 5 + left → (itemsIn (tokenAt s next) ≡ 0 → ⊥) → upTo 100 (tokenAt s (tokenAt s next .next)) ≡ 100
@@ -186,8 +184,7 @@ module _ {s : List ℕ} {n at next : ℕ} (k : Kinded s 2 n at) {opening : Openi
       (λ e.
       let two : 2 ≤ o .arg = ltb-false (o .arg) 2 e in
       let opened = subst (ArrayHead s next (o .next)) (omega arith) (array-head head array) in
-      divert-of-sound left counted (λ z. omega arith) opened lead (λ e xs same stand. array-at head array (omega arith) (join lead stand))
-      _ (locators-sound (k .bytes) (o .arg - 1) (x .next) 0 (lead .within)))
+      divert-of-sound left counted (λ z. omega arith) opened lead _ (locators-sound (k .bytes) (o .arg - 1) (x .next) 0 (lead .within)))
 
   -- what follows the ttl
   targets-sound : (parts : ℕ) → n ≡ 4 + parts → (parts ≡ 0 → ⊥) → ShapeOk s (targetsAt s opening parts next)

@@ -20,8 +20,8 @@ use Rattle.cbor.proofs.Tokens.{is-array}
 use Rattle.syntax.specs.Message.{Msg}
 use Rattle.grammar.specs.Cddl.{uint, MessageItem, Value}
 use Rattle.grammar.specs.Stands.{Stands, StandAll}
-use Rattle.grammar.proofs.Bridge.{Heading, headed-major, token-heading, number-token, split, last}
-use Rattle.grammar.proofs.Pieces.{array-items, array-at, array-head}
+use Rattle.grammar.proofs.Bridge.{headed-major, token-heading, number-token, split, last}
+use Rattle.grammar.proofs.Pieces.{array-items, array-head}
 use Rattle.message.specs.declared.Message.{Message}
 use Rattle.message.specs.declared.shape.Shape.{Shape}
 use Rattle.message.specs.declared.shape.Shape.the-variants as S
@@ -146,23 +146,13 @@ unknown-there {s} {e} {x} stands u = unknown-array stands (array-there s 0 e x s
 -- ---- the answers
 module _ {s : List ℕ} (one : OneItem s) where
   -- the head of an array, and a kind after it
-  heading : (itemsIn (tokenAt s 0) ≡ 0 → ⊥) → Heading s 0 (tokenAt s 0)
-  heading filled = token-heading s 0 (tokenAt s 0) (one-bytes one) refl (omega (arith, is-array (tokenAt s 0) filled))
-
   kinded : (itemsIn (tokenAt s 0) ≡ 0 → ⊥) → tokenAt s (tokenAt s 0 .next) .major ≡ 0
       → Kinded s (tokenAt s (tokenAt s 0 .next) .arg) (tokenAt s 0 .arg) (tokenAt s (tokenAt s 0 .next) .next)
   kinded filled number =
-      let h = heading filled in
+      let four = is-array (tokenAt s 0) filled in
+      let h = token-heading s 0 (tokenAt s 0) (one-bytes one) refl (omega arith) in
       let i = uint-at (one-bytes one) number in
-      record {
-        bytes = one-bytes one;
-        from = tokenAt s 0 .next;
-        array-width = h .width;
-        width = i .width;
-        opened = array-head h (is-array (tokenAt s 0) filled);
-        lead = i .stands;
-        close = λ e xs counted stand. array-at h (is-array (tokenAt s 0) filled) counted stand;
-      }
+      record { bytes = one-bytes one; from = tokenAt s 0 .next; width = i .width; opened = array-head h four; lead = i .stands }
 
   -- an item of an unknown kind, a departure, or a message that is described
   pub shaped-case : (P : Examined → Type 0) → ((place : ℕ) → UnknownKind (one .item) → P (E.Refused 8 place)) → ((place : ℕ) → P (E.Refused 9 place))

@@ -20,6 +20,7 @@ use Rattle.grammar.specs.Cddl.{uint, MessageItem, Value}
 use Rattle.grammar.specs.Limits.{TextsGood, NamesGood}
 use Rattle.grammar.specs.Stands.{Stands, StandAll, ArrayHead}
 use Rattle.grammar.proofs.Bridge.{join}
+use Rattle.grammar.proofs.Pieces.{head-array}
 use Rattle.message.specs.declared.Message.{Message}
 use Rattle.message.specs.declared.shape.Shape.{Shape}
 use Rattle.message.specs.declared.shape.Shape.the-variants as S
@@ -70,11 +71,9 @@ skipped x e r = rw e r
 pub record Kinded (s : List ℕ) (kind n at : ℕ) : Type 0 where
   pub bytes : Bytes s
   pub from : ℕ
-  pub array-width : ℕ
   pub width : ℕ
   pub opened : ArrayHead s 0 from n
   pub lead : Stands s from at (uint width kind)
-  pub close : (e : ℕ) (xs : Items) → n ≡ count xs → StandAll s from e xs → Stands s 0 e (Item.array array-width xs)
 
 -- what stands up to the kind
 pub kind-is : {s : List ℕ} {kind n at : ℕ} → Kinded s kind n at → KindIs s kind at
@@ -88,10 +87,10 @@ unfolding count
 built {s} {kind} {n} {at} k e xs msg counted stand is describes texts names =
     ShapeOk.good
     (record {
-      item = Item.array (k .array-width) (Items.more (uint (k .width) kind) xs);
+      item = Item.array (k .opened .width) (Items.more (uint (k .width) kind) xs);
       msg = msg;
-      stands = k .close e (Items.more (uint (k .width) kind) xs) counted (join (k .lead) stand);
-      is = is (k .array-width) (k .width);
+      stands = head-array (k .opened) counted (join (k .lead) stand);
+      is = is (k .opened .width) (k .width);
       describes = describes;
       texts = texts;
       names = names;

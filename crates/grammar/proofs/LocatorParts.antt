@@ -7,7 +7,8 @@ use mathlib.Core.Bool.{Bool, true, false, cond}
 use mathlib.Core.Option.{Option}
 use Prim.Native.Nat.{ℕ, _+_, _-_, _≤_}
 use native.Mathlib.Omega.{arith}
-use lib.ListN.{length, take, drop}
+use lib.ListN.{length, take, drop, length-take}
+use lib.Seq.{take-all, take-take}
 use lib.Dec.{ltb, leb, eqb, lit≤}
 use borrow.Author.Tests.{lt-ltb, le-leb, leb-true, eqb-true, eqb-false, eq-eqb, ne-eqb}
 use Rattle.base.specs.Pick.{pick}
@@ -77,15 +78,21 @@ one-text text place same far =
     let (there, back) = bad-text text place far in
     (λ z. (rw (← same) (there z), tt), λ h. back (rw same (h .0)))
 
+-- the first elements of a list, of which there are n, are its first n
+front : (l : List ℕ) (len n : ℕ) {a : List ℕ} → take len l ≡ a → length a ≡ n → take n l ≡ a
+front l len n {a} is long =
+    let most : n ≤ len = omega (arith, ap length is, length-take len l) in
+    sym (take-take n len l most) ∙ ap (take n) is ∙ take-all n a (omega arith)
+
 -- the answer with such an address, whose bytes stand at `at` of the message
-pub shape-item : (m : List ℕ) (at len : ℕ) {w k u kind pn qn : ℕ} {t : Bool} {a : List ℕ} {x y : Item} → len ≡ length a → take len (drop at m) ≡ a → Address kind t a
+pub shape-item : (m : List ℕ) (at len : ℕ) {w k u kind pn qn : ℕ} {t : Bool} {a : List ℕ} {x y : Item} → take len (drop at m) ≡ a → Address kind t a
     → OfKind Protocol 0 kind x pn → OfKind Port 65536 kind y qn
     → LocatorItem (array w (uint k kind ∷ Item.string t u a ∷ x ∷ y ∷ [])) (locOf m (locatorOf kind at len pn qn))
 unfolding locOf locatorOf pick
-shape-item m at len size content (Address.v6 long) i j = rw (rw (size ∙ long) at content) (LocatorItem.v6 long (plain (λ e. omega arith) i) (plain (λ e. omega arith) j))
-shape-item m at len size content (Address.v4 long) i j = rw (rw (size ∙ long) at content) (LocatorItem.v4 long (plain (λ e. omega arith) i) (plain (λ e. omega arith) j))
-shape-item m at len size content Address.domain i j = rw content (LocatorItem.domain (plain (λ e. omega arith) i) (plain (λ e. omega arith) j))
-shape-item m at len size content Address.uri i j = rw content (LocatorItem.uri (uri-protocol i) (uri-port j))
+shape-item m at len content (Address.v6 long) i j = rw (front (drop at m) len 16 content long) (LocatorItem.v6 long (plain (λ e. omega arith) i) (plain (λ e. omega arith) j))
+shape-item m at len content (Address.v4 long) i j = rw (front (drop at m) len 4 content long) (LocatorItem.v4 long (plain (λ e. omega arith) i) (plain (λ e. omega arith) j))
+shape-item m at len content Address.domain i j = rw content (LocatorItem.domain (plain (λ e. omega arith) i) (plain (λ e. omega arith) j))
+shape-item m at len content Address.uri i j = rw content (LocatorItem.uri (uri-protocol i) (uri-port j))
 
 -- its bad text, which an address of bytes never is
 pub shape-texts : (m : List ℕ) (at len pn qn : ℕ) (text : List ℕ) (place : ℕ) {kind : ℕ} {t : Bool} → text ≡ take len (drop at m) → (place ≡ 0 → ⊥)

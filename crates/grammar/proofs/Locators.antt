@@ -1,7 +1,7 @@
 -- A locator that is read stands in the message as an item that the CDDL calls this locator (`locator-sound`), and every such item is read, wherever it
 -- stands, and as this locator (`locator-read`).
 -- Assumes nothing.
-use mathlib.Core.Path.{_≡_, refl, sym, ap, _∙_, subst}
+use mathlib.Core.Path.{_≡_, refl, sym, ap, subst}
 use mathlib.Core.Logic.{_↔_}
 use mathlib.Core.List.{List}
 use mathlib.Core.Bool.{true, cond}
@@ -29,7 +29,7 @@ use Rattle.grammar.specs.Cddl.{LocatorItem}
 use Rattle.grammar.specs.Limits.{Utf8, locTexts}
 use Rattle.grammar.specs.Stands.{Stands, locOf}
 use Rattle.grammar.proofs.Bridge.{split, join, last, only, lift-first, sink-first, advances, string-major, token-heading, number-token, text-token, array-token}
-use Rattle.grammar.proofs.Pieces.{array-items, number-is, number-here, text-size, content-bytes, text-at, array-at, content-there}
+use Rattle.grammar.proofs.Pieces.{array-items, number-is, number-here, content-bytes, text-at, array-at, content-there}
 use Rattle.grammar.proofs.One.{locator-one}
 use Rattle.grammar.proofs.LocatorParts.{AddressIs, Shape, shape-of, shape-item, shape-texts, protocol-here, port-here, address-here, protocol-reads, port-reads, address-reads}
 
@@ -57,7 +57,7 @@ sound m base by =
     (λ t₄. pick-case P (addressFits kind b)
     (λ t₅. pick-case P (eqb (protocolOf kind p) 255) (λ _. tt)
     (λ t₆. pick-case P (ltb 65536 (portOf kind q)) (λ _. tt)
-    (λ t₇. got (is-array a (eqb-false (itemsIn a) 0 t₁)) (eqb-true (a .arg) 4 t₄) (ltb-false 106 kind t₃)
+    (λ t₇. got (is-array a (eqb-false (itemsIn a) 0 t₁)) (eqb-true (a .arg) 4 t₄)
     (address-here b kind (ltb-false kind 103 t₂) (ltb-false 106 kind t₃) t₅) (eqb-false (protocolOf kind p) 255 t₆) (ltb-false 65536 (portOf kind q) t₇))))
     (λ _. tt))
     (λ _. tt))))
@@ -89,24 +89,24 @@ sound m base by =
     bytes : Bytes s
     bytes = bytes-drop base m by
 
-    got : a .major ≡ 4 → a .arg ≡ 4 → kind ≤ 106 → AddressIs kind b → (protocolOf kind p ≡ 255 → ⊥) → portOf kind q ≤ 65536
+    got : a .major ≡ 4 → a .arg ≡ 4 → AddressIs kind b → (protocolOf kind p ≡ 255 → ⊥) → portOf kind q ≤ 65536
         → P (LocatorRead.Got (locatorOf kind (base + b .body) (b .next - b .body) (protocolOf kind p) (portOf kind q)) (q .next) (textOf kind (contentIn s b) (base + b .at)))
-    got array four hi fits some-protocol some-port =
+    got array four fits some-protocol some-port =
         let ha = token-heading s 0 a bytes refl (omega arith) in
-        let lead = number-here 106 k bytes refl hi in
         let hb = token-heading s (k .next) b bytes refl (omega (arith, fits .major, string-major (fits .text))) in
         let (string, long) = text-at hb (fits .text) (fits .major) (content-bytes s b bytes) in
-        let size = text-size hb (fits .text) (fits .major) ∙ sym long in
         let protocol = protocol-here s (b .next) p bytes refl kind some-protocol in
         let port = port-here s (p .next) q bytes refl kind some-port in
         let address = fits .is (contentIn s b) long in
+        let (_, hi, _) = address-reads address b (fits .major) (sym long) in
+        let lead = number-here 106 k bytes refl hi in
         let content : take (b .next - b .body) (drop (base + b .body) m) ≡ contentIn s b = sym (ap (take (b .next - b .body)) (drop-drop (b .body) base m)) in
         let far : base + b .at ≡ 0 → ⊥ = (λ z. omega (arith, token-is s (k .next) b refl .here, advances (lead .stands))) in
         record {
           item = _;
           loc = _;
           stands = lift-first (array-at ha array four (join (lead .stands) (join (string .stands) (join (protocol .stands) (last (port .stands))))));
-          is = shape-item m (base + b .body) (b .next - b .body) size content address (protocol .is) (port .is);
+          is = shape-item m (base + b .body) (b .next - b .body) content address (protocol .is) (port .is);
           described = refl;
           texts = shape-texts m (base + b .body) (b .next - b .body) (protocolOf kind p) (portOf kind q) (contentIn s b) (base + b .at) (sym content) far address;
         }
@@ -143,12 +143,12 @@ reads {m} {base} {e} st (Shape.shape {kind = kind} {t} {a} {pn = pn} {qn} addres
     let read =
     accept base s _ _ b (tokenAt s (c₂ .mid)) (tokenAt s (c₃ .mid)) kind pn qn (sym (top .token)) (sym (number-token (c₁ .first))) (sym (string .token)) refl
     (ap (tokenAt s) (sym p-next)) (number-is 106 _ refl hi) is-protocol is-port (array-items _ 3 refl refl) lo hi refl fits some-protocol some-port in
-    let (size, inside, content) = content-there m base (string .body) (c₂ .mid) a (string .end) (string .content) in
+    let (_, inside, content) = content-there m base (string .body) (c₂ .mid) a (string .end) (string .content) in
     let far : base + b .at ≡ 0 → ⊥ = (λ z. omega (arith, advances (c₁ .first))) in (
       locatorOf kind (base + b .body) (b .next - b .body) pn qn,
       textOf kind (contentIn s b) (base + b .at),
       rw q-next at read,
-      shape-item m (base + b .body) (b .next - b .body) size content address protocol port,
+      shape-item m (base + b .body) (b .next - b .body) content address protocol port,
       rw inside (shape-texts m (base + b .body) (b .next - b .body) pn qn a (base + b .at) (sym content) far address),
     )
 

@@ -52,6 +52,14 @@ answer base s n f c len size =
     ObjectiveRead.Got (objectiveFrom base n (upTo 15 f) c (upTo 255 c) len) size (badText (contentIn s n) (base + n .at)) (longName n (base + n .at))
 
 -- ---- sound
+-- an item that is an objective, by the items after its count: its limits, how many items it has, and where they end
+limits : (base : ℕ) {s m : List ℕ} {p e len w u i j flags number : ℕ} {name : List ℕ} {v : Value} {xs : Items}
+    → ObjectiveItem (Item.array w (Items.more (text u name) (Items.more (uint i flags) (Items.more (uint j number) xs)))) (record { name = name; flags = flags; count = number; value = v })
+    → StandAll s p e xs → ValueIs m (spanOf (base + p) len) v → (flags ≤ 15) × (number ≤ 255) × (suc (suc (suc (count xs))) ≡ itemsWith v) × (e ≡ p + len)
+unfolding count
+limits base (ObjectiveItem.bare few byte) rest (ValueIs.absent empty) = (few, byte, refl, omega (arith, none-end rest))
+limits base (ObjectiveItem.valued few byte) rest (ValueIs.present there) = (few, byte, refl, omega (arith, only rest .end, there .end))
+
 abbrev Sound : List ℕ → ℕ → ObjectiveRead → Type 0
 Sound m base (ObjectiveRead.Bad place) = Unit {0}
 Sound m base (ObjectiveRead.Got o size bad long) = ObjectiveStands m base (base + size) o bad long
@@ -68,13 +76,13 @@ sound levels m base by =
     (λ t₆.
     let few : upTo 15 f ≤ 15 = ltb-false 15 (upTo 15 f) t₅ in
     let byte : upTo 255 c ≤ 255 = ltb-false 255 (upTo 255 c) t₆ in
-    let made = got (is-array a (eqb-false (itemsIn a) 0 t₁)) (eqb-true (n .major) 3 t₂) few byte in
+    let made = got (is-array a (eqb-false (itemsIn a) 0 t₁)) (eqb-true (n .major) 3 t₂) in
     pick-case P (eqb (a .arg) 3)
-    (λ t₇. made 0 (c .next) none Items.done (omega arith) (eqb-true (a .arg) 3 t₇) refl (no-more (token-end s (f .next))) (ValueIs.absent refl) (λ w u v k. ObjectiveItem.bare few byte))
+    (λ t₇. made 0 (c .next) none Items.done (eqb-true (a .arg) 3 t₇) (no-more (token-end s (f .next))) (ValueIs.absent refl) (λ w u v k. ObjectiveItem.bare few byte))
     (λ t₇. pick-case P (eqb len 0) (λ _. tt)
     (λ t₈.
     let (value, there) = sized-item levels s (c .next) bytes (eqb-false len 0 t₈) in
-    made len (c .next + len) (some value) (Items.more value Items.done) refl (omega (arith, ltb-false (a .arg) 3 t₃, ltb-false 4 (a .arg) t₄, eqb-false (a .arg) 3 t₇)) refl (last there)
+    made len (c .next + len) (some value) (Items.more value Items.done) (omega (arith, ltb-false (a .arg) 3 t₃, ltb-false 4 (a .arg) t₄, eqb-false (a .arg) 3 t₇)) (last there)
     (ValueIs.present (subst (λ (e : ℕ). Stands m (base + c .next) e value) (sym (add-assoc base (c .next) len)) (lift base there)))
     (λ w u v k. ObjectiveItem.valued few byte))))))))
     (λ _. tt))
@@ -104,13 +112,13 @@ sound levels m base by =
     bytes = bytes-drop base m by
 
     -- with a value, or with none: the item of so many items xs after the count
-    got : a .major ≡ 4 → n .major ≡ 3 → upTo 15 f ≤ 15 → upTo 255 c ≤ 255 → (len size : ℕ) (v : Value) (xs : Items) → size ≡ c .next + len
-        → a .arg ≡ suc (suc (suc (count xs))) → suc (suc (suc (count xs))) ≡ itemsWith v → StandAll s (c .next) size xs → ValueIs m (spanOf (base + c .next) len) v
+    got : a .major ≡ 4 → n .major ≡ 3 → (len size : ℕ) (v : Value) (xs : Items) → a .arg ≡ suc (suc (suc (count xs))) → StandAll s (c .next) size xs → ValueIs m (spanOf (base + c .next) len) v
         → ((w u i j : ℕ)
         → ObjectiveItem (Item.array w (Items.more (text u (contentIn s n)) (Items.more (uint i (upTo 15 f)) (Items.more (uint j (upTo 255 c)) xs))))
         (record { name = contentIn s n; flags = upTo 15 f; count = upTo 255 c; value = v }))
         → P (answer base s n f c len size)
-    got array is-text few byte len size v xs sum many counted rest value is =
+    got array is-text len size v xs many rest value is =
+        let (few, byte, counted, sum) = limits base (is 0 0 0 0) rest value in
         let ha = token-heading s 0 a bytes refl (omega arith) in
         let hn = token-heading s (a .next) n bytes refl (omega arith) in
         let (name, long) = text-at hn true is-text (content-bytes s n bytes) in

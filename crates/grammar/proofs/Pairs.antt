@@ -15,13 +15,13 @@ use borrow.Author.Tests.{eqb-true, eqb-false, eq-eqb, ne-eqb}
 use Rattle.base.specs.Pick.{pick}
 use Rattle.base.specs.BigEndian.{Bytes}
 use Rattle.base.specs.Lists.{Every}
-use Rattle.base.proofs.Picks.{pick-case}
+use Rattle.base.proofs.Picks.{pick-case, both, past}
 use Rattle.base.proofs.Parts.{bytes-drop}
 use Rattle.cbor.specs.declared.token.Token.{Token}
 use Rattle.cbor.specs.Item.{leftUnder}
 use Rattle.cbor.specs.Tree.{Item, count, depth}
 use Rattle.cbor.specs.Token.{tokenAt, itemsIn}
-use Rattle.cbor.proofs.Tokens.{is-array}
+use Rattle.cbor.proofs.Tokens.{is-array, token-first}
 use Rattle.options.specs.declared.locator.Locator.{Locator}
 use Rattle.options.specs.declared.locator.LocatorRead.{LocatorRead}
 use Rattle.options.specs.declared.objective.Objective.{Objective}
@@ -40,7 +40,6 @@ use Rattle.grammar.specs.Stands.{Stands, ArrayHead, tagLoc, ObjectiveIs}
 use Rattle.grammar.proofs.Bridge.{split, join, none as no-more, none-end, only, last, lift, lift-first, sink-sized, sink-first, advances, Heading, token-heading, array-token}
 use Rattle.grammar.proofs.Pieces.{array-items, array-at, array-head, lift-head}
 use Rattle.grammar.proofs.Texts.{first-zero}
-use Rattle.grammar.proofs.LocatorParts.{Shape, shape-of}
 use Rattle.grammar.proofs.Locators.{locator-sound, locator-read}
 use Rattle.grammar.proofs.Objectives.{ObjectiveStands, objective-sound, objective-read}
 
@@ -163,15 +162,18 @@ unfolding pick
 neither true = refl
 neither false = refl
 
-tagged-tail : (base : ℕ) (s : List ℕ) (at : ℕ) (o : Objective) (bad long : ℕ) (l : Locator) (n bad′ : ℕ) {size : ℕ} → (tokenAt s at .arg ≡ 0 → ⊥)
+-- the array of a locator that is read isn't empty
+locator-items : (base : ℕ) (s : List ℕ) {l : Locator} {size bad : ℕ} → locatorIn base s ≡ LocatorRead.Got l size bad → tokenAt s 0 .arg ≡ 0 → ⊥
+unfolding locatorIn itemsIn
+locator-items base s {l} {size} {bad} q z =
+    let (some-items, _) = past (eqb (itemsIn (tokenAt s 0)) 0) q (λ e. let y : _≡_ {A = ℕ} 0 1 = cc in omega arith) in
+    eqb-false (itemsIn (tokenAt s 0)) 0 some-items (both (λ (n : ℕ). n ≡ 0) _ z refl)
+
+tagged-tail : (base : ℕ) (s : List ℕ) (at : ℕ) (o : Objective) (bad long : ℕ) (l : Locator) (n bad′ : ℕ) {size : ℕ}
     → locatorIn (base + at) (drop at s) ≡ LocatorRead.Got l n bad′ → size ≡ at + n → pairTail base s at o bad long ≡ PairRead.Got o (Tag.At l) size (firstOf bad bad′) long
 unfolding pairTail pairTagged isEmpty pick
-tagged-tail base s at o bad long l n bad′ some-items got e = rw (ne-eqb _ _ some-items, neither (eqb (tokenAt s at .major) 4), got, e)
-
--- a locator's array isn't empty
-locator-items : {s : List ℕ} {p e : ℕ} {y : Item} → Stands s p e y → Shape y → tokenAt s p .arg ≡ 0 → ⊥
-unfolding count
-locator-items a (Shape.shape address protocol port) z = omega (arith, z, ap (λ (v : Token). v .arg) (array-token a .token))
+tagged-tail base s at o bad long l n bad′ got e =
+    rw (ne-eqb _ _ (λ z. locator-items (base + at) (drop at s) got (sym (token-first s at .arg) ∙ z)), neither (eqb (tokenAt s at .major) 4), got, e)
 
 -- the objective is read, and the second item stands after it
 record Begun (m : List ℕ) (base e : ℕ) (obj : Obj Value) (y : Item) : Type 0 where
@@ -233,7 +235,7 @@ tagged-read {m} {base} {e} b is =
     let (l, bad′, got, located, texts) = locator-read (lift base (b .second)) is in
     let n : ℕ = base + (e - base) - (base + b .mid) in
     let sum : e - base ≡ b .mid + n = omega (arith, advances (b .second)) in
-    let tail = tagged-tail base (drop base m) (b .mid) (b .objective) (b .bad) (b .long) l n bad′ (locator-items (b .second) (shape-of is))
+    let tail = tagged-tail base (drop base m) (b .mid) (b .objective) (b .bad) (b .long) l n bad′
     (ap (locatorIn (base + b .mid)) (drop-drop (b .mid) base m) ∙ got) sum in
     let (there, back) = first-zero (b .bad) bad′ in (
       b .objective,

@@ -49,6 +49,19 @@ pub record Is (s : List ℕ) (p e : ℕ) (P : Item → Type 0) : Type 0 where
 pub content-bytes : (s : List ℕ) (w : Token) → Bytes s → Bytes (contentIn s w)
 content-bytes s w b = bytes-take (w .next - w .body) (drop (w .body) s) (bytes-drop (w .body) s b)
 
+-- an array, by its head and the items that stand after it
+pub head-array : {s : List ℕ} {p q n e : ℕ} {xs : Items} (h : ArrayHead s p q n) → n ≡ count xs → StandAll s q e xs → Stands s p e (Item.array (h .width) xs)
+unfolding encode
+head-array {s} {p} {q} {n} {e} {xs} h c a =
+    let front : List ℕ = headBytes 4 (h .width) (count xs) in
+    let head : drop p s ≡ front ++ drop q s = rw (← c) (h .is) in
+    record {
+      good = (rw (← c) (h .right), a .good);
+      is = head ∙ ap (λ (r : List ℕ). front ++ r) (a .is) ∙ sym (append-assoc front (encodes xs) (drop e s));
+      end = omega (arith, h .end, a .end, length-append front (encodes xs), length-head 4 (h .width) n, length-head 4 (h .width) (count xs));
+      within = a .within;
+    }
+
 module _ {s : List ℕ} {p : ℕ} {w : Token} (h : Heading s p w) where
   -- a head alone is the whole item
   alone : (m : ℕ) (x : Item) → w .major ≡ m → (m < 2) ⊎ (4 ≤ m) → (Right m (h .width) (w .arg) → Good x) → encode x ≡ headBytes m (h .width) (w .arg) → Stands s p (w .next) x
@@ -104,19 +117,16 @@ module _ {s : List ℕ} {p : ℕ} {w : Token} (h : Heading s p w) where
         long,
       )
 
+  -- the head of an array
+  pub array-head : w .major ≡ 4 → ArrayHead s p (w .next) (w .arg)
+  array-head four =
+      let next : w .next ≡ w .body = h .leaf (inr (rw four (lit≤ tt))) in
+      record { width = h .width; right = rw four at (h .right); is = rw (next, ← four) (h .head); end = omega (arith, h .body, length-head 4 (h .width) (w .arg)) }
+
   -- an array, with the items that stand after its head
   pub array-at : {e : ℕ} {xs : Items} → w .major ≡ 4 → w .arg ≡ count xs → StandAll s (w .next) e xs → Stands s p e (Item.array (h .width) xs)
-  unfolding encode
-  array-at {e} {xs} m c a =
-      let next : w .next ≡ w .body = h .leaf (inr (rw m (lit≤ tt))) in
-      let front : List ℕ = headBytes 4 (h .width) (count xs) in
-      let head : drop p s ≡ front ++ drop (w .next) s = rw (next, ← m, ← c) (h .head) in
-      record {
-        good = (rw (← m, ← c) (h .right), a .good);
-        is = head ∙ ap (λ (r : List ℕ). front ++ r) (a .is) ∙ sym (append-assoc front (encodes xs) (drop e s));
-        end = omega (arith, next, h .body, a .end, length-append front (encodes xs), length-head 4 (h .width) (count xs));
-        within = a .within;
-      }
+  unfolding array-head
+  array-at m = head-array (array-head m)
 
 -- a number within its limit
 pub number-here : (limit : ℕ) {s : List ℕ} {p : ℕ} (w : Token) → Bytes s → w ≡ tokenAt s p → upTo limit w ≤ limit
@@ -125,13 +135,7 @@ number-here limit {s} {p} w b e h =
     let (number, same) = is-number limit w h in
     subst (λ (v : ℕ). Some s p (w .next) (λ k. Item.number false k v)) (sym same) (number-at (token-heading s p w b e (omega arith)) number)
 
--- the head of an array
-pub array-head : {s : List ℕ} {p : ℕ} {a : Token} → Heading s p a → a .major ≡ 4 → ArrayHead s p (a .next) (a .arg)
-array-head {a = a} h four =
-    let next : a .next ≡ a .body = h .leaf (inr (rw four (lit≤ tt))) in
-    record { width = h .width; right = rw four at (h .right); is = rw (next, ← four) (h .head); end = omega (arith, h .body, length-head 4 (h .width) (a .arg)) }
-
--- of the part of a message that begins with it
+-- the head of an array, of the part of a message that begins with it
 pub lift-head : {m : List ℕ} {base q n : ℕ} → ArrayHead (drop base m) 0 q n → ArrayHead m base (base + q) n
 lift-head {m} {base} {q} {n} a =
     record { width = a .width; right = a .right; is = a .is ∙ ap (λ (r : List ℕ). headBytes 4 (a .width) n ++ r) (drop-drop q base m); end = omega (arith, a .end) }

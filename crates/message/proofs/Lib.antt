@@ -1,6 +1,5 @@
 -- `Fits`: what is read lies within the message, and the turns of the loops. `Parts`: where the parts of a message that was read lie, and how long they
--- are at least.
+-- are at least. `Led`: no locator is an array that a text leads.
 pub mod Fits
 pub mod Parts
--- For the proofs of this crate.
-mod Led
+pub mod Led
