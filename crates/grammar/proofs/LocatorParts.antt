@@ -5,7 +5,7 @@ use mathlib.Core.Logic.{_↔_}
 use mathlib.Core.List.{List, [], _∷_}
 use mathlib.Core.Bool.{Bool, true, false, cond}
 use mathlib.Core.Option.{Option}
-use Prim.Native.Nat.{ℕ, _+_, _-_, _≤_}
+use Prim.Native.Nat.{ℕ, _+_, _-_, _^_, _≤_, _<_}
 use native.Mathlib.Omega.{arith}
 use lib.ListN.{length, take, drop, length-take}
 use lib.Seq.{take-all, take-take}
@@ -25,7 +25,7 @@ use Rattle.syntax.specs.Message.{Loc, orNull}
 use Rattle.grammar.specs.Cddl.{uint, null, array, Protocol, Port, OrNull, LocatorItem}
 use Rattle.grammar.specs.Limits.{Utf8, locTexts}
 use Rattle.grammar.specs.Stands.{Stands, locOf}
-use Rattle.grammar.proofs.Bridge.{token-heading, number-token, null-token}
+use Rattle.grammar.proofs.Bridge.{Heading, spelt-heading, token-heading, small-heading, OneIs, one-is, number-token, null-token}
 use Rattle.grammar.proofs.Pieces.{Is, number-at, null-at}
 use Rattle.grammar.proofs.Texts.{bad-text}
 
@@ -108,7 +108,12 @@ shape-texts m at len pn qn text place same far Address.uri = one-text text place
 abbrev pub Here : (s : List ℕ) (p e : ℕ) (P : Item → ℕ → Type 0) (for-null kind n : ℕ) → Type 0
 Here s p e P for-null kind n = Is s p e (λ x. OfKind P for-null kind x n)
 
-module _ (s : List ℕ) (p : ℕ) (w : Token) (bytes : Bytes s) (read : w ≡ tokenAt s p) where
+number-of : {s : List ℕ} {p : ℕ} {w : Token} → Heading s p w → (P : Item → ℕ → Type 0) (for-null kind n : ℕ) → eqb (w .major) 0 ≡ true → w .arg ≡ n → ((k : ℕ) → P (uint k n) n) → Here s p (w .next) P for-null kind n
+number-of {s} {p} {w} h P for-null kind n e same made =
+    let i = number-at h (eqb-true (w .major) 0 e) in
+    record { item = uint (i .width) n; stands = subst (λ (v : ℕ). Stands s p (w .next) (uint (i .width) v)) same (i .stands); is = OfKind.given (made (i .width)) }
+
+module _ (s : List ℕ) (p : ℕ) (w : Token) (read : w ≡ tokenAt s p) where
   null-here : isNull w ≡ true → Stands s p (w .next) null
   unfolding isNull
   null-here q₀ =
@@ -116,14 +121,9 @@ module _ (s : List ℕ) (p : ℕ) (w : Token) (bytes : Bytes s) (read : w ≡ to
       let (e₂, q₂) = both-hold (eqb (w .arg) 22) q₁ in
       let (e₃, q₃) = both-hold (ltb (w .at) (w .body)) q₂ in
       let major : w .major ≡ 7 = eqb-true (w .major) 7 e₁ in
-      let h = token-heading s p w bytes read (omega arith) in
-      null-at h major (eqb-true (w .arg) 22 e₂) (omega (arith, token-is s p w read .here, h .body, eqb-true (w .body - w .at) 1 q₃))
-
-  number-of : (P : Item → ℕ → Type 0) (for-null kind n : ℕ) → eqb (w .major) 0 ≡ true → w .arg ≡ n → ((k : ℕ) → P (uint k n) n) → Here s p (w .next) P for-null kind n
-  number-of P for-null kind n e same made =
-      let major : w .major ≡ 0 = eqb-true (w .major) 0 e in
-      let i = number-at (token-heading s p w bytes read (omega arith)) major in
-      record { item = uint (i .width) n; stands = subst (λ (v : ℕ). Stands s p (w .next) (uint (i .width) v)) same (i .stands); is = OfKind.given (made (i .width)) }
+      let one : w .body ≡ p + 1 = omega (arith, token-is s p w read .here, eqb-true (w .body - w .at) 1 q₃) in
+      let h = spelt-heading s p w (λ major′ arg′ len q same _ same″. subst (OneIs (drop p s)) q (one-is (drop p s)) (omega arith) (omega arith)) read (omega arith) in
+      null-at h major (eqb-true (w .arg) 22 e₂) (omega (arith, h .body))
 
   null-of : (P : Item → ℕ → Type 0) (for-null kind : ℕ) → eqb kind 106 ≡ true → isNull w ≡ true → Here s p (w .next) P for-null kind for-null
   null-of P for-null kind e z = record { item = null; stands = null-here z; is = OfKind.missing (eqb-true kind 106 e) }
@@ -133,8 +133,8 @@ module _ (s : List ℕ) (p : ℕ) (w : Token) (bytes : Bytes s) (read : w ≡ to
   unfolding protocolOf
   protocol-here kind =
       pick-case by (eqb (w .major) 0)
-      (λ e. pick-case by (eqb (w .arg) 6) (λ f _. number-of Protocol 0 kind 6 e (eqb-true (w .arg) 6 f) (λ k. Protocol.tcp))
-      (λ _. pick-case by (eqb (w .arg) 17) (λ f _. number-of Protocol 0 kind 17 e (eqb-true (w .arg) 17 f) (λ k. Protocol.udp)) (λ _. nothing)))
+      (λ e. pick-case by (eqb (w .arg) 6) (λ f _. number-of (small e (omega (arith, eqb-true (w .arg) 6 f))) Protocol 0 kind 6 e (eqb-true (w .arg) 6 f) (λ k. Protocol.tcp))
+      (λ _. pick-case by (eqb (w .arg) 17) (λ f _. number-of (small e (omega (arith, eqb-true (w .arg) 17 f))) Protocol 0 kind 17 e (eqb-true (w .arg) 17 f) (λ k. Protocol.udp)) (λ _. nothing)))
       (λ _. pick-case by (eqb kind 106) (λ e. pick-case by (isNull w) (λ z _. null-of Protocol 0 kind e z) (λ _. nothing)) (λ _. nothing))
     where
       by : ℕ → Type 0
@@ -143,12 +143,15 @@ module _ (s : List ℕ) (p : ℕ) (w : Token) (bytes : Bytes s) (read : w ≡ to
       nothing : by 255
       nothing other = absurd (other refl)
 
+      small : eqb (w .major) 0 ≡ true → w .arg < 2 ^ 8 → Heading s p w
+      small e low = small-heading s p w read (omega (arith, eqb-true (w .major) 0 e)) low
+
   -- a port that was read
-  pub port-here : (kind : ℕ) → portOf kind w ≤ 65536 → Here s p (w .next) Port 65536 kind (portOf kind w)
+  pub port-here : Bytes s → (kind : ℕ) → portOf kind w ≤ 65536 → Here s p (w .next) Port 65536 kind (portOf kind w)
   unfolding portOf
-  port-here kind =
+  port-here bytes kind =
       pick-case by (eqb (w .major) 0)
-      (λ e. pick-case by (leb (w .arg) 65535) (λ f _. number-of Port 65536 kind (w .arg) e refl (λ k. Port.port (leb-true (w .arg) 65535 f))) (λ _. nothing))
+      (λ e. pick-case by (leb (w .arg) 65535) (λ f _. number-of (token-heading s p w bytes read (omega (arith, eqb-true (w .major) 0 e))) Port 65536 kind (w .arg) e refl (λ k. Port.port (leb-true (w .arg) 65535 f))) (λ _. nothing))
       (λ _. pick-case by (eqb kind 106) (λ e. pick-case by (isNull w) (λ z _. null-of Port 65536 kind e z) (λ _. nothing)) (λ _. nothing))
     where
       by : ℕ → Type 0
