@@ -93,6 +93,10 @@ shape-sound {s} {kind} {n} {at} k known =
 data IsArray : Item → Type 0 where
   array : {w : ℕ} {xs : Items} → IsArray (Item.array w xs)
 
+-- what holds of arrays
+array-case : (P : Item → Type 0) {x : Item} → ((w : ℕ) (xs : Items) → P (Item.array w xs)) → IsArray x → P x
+array-case P f (IsArray.array {w} {xs}) = f w xs
+
 -- where a token of a major type is read, an item of no other major type stands
 module _ (s : List ℕ) (p e : ℕ) where
   other : {A : Type 0} {m w n : ℕ} (k : ℕ) → tokenAt s p .major ≡ k → k < 8 → m ≢ k → Right m w n → (r : List ℕ) → drop p s ≡ headBytes m w n ++ r → A
@@ -132,16 +136,17 @@ record UnknownLead (s : List ℕ) : Type 0 where
   other : tokenAt s (tokenAt s 0 .next) .arg ≢ 99
 
 -- and where an array stands that is so led, it is of no known kind
-unknown-array : {s : List ℕ} {e : ℕ} {x : Item} → Stands s 0 e x → IsArray x → UnknownLead s → UnknownKind x
+unknown-array : {s : List ℕ} {e w : ℕ} (xs : Items) → Stands s 0 e (Item.array w xs) → UnknownLead s → UnknownKind (Item.array w xs)
 unfolding count itemsIn pick
-unknown-array a (IsArray.array {xs = Items.done}) u =
+unknown-array Items.done a u =
     let t = array-passed (last a) in
     absurd (u .filled (rw (t .major, t .arg)))
-unknown-array {s} a (IsArray.array {xs = Items.more y ys}) u = lead-there s _ _ y (split (array-passed (last a) .items) .first) (u .number) (u .high) (u .other)
+unknown-array {s} (Items.more y ys) a u = lead-there s _ _ y (split (array-passed (last a) .items) .first) (u .number) (u .high) (u .other)
 
 -- an item that is so led is of no known kind
 unknown-there : {s : List ℕ} {e : ℕ} {x : Item} → Stands s 0 e x → UnknownLead s → UnknownKind x
-unknown-there {s} {e} {x} stands u = unknown-array stands (array-there s 0 e x stands (is-array (tokenAt s 0) (u .filled))) u
+unknown-there {s} {e} {x} stands u =
+    array-case (λ (x : Item). Stands s 0 e x → UnknownKind x) (λ w xs a. unknown-array xs a u) (array-there s 0 e x stands (is-array (tokenAt s 0) (u .filled))) stands
 
 -- ---- the answers
 module _ {s : List ℕ} (one : OneItem s) where

@@ -1,14 +1,14 @@
 -- Items that stand where tokens were read, by what the readers test of a token.
 -- Assumes nothing.
 use mathlib.Core.Path.{_≡_, refl, sym, ap, _∙_, subst}
-use mathlib.Core.Logic.{_⊎_, inl, inr}
+use mathlib.Core.Logic.{inl, inr}
 use mathlib.Core.List.{List, _++_, append-assoc}
 use mathlib.Core.Bool.{Bool, false, cond}
-use Prim.Native.Nat.{ℕ, suc, _+_, _-_, _≤_, _<_}
+use Prim.Native.Nat.{ℕ, suc, _+_, _-_, _≤_}
 use native.Mathlib.Omega.{arith}
 use lib.ListN.{length, take, drop, length-append, length-drop, take-append-drop}
 use lib.Seq.{drop-drop, length-take-le}
-use lib.Dec.{lit<, lit≤}
+use lib.Dec.{lit≤}
 use borrow.Author.Tests.{eq-eqb, le-leb}
 use Rattle.base.specs.Pick.{pick}
 use Rattle.base.specs.BigEndian.{Bytes}
@@ -64,25 +64,28 @@ head-array {s} {p} {q} {n} {e} {xs} h c a =
 
 module _ {s : List ℕ} {p : ℕ} {w : Token} (h : Heading s p w) where
   -- a head alone is the whole item
-  alone : (m : ℕ) (x : Item) → w .major ≡ m → (m < 2) ⊎ (4 ≤ m) → (Right m (h .width) (w .arg) → Good x) → encode x ≡ headBytes m (h .width) (w .arg) → Stands s p (w .next) x
-  alone m x e either good is =
-      let next : w .next ≡ w .body = h .leaf (subst (λ (k : ℕ). (k < 2) ⊎ (4 ≤ k)) (sym e) either) in
+  alone : (m : ℕ) (x : Item) → w .major ≡ m → (Right m (h .width) (w .arg) → Good x) → encode x ≡ headBytes m (h .width) (w .arg) → Stands s p (w .body) x
+  alone m x e good is =
+      let head : drop p s ≡ encode x ++ drop (w .body) s = rw (is, ← e) (h .head) in
+      let size : length (encode x) ≡ 1 + h .width = ap length is ∙ length-head m (h .width) (w .arg) in
       record {
         good = good (rw e at (h .right));
-        is = rw (is, next, ← e) (h .head);
-        end = next ∙ h .body ∙ ap (λ (k : ℕ). p + k) (sym (ap length is ∙ length-head m (h .width) (w .arg)));
-        within = h .within;
+        is = head;
+        end = omega (arith, h .body);
+        within = omega (arith, h .body, ap length head, length-append (encode x) (drop (w .body) s), length-drop p s, length-drop (w .body) s);
       }
 
   -- an unsigned number
   pub number-at : w .major ≡ 0 → Some s p (w .next) (λ n. Item.number false n (w .arg))
   unfolding encode
-  number-at e = record { width = h .width; stands = alone 0 (Item.number false (h .width) (w .arg)) e (inl (lit< tt)) (λ r. r) refl }
+  number-at e =
+      let x : Item = Item.number false (h .width) (w .arg) in
+      record { width = h .width; stands = subst (λ (k : ℕ). Stands s p k x) (sym (h .leaf (inl (omega arith)))) (alone 0 x e (λ r. r) refl) }
 
   -- null
   pub null-at : w .major ≡ 7 → w .arg ≡ 22 → h .width ≡ 0 → Stands s p (w .next) (Item.simple 0 22)
   unfolding encode
-  null-at e a z = alone 7 (Item.simple 0 22) e (inr (lit≤ tt)) (λ r. rw (z, a) at r) (rw (z, a))
+  null-at e a z = subst (λ (k : ℕ). Stands s p k (Item.simple 0 22)) (sym (h .leaf (inr (omega arith)))) (alone 7 (Item.simple 0 22) e (λ r. rw (z, a) at r) (rw (z, a)))
 
   -- a string's content is as long as its head says
   pub text-size : (t : Bool) → w .major ≡ cond t 3 2 → w .next - w .body ≡ w .arg

@@ -81,11 +81,9 @@ framed-good s (ItemRead.Ends end) =
     pick-case (λ r. r ≡ false → (ItemRead.Ends end ≡ ItemRead.Ends (length s)) × (arrayBad s ≡ false)) (eqb end (length s))
     (λ e q. (ap ItemRead.Ends (eqb-true end (length s) e), q)) (λ e q. absurd (not-both true refl q))
 
--- the walk took the whole: an item that stands at the start, of eight levels at most, is the whole
-whole : {s : List ℕ} {e : ℕ} {x : Item} → firstItem 0 s ≡ ItemRead.Ends (length s) → Stands s 0 e x → depth x ≤ mostLevels → encode x ≡ s
-whole {s} {e} {x} w a d =
-    let ends : ItemRead.Ends (length (encode x)) ≡ ItemRead.Ends (length s) = sym (ap (firstItem 0) (a .is) ∙ item-accepts 0 x (drop e s) (a .good) d) ∙ w in
-    let long : length (encode x) ≡ length s = cc in
+-- an item that stands at the start and is as long as the whole is the whole
+whole : {s : List ℕ} {e : ℕ} {x : Item} → Stands s 0 e x → length (encode x) ≡ length s → encode x ≡ s
+whole {s} {e} {x} a long =
     sym (append-nil (encode x)) ∙ ap (λ (r : List ℕ). encode x ++ r) (sym (drop-past s e (omega (arith, a .end)))) ∙ sym (a .is)
 
 -- the walk took the whole, and the array is good
@@ -102,9 +100,12 @@ array-own {s} most all good =
     let h = small-heading s 0 a refl (omega arith) (omega arith) in
     let n = names-sound (a .arg) (a .next) (h .within) (not-false named (or-right (not kind || over) (not named) good)) in
     let stand = array-at h four (n .many) (n .stand) in
-    let shallow : depth (Item.array (h .width) (n .items)) ≤ mostLevels = omega (arith, texts-flat (n .are)) in
+    let x = Item.array (h .width) (n .items) in
+    let shallow : depth x ≤ mostLevels = omega (arith, texts-flat (n .are)) in
+    let ends : ItemRead.Ends (length (encode x)) ≡ ItemRead.Ends (length s) = sym (ap (firstItem 0) (stand .is) ∙ item-accepts 0 x (drop (n .end) s) (stand .good) shallow) ∙ all in
+    let long : length (encode x) ≡ length s = cc in
     record {
-      one = record { item = Item.array (h .width) (n .items); bytes = whole all stand shallow; most = most; good = stand .good; shallow = shallow };
+      one = record { item = x; bytes = whole stand long; most = most; good = stand .good; shallow = shallow };
       names = n .names;
       are = TextArray.array (n .are);
       few = omega (arith, n .many, texts-counted (n .are));
