@@ -1,20 +1,22 @@
--- A message of the grammar is described in one way: each part stands right after the one before it, so every place follows from the start.
+-- A message of the grammar is described in one way: each part stands right after the one before it, so every place follows from the start, and those of an
+-- objective from its end too, as no head has another width.
 -- Assumes nothing.
 use mathlib.Core.Path.{_≡_, refl, sym, ap, ap₂, _∙_, subst}
 use mathlib.Core.List.{List}
 use mathlib.Core.Option.{Option}
-use Prim.Native.Nat.{ℕ, suc, _+_, _-_}
+use Prim.Native.Nat.{ℕ, suc, _+_, _-_, _≤_}
 use native.Mathlib.Omega.{arith}
 use lib.ListN.{length, drop}
+use Rattle.base.specs.Pick.{pick}
 use Rattle.cbor.specs.declared.head.HeadRead.{HeadRead}
-use Rattle.cbor.specs.Head.{headAt}
-use Rattle.cbor.specs.Tree.{Item, Items, headBytes, count, encode}
-use Rattle.cbor.proofs.HeadExact.{head-read}
+use Rattle.cbor.specs.Head.{leastOf, headAt}
+use Rattle.cbor.specs.Tree.{Item, Items, Sized, shortest, headBytes, count, encode}
+use Rattle.cbor.proofs.HeadExact.{shortest-case, length-head, head-read}
 use Rattle.options.specs.declared.Span.{Span}
 use Rattle.options.specs.declared.objective.Objective.{Objective}
 use Rattle.options.specs.Text.{spanOf}
 use Rattle.syntax.specs.Message.{Loc, Obj, Pair, Aim, Ending, Msg}
-use Rattle.grammar.specs.Cddl.{LocatorItems, PairItems, Value}
+use Rattle.grammar.specs.Cddl.{uint, LocatorItems, PairItems, Value}
 use Rattle.grammar.specs.Stands.{Stands, StandAll, ArrayHead, ValueIs, ObjectiveIs}
 use Rattle.grammar.proofs.Bridge.{split, none-end, stands-once}
 use Rattle.message.specs.declared.Series.{Series}
@@ -65,11 +67,29 @@ initiator-once {from = from} q a b =
     let same = ends-once q (a .stands) (b .stands) in
     (same, a .held ∙ ap (λ (k : ℕ). spanOf (k - length from) (length from)) same ∙ sym (b .held))
 
+-- ---- from one end
+-- no other width than the shortest is without fault
+pub short-width : {width arg : ℕ} → Sized width arg → leastOf width ≤ arg → width ≡ shortest arg
+unfolding leastOf pick
+short-width {arg = n} (Sized.in-first h) l = shortest-case (λ w. 0 ≡ w) n (λ _. refl) (λ a b. omega arith) (λ a b. omega arith) (λ a b. omega arith) (λ a. omega arith)
+short-width {arg = n} (Sized.one h) l = shortest-case (λ w. 1 ≡ w) n (λ a. omega arith) (λ _ _. refl) (λ a b. omega arith) (λ a b. omega arith) (λ a. omega arith)
+short-width {arg = n} (Sized.two h) l = shortest-case (λ w. 2 ≡ w) n (λ a. omega arith) (λ a b. omega arith) (λ _ _. refl) (λ a b. omega arith) (λ a. omega arith)
+short-width {arg = n} (Sized.four h) l = shortest-case (λ w. 4 ≡ w) n (λ a. omega arith) (λ a b. omega arith) (λ a b. omega arith) (λ _ _. refl) (λ a. omega arith)
+short-width {arg = n} (Sized.eight h) l = shortest-case (λ w. 8 ≡ w) n (λ a. omega arith) (λ a b. omega arith) (λ a b. omega arith) (λ a b. omega arith) (λ _. refl)
+
+-- a number begins at one place
+number-begins : {s : List ℕ} {p p′ e e′ w w′ n : ℕ} → e ≡ e′ → Stands s p e (uint w n) → Stands s p′ e′ (uint w′ n) → p ≡ p′
+unfolding encode
+number-begins {w = w} {w′} {n} q a b =
+    let first = short-width (a .good .sized) (a .good .short (λ z. omega arith)) in
+    let second = short-width (b .good .sized) (b .good .short (λ z. omega arith)) in
+    omega (arith, a .end, b .end, length-head 0 w n, length-head 0 w′ n)
+
 -- ---- objectives and values
--- a value, from one place
-value-once : {s : List ℕ} {i i′ : Span} {v : Value} → i .at ≡ i′ .at → ValueIs s i v → ValueIs s i′ v → i .len ≡ i′ .len
-value-once q (ValueIs.absent e) (ValueIs.absent e′) = e ∙ sym e′
-value-once q (ValueIs.present a) (ValueIs.present b) = omega (arith, ends-once q a b)
+-- a value
+value-once : {s : List ℕ} {i i′ : Span} {v : Value} → ValueIs s i v → ValueIs s i′ v → i .len ≡ i′ .len
+value-once (ValueIs.absent e) (ValueIs.absent e′) = e ∙ sym e′
+value-once (ValueIs.present a) (ValueIs.present b) = omega (arith, a .end, b .end)
 
 -- spans by their parts
 span-ext : (i i′ : Span) → i .at ≡ i′ .at → i .len ≡ i′ .len → i ≡ i′
@@ -85,15 +105,23 @@ objective-ext o o′ a b c d e = same a b c d e
     same : {n n′ v v′ : Span} {f f′ c c′ k k′ : ℕ} → n ≡ n′ → f ≡ f′ → c ≡ c′ → k ≡ k′ → v ≡ v′ → of n f c k v ≡ of n′ f′ c′ k′ v′
     same a b c d e = cc
 
--- an objective, from one place
-objective-once : {s : List ℕ} {p p′ e e′ : ℕ} {o o′ : Objective} {obj : Obj Value} → p ≡ p′ → ObjectiveIs s p e o obj → ObjectiveIs s p′ e′ o′ obj → o ≡ o′
-objective-once {o = o} {o′} {obj} q a b =
-    let name = head-once q (a .opened) (b .opened) in
-    let flags = ends-once name (a .name-item) (b .name-item) in
+-- an objective, from where its flags stand
+objective-from : {s : List ℕ} {p p′ e e′ : ℕ} {o o′ : Objective} {obj : Obj Value} (a : ObjectiveIs s p e o obj) (b : ObjectiveIs s p′ e′ o′ obj) → a .flags-at ≡ b .flags-at → o ≡ o′
+objective-from {o = o} {o′} {obj} a b flags =
     let counts = ends-once flags (a .flags-item) (b .flags-item) in
     let value = ends-once counts (a .count-item) (b .count-item) in
     objective-ext o o′ (a .name ∙ ap (λ (k : ℕ). spanOf (k - length (obj .name)) (length (obj .name))) flags ∙ sym (b .name)) (a .flags ∙ sym (b .flags)) (a .count ∙ sym (b .count)) counts
-    (span-ext (o .value) (o′ .value) value (value-once value (a .value) (b .value)))
+    (span-ext (o .value) (o′ .value) value (value-once (a .value) (b .value)))
+
+-- from one start
+objective-once : {s : List ℕ} {p p′ e e′ : ℕ} {o o′ : Objective} {obj : Obj Value} → p ≡ p′ → ObjectiveIs s p e o obj → ObjectiveIs s p′ e′ o′ obj → o ≡ o′
+objective-once q a b = objective-from a b (ends-once (head-once q (a .opened) (b .opened)) (a .name-item) (b .name-item))
+
+-- and from one end
+objective-ended : {s : List ℕ} {p p′ e : ℕ} {o o′ : Objective} {obj : Obj Value} → ObjectiveIs s p e o obj → ObjectiveIs s p′ e o′ obj → o ≡ o′
+objective-ended {o = o} {o′} a b =
+    let value : o .value .at ≡ o′ .value .at = omega (arith, a .ends, b .ends, value-once (a .value) (b .value)) in
+    objective-from a b (number-begins (number-begins value (a .count-item) (b .count-item)) (a .flags-item) (b .flags-item))
 
 -- ---- series, and what a Response holds
 -- series by their parts
@@ -127,9 +155,9 @@ aim-once q (AimIs.divert {series} head lead i) (AimIs.divert {series = series′
     (ap Targets.Divert (series-ext series series′ place (i .many ∙ many ∙ sym (i′ .many))), all-end-once (i .items) (i′ .items) place many (i .stand) (i′ .stand))
 
 -- an objective that may be left out
-extra-once : {s : List ℕ} {p p′ : ℕ} {x x′ : Extra} {obj : Option (Obj Value)} → p ≡ p′ → ExtraIs s p x obj → ExtraIs s p′ x′ obj → x ≡ x′
-extra-once q (ExtraIs.without e) (ExtraIs.without e′) = refl
-extra-once q (ExtraIs.with-one i) (ExtraIs.with-one i′) = ap Extra.With (objective-once q i i′)
+extra-once : {s : List ℕ} {p p′ : ℕ} {x x′ : Extra} {obj : Option (Obj Value)} → ExtraIs s p x obj → ExtraIs s p′ x′ obj → x ≡ x′
+extra-once (ExtraIs.without e) (ExtraIs.without e′) = refl
+extra-once (ExtraIs.with-one i) (ExtraIs.with-one i′) = ap Extra.With (objective-ended i i′)
 
 -- how a negotiation ends
 outcome-once : {s : List ℕ} {r r′ : Outcome} {e : Ending} → OutcomeIs s r e → OutcomeIs s r′ e → r ≡ r′
@@ -138,11 +166,6 @@ outcome-once OutcomeIs.decline OutcomeIs.decline = refl
 outcome-once (OutcomeIs.reason h) (OutcomeIs.reason h′) = ap Outcome.Reason (h ∙ sym h′)
 
 -- ---- messages
--- a session and an objective
-exchange-once : {s : List ℕ} {k p p′ q q′ session : ℕ} {o o′ : Objective} {obj : Obj Value} → KindIs s k p → NumberIs s p q session → ObjectiveIs s q (length s) o obj
-    → KindIs s k p′ → NumberIs s p′ q′ session → ObjectiveIs s q′ (length s) o′ obj → o ≡ o′
-exchange-once k i o k′ i′ o′ = objective-once (number-once (kind-once k k′) i i′) o o′
-
 -- a message is described in one way
 pub described-once : {s : List ℕ} {m m′ : Message} {msg : Msg Value} → Describes s m msg → Describes s m′ msg → m ≡ m′
 described-once Describes.noop Describes.noop = refl
@@ -151,15 +174,15 @@ described-once (Describes.discovery {session} k n i o) (Describes.discovery k′
     ap₂ (M.Discovery session) initiator (objective-once after o o′)
 described-once (Describes.response {session} {ttl} k n i t a x) (Describes.response k′ n′ i′ t′ a′ x′) =
     let (after, initiator) = initiator-once (number-once (kind-once k k′) n n′) i i′ in
-    let (targets, end) = aim-once (number-once after t t′) a a′ in
-    let extra = extra-once end x x′ in
+    let (targets, _) = aim-once (number-once after t t′) a a′ in
+    let extra = extra-once x x′ in
     cc
-described-once (Describes.request-negotiation {session} k n o) (Describes.request-negotiation k′ n′ o′) = ap (M.RequestNegotiation session) (exchange-once k n o k′ n′ o′)
-described-once (Describes.request-synchronization {session} k n o) (Describes.request-synchronization k′ n′ o′) = ap (M.RequestSynchronization session) (exchange-once k n o k′ n′ o′)
-described-once (Describes.negotiate {session} k n o) (Describes.negotiate k′ n′ o′) = ap (M.Negotiate session) (exchange-once k n o k′ n′ o′)
+described-once (Describes.request-negotiation {session} _ _ o) (Describes.request-negotiation _ _ o′) = ap (M.RequestNegotiation session) (objective-ended o o′)
+described-once (Describes.request-synchronization {session} _ _ o) (Describes.request-synchronization _ _ o′) = ap (M.RequestSynchronization session) (objective-ended o o′)
+described-once (Describes.negotiate {session} _ _ o) (Describes.negotiate _ _ o′) = ap (M.Negotiate session) (objective-ended o o′)
 described-once (Describes.end {session} r) (Describes.end r′) = ap (M.End session) (outcome-once r r′)
 described-once Describes.wait Describes.wait = refl
-described-once (Describes.synch {session} k n o) (Describes.synch k′ n′ o′) = ap (M.Synch session) (exchange-once k n o k′ n′ o′)
+described-once (Describes.synch {session} _ _ o) (Describes.synch _ _ o′) = ap (M.Synch session) (objective-ended o o′)
 described-once (Describes.flood {series = series} k n i t is h o) (Describes.flood {series = series′} k′ n′ i′ t′ is′ h′ o′) =
     let (after, initiator) = initiator-once (number-once (kind-once k k′) n n′) i i′ in
     let place = number-once after t t′ in

@@ -3,34 +3,23 @@
 use mathlib.Core.Path.{_≡_, refl, ap, _∙_}
 use mathlib.Core.List.{List, [], _∷_, _++_, map, flatMap, append-assoc, append-nil}
 use mathlib.Core.Option.{Option, Option·map}
-use Prim.Native.Nat.{ℕ, suc, _+_, _≤_, _<_}
+use Prim.Native.Nat.{ℕ, suc, _+_, _<_}
 use native.Mathlib.Numerals.{one-add}
 use native.Mathlib.Omega.{arith}
 use lib.Dec.{lit<}
 use lib.ListN.{length}
 use Rattle.base.specs.Pick.{pick}
-use Rattle.cbor.specs.Head.{leastOf}
 use Rattle.cbor.specs.Put.{head}
-use Rattle.cbor.specs.Tree.{Item, Items, Right, Sized, shortest, infoOf, headBytes, count, encode, encodes, Good, Goods}
-use Rattle.cbor.proofs.HeadExact.{shortest-case}
+use Rattle.cbor.specs.Tree.{Item, Items, Right, infoOf, headBytes, count, encode, encodes, Good, Goods}
 use Rattle.base.specs.BigEndian.{bytesOf}
 use Rattle.syntax.specs.Message.{Loc, Obj, Pair, Aim, Ending, Msg, valuedObj, valuedPair, valued}
 use Rattle.grammar.specs.Cddl.{uint, list, array, Protocol, Port, OrNull, LocatorItem, LocatorItems, Value, ObjectiveItem, PairItem, PairItems, Number, Initiator, OptionalItems, joined, AimItems, EndingItem, MessageItem}
 use Rattle.description.specs.Encoding.{string, numberOrNull, reached, fixed, encodeLoc, oneMore, encodeObj, maybeObj, howMany, locOrEmpty, encodePair, targetItems, encodeTargets, encodeEnding, opening, exchange, encodeMsg}
 use Rattle.exact.proofs.Response.{count-joined}
-use Rattle.exact.proofs.Described.{locators-count, pairs-count}
+use Rattle.exact.proofs.Described.{short-width, locators-count, pairs-count}
 use Rattle.roundtrip.specs.Plain.{valueBytes, plain}
 
 -- ---- heads
--- no other width than the shortest is without fault
-pub short-width : {width arg : ℕ} → Sized width arg → leastOf width ≤ arg → width ≡ shortest arg
-unfolding leastOf pick
-short-width {arg = n} (Sized.in-first h) l = shortest-case (λ w. 0 ≡ w) n (λ _. refl) (λ a b. omega arith) (λ a b. omega arith) (λ a b. omega arith) (λ a. omega arith)
-short-width {arg = n} (Sized.one h) l = shortest-case (λ w. 1 ≡ w) n (λ a. omega arith) (λ _ _. refl) (λ a b. omega arith) (λ a b. omega arith) (λ a. omega arith)
-short-width {arg = n} (Sized.two h) l = shortest-case (λ w. 2 ≡ w) n (λ a. omega arith) (λ a b. omega arith) (λ _ _. refl) (λ a b. omega arith) (λ a. omega arith)
-short-width {arg = n} (Sized.four h) l = shortest-case (λ w. 4 ≡ w) n (λ a. omega arith) (λ a b. omega arith) (λ a b. omega arith) (λ _ _. refl) (λ a. omega arith)
-short-width {arg = n} (Sized.eight h) l = shortest-case (λ w. 8 ≡ w) n (λ a. omega arith) (λ a b. omega arith) (λ a b. omega arith) (λ a b. omega arith) (λ _. refl)
-
 -- a head without fault is the shortest
 pub short-head : {major width arg : ℕ} → major < 7 → Right major width arg → headBytes major width arg ≡ head major arg
 unfolding head
