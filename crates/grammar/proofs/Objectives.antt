@@ -1,7 +1,7 @@
 -- An objective that is read stands in the message as an item that the CDDL calls this objective (`objective-sound`), and every such item of no more levels than
 -- may open is read, wherever it stands, and as this objective (`objective-read`).
 -- Assumes nothing.
-use mathlib.Core.Path.{_≡_, refl, sym, ap₂, _∙_, subst}
+use mathlib.Core.Path.{_≡_, refl, sym, ap, ap₂, _∙_, subst}
 use mathlib.Core.Logic.{_↔_, inr}
 use mathlib.Core.List.{List}
 use mathlib.Core.Bool.{true}
@@ -18,7 +18,7 @@ use Rattle.base.proofs.Picks.{pick-case}
 use Rattle.base.proofs.Parts.{bytes-drop}
 use Rattle.cbor.specs.declared.token.Token.{Token}
 use Rattle.cbor.specs.Item.{leftUnder}
-use Rattle.cbor.specs.Tree.{Item, Items, count, depth}
+use Rattle.cbor.specs.Tree.{Item, Items, count, depth, encode}
 use Rattle.cbor.specs.Token.{tokenAt, sizeAt, itemsIn, upTo}
 use Rattle.cbor.proofs.HeadExact.{length-head}
 use Rattle.cbor.proofs.Tokens.{token-is, token-end, is-array}
@@ -30,7 +30,7 @@ use Rattle.syntax.specs.Message.{Obj}
 use Rattle.grammar.specs.Cddl.{uint, text, ObjectiveItem, Value}
 use Rattle.grammar.specs.Limits.{Utf8, Short}
 use Rattle.grammar.specs.Stands.{Stands, StandAll, ArrayHead, ValueIs, itemsWith, ObjectiveIs}
-use Rattle.grammar.proofs.Bridge.{split, join, none as no-more, none-end, only, last, lift, lift-first, sink-first, advances, token-heading, number-token, text-token, array-token}
+use Rattle.grammar.proofs.Bridge.{split, join, none as no-more, none-end, only, last, stands-once, lift, lift-first, sink-first, advances, token-heading, number-token, text-token, array-token}
 use Rattle.grammar.proofs.Pieces.{array-items, number-is, number-here, text-size, content-bytes, text-at, array-at, array-head, lift-head, content-there}
 use Rattle.grammar.proofs.Texts.{bad-text, long-name}
 use Rattle.grammar.proofs.Sizes.{sized-item, item-sized}
@@ -51,14 +51,26 @@ abbrev answer : ℕ → List ℕ → Token → Token → Token → ℕ → ℕ �
 answer base s n f c len size =
     ObjectiveRead.Got (objectiveFrom base n (upTo 15 f) c (upTo 255 c) len) size (badText (contentIn s n) (base + n .at)) (longName n (base + n .at))
 
--- ---- sound
--- an item that is an objective, by the items after its count: its limits, how many items it has, and where they end
-limits : (base : ℕ) {s m : List ℕ} {p e len w u i j flags number : ℕ} {name : List ℕ} {v : Value} {xs : Items}
-    → ObjectiveItem (Item.array w (Items.more (text u name) (Items.more (uint i flags) (Items.more (uint j number) xs)))) (record { name = name; flags = flags; count = number; value = v })
-    → StandAll s p e xs → ValueIs m (spanOf (base + p) len) v → (flags ≤ 15) × (number ≤ 255) × (suc (suc (suc (count xs))) ≡ itemsWith v) × (e ≡ p + len)
+-- what follows the count ends where the value does
+value-ends : (base : ℕ) {m : List ℕ} {p e len : ℕ} {v : Value} (xs : Items) → suc (suc (suc (count xs))) ≡ itemsWith v → StandAll (drop base m) p e xs
+    → ValueIs m (spanOf (base + p) len) v → e ≡ p + len
 unfolding count
-limits base (ObjectiveItem.bare few byte) rest (ValueIs.absent empty) = (few, byte, refl, omega (arith, none-end rest))
-limits base (ObjectiveItem.valued few byte) rest (ValueIs.present there) = (few, byte, refl, omega (arith, only rest .end, there .end))
+value-ends base Items.done counted rest (ValueIs.absent empty) = omega (arith, none-end rest)
+value-ends base Items.done counted rest (ValueIs.present there) = absurd (omega arith)
+value-ends base (Items.more x xs) counted rest (ValueIs.absent empty) = absurd (omega arith)
+value-ends base (Items.more x Items.done) counted rest (ValueIs.present there) =
+    let item = only rest in
+    omega (arith, item .end, there .end, ap (λ (y : Item). length (encode y)) (stands-once (lift base item) there))
+value-ends base (Items.more x (Items.more y xs)) counted rest (ValueIs.present there) = absurd (omega arith)
+
+-- ---- sound
+-- an item that is an objective: its limits, and how many items it has
+limits : {w u i j flags number : ℕ} {name : List ℕ} {v : Value} {xs : Items}
+    → ObjectiveItem (Item.array w (Items.more (text u name) (Items.more (uint i flags) (Items.more (uint j number) xs)))) (record { name = name; flags = flags; count = number; value = v })
+    → (flags ≤ 15) × (number ≤ 255) × (suc (suc (suc (count xs))) ≡ itemsWith v)
+unfolding count
+limits (ObjectiveItem.bare few byte) = (few, byte, refl)
+limits (ObjectiveItem.valued few byte) = (few, byte, refl)
 
 abbrev Sound : List ℕ → ℕ → ObjectiveRead → Type 0
 Sound m base (ObjectiveRead.Bad place) = Unit {0}
@@ -118,7 +130,8 @@ sound levels m base by =
         (record { name = contentIn s n; flags = upTo 15 f; count = upTo 255 c; value = v }))
         → P (answer base s n f c len size)
     got array is-text len size v xs many rest value is =
-        let (few, byte, counted, sum) = limits base (is 0 0 0 0) rest value in
+        let (few, byte, counted) = limits (is 0 0 0 0) in
+        let sum : size ≡ c .next + len = value-ends base xs counted rest value in
         let ha = token-heading s 0 a bytes refl (omega arith) in
         let hn = token-heading s (a .next) n bytes refl (omega arith) in
         let (name, long) = text-at hn true is-text (content-bytes s n bytes) in
@@ -180,7 +193,7 @@ record Begun (levels : ℕ) (m : List ℕ) (base e : ℕ) (name : List ℕ) (fla
   c : Token
   read : objectiveAt levels m base ≡ ending levels base (drop base m) (suc (suc (suc (count rest)))) n f c
   left : StandAll (drop base m) (c .next) (e - base) rest
-  described : (len : ℕ) (v : Value) → suc (suc (suc (count rest))) ≡ itemsWith v → ValueIs m (spanOf (base + c .next) len) v → e ≡ base + c .next + len
+  described : (len : ℕ) (v : Value) → suc (suc (suc (count rest))) ≡ itemsWith v → ValueIs m (spanOf (base + c .next) len) v
       → ObjectiveIs m base e (objectiveFrom base n (upTo 15 f) c (upTo 255 c) len) (record { name = name; flags = flags; count = number; value = v })
   texts : badText (contentIn (drop base m) n) (base + n .at) ≡ 0 ↔ Utf8 name
   names : longName n (base + n .at) ≡ 0 ↔ Short name
@@ -210,7 +223,7 @@ begun levels {m} {base} {e} {u = u} {i} {j} {flags} {number} {name} {rest} st fe
           (omega arith) (omega arith) (rw (number-is 15 f refl few) few) (rw (number-is 255 c refl byte) byte);
       left = c₃ .rest;
       described =
-          λ len v counted value ends.
+          λ len v counted value.
           record {
             name-width = u;
             flags-width = i;
@@ -225,7 +238,7 @@ begun levels {m} {base} {e} {u = u} {i} {j} {flags} {number} {name} {rest} st fe
             count-item = lift base (c₃ .first);
             count = number-is 255 c refl byte;
             value = value;
-            ends = ends;
+            ends = omega (arith, advances st, value-ends base rest counted (c₃ .rest) value);
           };
       texts = rw inside (bad-text name (base + top .body) far);
       names = long-name n (base + top .body) name far refl;
@@ -252,7 +265,7 @@ objective-read levels {m} {base} {e} st d (ObjectiveItem.bare few byte) =
       _,
       _,
       b .read ∙ ends-bare levels base (drop base m) (b .n) (b .f) (b .c) end,
-      b .described 0 none refl (ValueIs.absent refl) (omega (arith, advances st)),
+      b .described 0 none refl (ValueIs.absent refl),
       b .texts,
       b .names,
     )
@@ -266,7 +279,7 @@ objective-read levels {m} {base} {e} st d (ObjectiveItem.valued {x = x} few byte
       _,
       b .read ∙ ends-valued levels base (drop base m) (b .n) (b .f) (b .c) has-value (omega (arith, advances value)),
       b .described (sizeAt levels (drop base m) (b .c .next)) (some x) refl
-          (ValueIs.present (subst (λ (k : ℕ). Stands m (base + b .c .next) k x) sum (lift base value))) (omega (arith, sum, advances st)),
+          (ValueIs.present (subst (λ (k : ℕ). Stands m (base + b .c .next) k x) sum (lift base value))),
       b .texts,
       b .names,
     )
