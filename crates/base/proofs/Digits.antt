@@ -4,12 +4,13 @@ use mathlib.Core.Path.{_≡_, refl, sym, _∙_, ap}
 use mathlib.Core.List.{List, [], _∷_, _++_, append-assoc}
 use Prim.Native.Nat.{ℕ, zero, suc, _+_, _*_, _/_, _%_, _^_, _<_, _≤_}
 use native.Mathlib.Nat.{lt-of-lt-of-le, div-add-mod'}
+use native.Mathlib.Decide.{ℕ-discrete}
 use native.Mathlib.Omega.{arith}
 use lib.Arith.{digits-lt, digits-div, digits-mod}
 use lib.Pow.{pow-add, pow-mono, shr-lt}
 use lib.ListN.{length, take, getD, length-append}
 use lib.Seq.{getD-at, take-suc}
-use Rattle.base.specs.BigEndian.{bigEndian, bytesOf, Bytes}
+use Rattle.base.specs.BigEndian.{bigEndian, bytesOf}
 
 -- one byte more
 pub below-more : (n v b : ℕ) → v < 2 ^ (8 * n) → b < 2 ^ 8 → v * 256 + b < 2 ^ (8 * (n + 1))
@@ -35,17 +36,32 @@ read-back (suc n) v rest h =
     rw (append-assoc, read-back n (v / 256) (v % 256 ∷ rest) (shr-lt (8 * n) 8 (rw e at h)), getD-at (bytesOf n (v / 256)) (v % 256) rest 0 n (length-bytes n (v / 256)))
     (div-add-mod' v 256)
 
--- and bytes are those of the number that they are read as
-pub spelled : (n : ℕ) (s : List ℕ) → Bytes s → n ≤ length s → bytesOf n (bigEndian s n) ≡ take n s
+-- the first n elements are bytes
+abbrev pub FirstBytes : ℕ → List ℕ → Type 0
+FirstBytes n s = (i : ℕ) → i < n → getD s i 0 < 2 ^ 8
+
+-- bytes are those of the number that they are read as
+pub spelled : (n : ℕ) (s : List ℕ) → FirstBytes n s → n ≤ length s → bytesOf n (bigEndian s n) ≡ take n s
 unfolding bigEndian bytesOf
 spelled zero s b h = refl
 spelled (suc n) s b h =
-    rw (digits-div (bigEndian s n) (b n), digits-mod (bigEndian s n) (b n), spelled n s b (omega arith))
+    let last = b n (omega arith) in
+    rw (digits-div (bigEndian s n) last, digits-mod (bigEndian s n) last, spelled n s (λ i l. b i (omega arith)) (omega arith))
     (sym (take-suc s n 0 h))
 
-pub big-endian-lt : (n : ℕ) (s : List ℕ) → Bytes s → bigEndian s n < 2 ^ (8 * n)
+pub big-endian-lt : (n : ℕ) (s : List ℕ) → FirstBytes n s → bigEndian s n < 2 ^ (8 * n)
 unfolding bigEndian
 big-endian-lt zero s b = omega arith
 big-endian-lt (suc n) s b =
     let e : n + 1 ≡ suc n = omega arith in
-    rw e at (below-more n (bigEndian s n) (getD s n 0) (big-endian-lt n s b) (b n))
+    rw e at (below-more n (bigEndian s n) (getD s n 0) (big-endian-lt n s (λ i l. b i (omega arith))) (b n (omega arith)))
+
+-- elements that are read as a number below 256 are
+pub small-bytes : (n : ℕ) (s : List ℕ) → bigEndian s n < 2 ^ 8 → FirstBytes n s
+unfolding bigEndian
+small-bytes zero s h i l = absurd (omega arith)
+small-bytes (suc n) s h i l = go (ℕ-discrete i n) (small-bytes n s (omega arith))
+  where
+    go : Dec (i ≡ n) → FirstBytes n s → getD s i 0 < 2 ^ 8
+    go (yes e) rest = rw e (omega arith)
+    go (no e) rest = rest i (omega arith)

@@ -2,12 +2,11 @@
 -- Assumes nothing.
 use mathlib.Core.Path.{_≡_, refl, sym, ap, _∙_}
 use mathlib.Core.List.{List, [], _∷_, _++_}
-use Prim.Native.Nat.{ℕ, zero, suc, _+_, _-_, _≤_, _<_}
-use native.Mathlib.Decide.{decLt}
+use Prim.Native.Nat.{ℕ, zero, suc, _+_, _-_, _≤_}
 use native.Mathlib.Nat.{add-zero, add-suc, suc-add, le-of-eq}
 use native.Mathlib.Omega.{arith}
 use lib.Dec.{lit<}
-use lib.ListN.{length, take, drop, set, getD, length-drop, List·getD-eq-default}
+use lib.ListN.{length, take, drop, set, length-drop}
 use lib.Seq.{sets, take-all, getD-drop, drop-append-seam}
 use Rattle.base.specs.BigEndian.{Bytes}
 
@@ -22,14 +21,6 @@ drop-past s at h = none (drop at s) (omega (arith, length-drop at s))
     none : (l : List ℕ) → length l ≡ 0 → l ≡ []
     none [] e = refl
     none (x ∷ l) e = absurd (omega arith)
-
--- a number other than 0 stands in the list
-pub there : (s : List ℕ) (at : ℕ) → 1 ≤ getD s at 0 → at < length s
-there s at some = go (decLt at (length s))
-  where
-    go : Dec (at < length s) → at < length s
-    go (yes h) = h
-    go (no h) = absurd (omega (arith, List·getD-eq-default s 0 {n = at} (omega arith)))
 
 -- equal fronts leave equal rests
 pub cancel : (h s t : List ℕ) → h ++ s ≡ h ++ t → s ≡ t

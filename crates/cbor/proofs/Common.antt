@@ -5,14 +5,14 @@ use mathlib.Core.List.{List, _∷_}
 use mathlib.Core.Logic.{_≢_}
 use mathlib.Core.Bool.{Bool, true, false}
 use Prim.Native.Nat.{ℕ, suc, _+_, _-_, _*_, _/_, _%_, _≤_, _<_, zero-le}
+use native.Mathlib.Decide.{decLt}
 use native.Mathlib.Omega.{arith}
-use lib.ListN.{length, drop, getD, length-drop}
+use lib.ListN.{length, drop, getD, length-drop, List·getD-eq-default}
 use lib.Seq.{drop-cons, getD-drop}
 use lib.Dec.{ltb, eqb}
 use borrow.Author.Tests.{lt-ltb, le-ltb, le-leb, lt-leb, ne-eqb}
 use Rattle.base.specs.Pick.{pick}
 use Rattle.base.specs.BigEndian.{bigEndian}
-use Rattle.base.proofs.Parts.{there}
 use Rattle.cbor.specs.declared.head.HeadRead.{HeadRead}
 use Rattle.cbor.specs.declared.item.Common.{Common}
 use Rattle.cbor.specs.declared.item.Step.{Step}
@@ -33,6 +33,14 @@ unfolding headOf headBy initialOf headFrom argOf widthOf pick
 short first s low =
     rw (ne-eqb (first % 32) 31 (λ e. omega arith), lt-leb 28 (first % 32) (omega arith), lt-ltb (first % 32) 24 low, le-ltb (length s) 0 zero-le)
     (judged-short (first / 32) (first % 32))
+
+-- a number other than 0 stands in the list
+there : (s : List ℕ) (at : ℕ) → 1 ≤ getD s at 0 → at < length s
+there s at some = go (decLt at (length s))
+  where
+    go : Dec (at < length s) → at < length s
+    go (yes h) = h
+    go (no h) = absurd (omega (arith, List·getD-eq-default s 0 {n = at} (omega arith)))
 
 one-spells : (s : List ℕ) → bigEndian s 1 ≡ getD s 0 0
 unfolding bigEndian

@@ -2,7 +2,7 @@
 -- Assumes nothing.
 use mathlib.Core.Path.{_≡_, refl, sym, ap, _∙_}
 use mathlib.Core.List.{List, [], _∷_, _++_}
-use Prim.Native.Nat.{ℕ, suc, _+_, _*_, _/_, _%_, _^_, _≤_, _<_, zero-le}
+use Prim.Native.Nat.{ℕ, zero, suc, _+_, _*_, _/_, _%_, _^_, _≤_, _<_, zero-le}
 use native.Mathlib.Nat.{div-add-mod'}
 use native.Mathlib.Numerals.{one-add}
 use native.Mathlib.Omega.{arith}
@@ -11,10 +11,9 @@ use lib.ListN.{length, take, length-append}
 use lib.Dec.{ltb, eqb, lit<}
 use borrow.Author.Tests.{lt-ltb, le-ltb, lt-leb, ne-eqb, ltb-true, ltb-false, leb-true, leb-false, eqb-true, eqb-false}
 use Rattle.base.specs.Pick.{pick}
-use Rattle.base.specs.BigEndian.{bigEndian, bytesOf, Bytes}
-use Rattle.base.proofs.Picks.{pick-case, both}
-use Rattle.base.proofs.Parts.{there}
-use Rattle.base.proofs.Digits.{length-bytes, read-back, spelled, big-endian-lt}
+use Rattle.base.specs.BigEndian.{bytesOf, Bytes}
+use Rattle.base.proofs.Picks.{pick-case}
+use Rattle.base.proofs.Digits.{length-bytes, read-back, FirstBytes, spelled, big-endian-lt, small-bytes}
 use Rattle.cbor.specs.declared.head.Initial.{Initial}
 use Rattle.cbor.specs.declared.head.HeadRead.{HeadRead}
 use Rattle.cbor.specs.Head.{widthOf, leastOf, initialOf, argOf, judged, headFrom, headBy, headOf, headAt}
@@ -138,89 +137,66 @@ record Info (first : ℕ) (s : List ℕ) (width : ℕ) : Type 0 where
   digits : bytesOf width (argOf first width s) ≡ take width s
   sized : Sized width (argOf first width s)
 
-info-is : (first : ℕ) (s : List ℕ) → first % 32 < 28 → Bytes s → widthOf (first % 32) ≤ length s → Info first s (widthOf (first % 32))
+info-is : (first : ℕ) (s : List ℕ) → first % 32 < 28 → FirstBytes (widthOf (first % 32)) s → widthOf (first % 32) ≤ length s → Info first s (widthOf (first % 32))
 unfolding widthOf infoOf argOf bytesOf pick
-info-is first s lt b =
-    pick-case P (ltb info 24) (λ e h. record { same = refl; digits = refl; sized = Sized.in-first (ltb-true info 24 e) })
-    (λ e₀. pick-case P (eqb info 24) (λ e h. record { same = sym (eqb-true info 24 e); digits = spelled 1 s b h; sized = Sized.one (big-endian-lt 1 s b) })
-    (λ e₁. pick-case P (eqb info 25) (λ e h. record { same = sym (eqb-true info 25 e); digits = spelled 2 s b h; sized = Sized.two (big-endian-lt 2 s b) })
-    (λ e₂. pick-case P (eqb info 26) (λ e h. record { same = sym (eqb-true info 26 e); digits = spelled 4 s b h; sized = Sized.four (big-endian-lt 4 s b) })
-    (λ e₄ h. record { same = omega (arith, ltb-false info 24 e₀, eqb-false info 24 e₁, eqb-false info 25 e₂, eqb-false info 26 e₄); digits = spelled 8 s b h; sized = Sized.eight (big-endian-lt 8 s b) }))))
+info-is first s lt =
+    pick-case P (ltb info 24) (λ e b h. record { same = refl; digits = refl; sized = Sized.in-first (ltb-true info 24 e) })
+    (λ e₀. pick-case P (eqb info 24) (λ e b h. record { same = sym (eqb-true info 24 e); digits = spelled 1 s b h; sized = Sized.one (big-endian-lt 1 s b) })
+    (λ e₁. pick-case P (eqb info 25) (λ e b h. record { same = sym (eqb-true info 25 e); digits = spelled 2 s b h; sized = Sized.two (big-endian-lt 2 s b) })
+    (λ e₂. pick-case P (eqb info 26) (λ e b h. record { same = sym (eqb-true info 26 e); digits = spelled 4 s b h; sized = Sized.four (big-endian-lt 4 s b) })
+    (λ e₄ b h. record { same = omega (arith, ltb-false info 24 e₀, eqb-false info 24 e₁, eqb-false info 25 e₂, eqb-false info 26 e₄); digits = spelled 8 s b h; sized = Sized.eight (big-endian-lt 8 s b) }))))
   where
     info : ℕ
     info = first % 32
 
     P : ℕ → Type 0
-    P width = width ≤ length s → Info first s width
+    P width = FirstBytes width s → width ≤ length s → Info first s width
+
+-- a first byte and the argument's bytes
+headed : (first : ℕ) (s : List ℕ) → first / 32 < 8 → FirstBytes (widthOf (first % 32)) s → first % 32 < 28 → widthOf (first % 32) ≤ length s
+    → Whole (first ∷ s) (first / 32) (argOf first (widthOf (first % 32)) s) (widthOf (first % 32))
+unfolding headBytes
+headed first s low b lt room =
+    let i = info-is first s lt b room in
+    record { bytes = rw (one-add (widthOf (first % 32)), i .same, i .digits, div-add-mod' first 32); sized = i .sized; kind = low }
 
 pub whole : (first : ℕ) (s : List ℕ) → Bytes (first ∷ s) → first % 32 < 28 → widthOf (first % 32) ≤ length s
     → Whole (first ∷ s) (first / 32) (argOf first (widthOf (first % 32)) s) (widthOf (first % 32))
-unfolding headBytes
-whole first s b lt room =
-    let i = info-is first s lt (λ k. b (suc k)) room in
-    record { bytes = rw (one-add (widthOf (first % 32)), i .same, i .digits, div-add-mod' first 32); sized = i .sized; kind = omega (arith, b 0) }
+whole first s b = headed first s (omega (arith, b 0)) (λ i _. b (suc i))
+
+-- one without fault is one that is written
+faultless : {s : List ℕ} {major arg width : ℕ} → Whole s major arg width → ((major ≡ 7) → width ≡ 1 → 32 ≤ arg) → ((major ≡ 7 → ⊥) → leastOf width ≤ arg) → Spelt s major arg (1 + width)
+faultless {width = width} w simple short = record { width = width; bytes = w .bytes; right = record { sized = w .sized; simple = simple; short = short }; kind = w .kind }
 
 pub head-is : (s : List ℕ) → Bytes s → HeadIs s (headAt s)
 unfolding headAt
 head-is [] b = tt
 head-is (first ∷ s) b =
-    first-case (HeadIs (first ∷ s)) first s (λ _ _. tt) (λ _. tt) (λ _ _. tt) (λ lt room. judged-is (whole first s b lt room))
+    first-case P first s (λ _ _. tt) (λ _. tt) (λ _ _. tt)
+    (λ lt room. judged-case P (first / 32) _ _ (λ _ _ _. tt) (λ _ _. tt) (faultless (whole first s b lt room)))
   where
-    judged-is : {major arg width : ℕ} → Whole (first ∷ s) major arg width → HeadIs (first ∷ s) (judged major arg width)
-    judged-is {major} {arg} {width} w =
-        judged-case
-        (HeadIs (first ∷ s))
-        major
-        arg
-        width
-        (λ _ _ _. tt)
-        (λ _ _. tt)
-        (λ simple short. record { width = width; bytes = w .bytes; right = record { sized = w .sized; simple = simple; short = short }; kind = w .kind })
-
--- ---- a small argument
--- one element below 256 is the byte that spells it
-one-spelled : (s : List ℕ) → 1 ≤ length s → bigEndian s 1 < 2 ^ 8 → bytesOf 1 (bigEndian s 1) ≡ take 1 s
-unfolding bigEndian bytesOf
-one-spelled [] h l = absurd (omega arith)
-one-spelled (x ∷ s) h l = ap (λ (v : ℕ). v ∷ []) (omega arith)
-
-small-info : (first : ℕ) (s : List ℕ) → leastOf (widthOf (first % 32)) ≤ argOf first (widthOf (first % 32)) s
-    → argOf first (widthOf (first % 32)) s < 2 ^ 8 → Info first s (widthOf (first % 32))
-unfolding widthOf leastOf infoOf argOf bigEndian bytesOf pick
-small-info first s =
-    pick-case P (ltb info 24) (λ e l a. record { same = refl; digits = refl; sized = Sized.in-first (ltb-true info 24 e) })
-    (λ _. pick-case P (eqb info 24) (λ e l a. record { same = sym (eqb-true info 24 e); digits = one-spelled s (there s 0 (omega arith)) a; sized = Sized.one a })
-    (λ _. both P (eqb info 25) (λ l a. absurd (omega arith)) (both P (eqb info 26) (λ l a. absurd (omega arith)) (λ l a. absurd (omega arith)))))
-  where
-    info : ℕ
-    info = first % 32
-
-    P : ℕ → Type 0
-    P width = leastOf width ≤ argOf first width s → argOf first width s < 2 ^ 8 → Info first s width
+    P : HeadRead → Type 0
+    P = HeadIs (first ∷ s)
 
 abbrev pub SmallIs : List ℕ → HeadRead → Type 0
 SmallIs s (HeadRead.Refused number place) = Unit {0}
-SmallIs s (HeadRead.Head major arg len) = major < 7 → arg < 2 ^ 8 → Spelt s major arg len
+SmallIs s (HeadRead.Head major arg len) = major < 8 → arg < 2 ^ 8 → Spelt s major arg len
 
--- a head of major types 0 to 6 with an argument below 256 that was read is one that is written, whatever numbers follow it
+-- the bytes of an argument below 256
+arg-bytes : (first width : ℕ) (s : List ℕ) → argOf first width s < 2 ^ 8 → FirstBytes width s
+unfolding argOf pick
+arg-bytes first zero s h = λ i l. absurd (omega arith)
+arg-bytes first (suc n) s h = small-bytes (suc n) s (rw (ne-eqb (suc n) 0 (λ e. omega arith)) at h)
+
+-- a head with an argument below 256 that was read is one that is written, whatever numbers follow it
 pub small-is : (s : List ℕ) → SmallIs s (headAt s)
-unfolding headAt headBytes
+unfolding headAt
 small-is [] = tt
 small-is (first ∷ s) =
     first-case P first s (λ _ _. tt) (λ _. tt) (λ _ _. tt)
-    (λ _ _. judged-case P (first / 32) (argOf first width s) width (λ _ _ _. tt) (λ _ _. tt)
-    (λ simple short low small.
-    let i = small-info first s (short (λ e. omega arith)) small in
-    record {
-      width = width;
-      bytes = rw (one-add width, i .same, i .digits, div-add-mod' first 32);
-      right = record { sized = i .sized; simple = simple; short = short };
-      kind = omega arith;
-    }))
+    (λ lt room. judged-case P (first / 32) _ _ (λ _ _ _. tt) (λ _ _. tt)
+    (λ simple short low small. faultless (headed first s low (arg-bytes first (widthOf (first % 32)) s small) lt room) simple short))
   where
-    width : ℕ
-    width = widthOf (first % 32)
-
     P : HeadRead → Type 0
     P = SmallIs (first ∷ s)
 

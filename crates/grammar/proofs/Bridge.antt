@@ -3,25 +3,25 @@
 -- Assumes nothing.
 use mathlib.Core.Path.{_≡_, refl, sym, ap, ap₂, _∙_, subst}
 use mathlib.Core.Logic.{_⊎_, inl, inr}
-use mathlib.Core.List.{List, [], _∷_, _++_, append-assoc}
+use mathlib.Core.List.{List, _++_, append-assoc}
 use mathlib.Core.Bool.{Bool, true, false, cond}
-use Prim.Native.Nat.{ℕ, _+_, _-_, _/_, _%_, _^_, _≤_, _<_}
-use native.Mathlib.Nat.{add-zero, add-assoc, div-add-mod'}
+use Prim.Native.Nat.{ℕ, _+_, _-_, _/_, _^_, _≤_, _<_}
+use native.Mathlib.Nat.{add-zero, add-assoc}
 use native.Mathlib.Omega.{arith}
 use lib.ListN.{length, take, drop, length-append, length-drop, take-append-drop}
 use lib.Seq.{drop-drop, drop-append-seam, take-at, length-take-le}
-use lib.Dec.{ltb, leb, eqb, lit<, lit≤}
+use lib.Dec.{ltb, leb, lit<, lit≤}
 use borrow.Author.Tests.{lt-ltb, le-ltb, le-leb, ltb-true, ltb-false, leb-true}
 use Rattle.base.specs.Pick.{pick}
-use Rattle.base.specs.BigEndian.{bytesOf, Bytes}
+use Rattle.base.specs.BigEndian.{Bytes}
 use Rattle.base.proofs.Picks.{pick-case, both}
 use Rattle.base.proofs.Parts.{rest-is, bytes-drop}
 use Rattle.cbor.specs.declared.head.HeadRead.{HeadRead}
 use Rattle.cbor.specs.declared.token.Token.{Token}
-use Rattle.cbor.specs.Head.{widthOf, argOf, headAt}
-use Rattle.cbor.specs.Tree.{Item, Items, infoOf, headBytes, Sized, Right, count, encode, encodes}
+use Rattle.cbor.specs.Head.{headAt}
+use Rattle.cbor.specs.Tree.{Item, Items, headBytes, Right, count, encode, encodes}
 use Rattle.cbor.specs.Token.{nothingAt, tokenOf, tokenFrom, tokenAt}
-use Rattle.cbor.proofs.HeadExact.{judged-case, first-case, head-read, length-head, Spelt, HeadIs, head-is, SmallIs, small-is}
+use Rattle.cbor.proofs.HeadExact.{head-read, length-head, Spelt, HeadIs, head-is, SmallIs, small-is}
 use Rattle.cbor.proofs.Tokens.{head-fits}
 use Rattle.cbor.proofs.Unique.{unique}
 use Rattle.grammar.specs.Stands.{Stands, StandAll, ArrayHead}
@@ -275,23 +275,23 @@ module _ (s : List ℕ) (p major arg len : ℕ) (spelt : Spelt (drop p s) major 
       leaf other q h = subst (Heading s p) (sym q) (heading (p + len) (omega (arith, size, length-drop p s)) (λ _. refl) (λ lo hi. absurd (other lo hi)))
 
 -- a token has the numbers of its head
-token-numbers : (p room major arg len : ℕ) (w : Token) → w ≡ tokenOf p room major arg len → w .major < 8 → (major ≡ w .major) × (arg ≡ w .arg) × (p + len ≡ w .body)
+token-numbers : (p room major arg len : ℕ) (w : Token) → w ≡ tokenOf p room major arg len → w .major < 8 → (major ≡ w .major) × (arg ≡ w .arg)
 unfolding tokenOf nothingAt
 token-numbers p room major arg len w = both by (ltb 1 major) (both by (ltb major 4) (both by (leb arg (room - len)) same (λ q h. absurd (omega (arith, h, ap (λ (v : Token). v .major) q)))) same) same
   where
     by : Token → Type 0
-    by v = w ≡ v → w .major < 8 → (major ≡ w .major) × (arg ≡ w .arg) × (p + len ≡ w .body)
+    by v = w ≡ v → w .major < 8 → (major ≡ w .major) × (arg ≡ w .arg)
 
     same : {next : ℕ} → by (record { at = p; major = major; arg = arg; body = p + len; next = next })
-    same q h = (sym (ap (λ (v : Token). v .major) q), sym (ap (λ (v : Token). v .arg) q), sym (ap (λ (v : Token). v .body) q))
+    same q h = (sym (ap (λ (v : Token). v .major) q), sym (ap (λ (v : Token). v .arg) q))
 
 -- so it is of the major type of a head that stands there
 pub headed-major : (s : List ℕ) (p major width arg : ℕ) (r : List ℕ) → Right major width arg → drop p s ≡ headBytes major width arg ++ r → tokenAt s p .major < 8 → major ≡ tokenAt s p .major
 headed-major s p major width arg r right is h = token-numbers p (length (drop p s)) major arg (1 + width) (tokenAt s p) (headed s p major width arg r right is) h .0
 
 -- one that was read has its head there, where that is spelt so
-pub spelt-heading : (s : List ℕ) (p : ℕ) (w : Token)
-    → ((major arg len : ℕ) → headAt (drop p s) ≡ HeadRead.Head major arg len → major ≡ w .major → arg ≡ w .arg → p + len ≡ w .body → Spelt (drop p s) major arg len) → w ≡ tokenAt s p → w .major < 8 → Heading s p w
+spelt-heading : (s : List ℕ) (p : ℕ) (w : Token) → ((major arg len : ℕ) → headAt (drop p s) ≡ HeadRead.Head major arg len → major ≡ w .major → arg ≡ w .arg → Spelt (drop p s) major arg len)
+    → w ≡ tokenAt s p → w .major < 8 → Heading s p w
 unfolding tokenAt tokenFrom nothingAt
 spelt-heading s p w spelt = go (headAt (drop p s)) refl
   where
@@ -299,51 +299,14 @@ spelt-heading s p w spelt = go (headAt (drop p s)) refl
     go (HeadRead.Refused number place) e q h = absurd (omega (arith, h, ap (λ (v : Token). v .major) q))
     go (HeadRead.Head major arg len) e q h =
         let fits : len ≤ length s - p = head-fits s p major arg len (headAt (drop p s)) (ap headAt (sym (rest-is p s))) e in
-        let (same, same′, same″) = token-numbers p (length (drop p s)) major arg len w q h in
-        token-of s p major arg len (spelt major arg len e same same′ same″) (omega (arith, length-drop p s)) w q h
+        let (same, same′) = token-numbers p (length (drop p s)) major arg len w q h in
+        token-of s p major arg len (spelt major arg len e same same′) (omega (arith, length-drop p s)) w q h
 
 -- so of bytes,
 pub token-heading : (s : List ℕ) (p : ℕ) (w : Token) → Bytes s → w ≡ tokenAt s p → w .major < 8 → Heading s p w
-token-heading s p w b = spelt-heading s p w (λ major arg len e _ _ _. subst (HeadIs (drop p s)) e (head-is (drop p s) (bytes-drop p s b)))
+token-heading s p w b = spelt-heading s p w (λ major arg len e _ _. subst (HeadIs (drop p s)) e (head-is (drop p s) (bytes-drop p s b)))
 
 -- and of any numbers where the argument is below 256
-pub small-heading : (s : List ℕ) (p : ℕ) (w : Token) → w ≡ tokenAt s p → w .major < 7 → w .arg < 2 ^ 8 → Heading s p w
+pub small-heading : (s : List ℕ) (p : ℕ) (w : Token) → w ≡ tokenAt s p → w .major < 8 → w .arg < 2 ^ 8 → Heading s p w
 small-heading s p w e major arg =
-    spelt-heading s p w (λ major′ arg′ len q same same′ _. subst (SmallIs (drop p s)) q (small-is (drop p s)) (omega arith) (omega arith)) e (omega arith)
-
--- ---- a head of one byte
--- information that no bytes of argument follow
-short-info : (info : ℕ) → widthOf info ≡ 0 → info < 24
-unfolding widthOf
-short-info info =
-    pick-case P (ltb info 24) (λ e _. ltb-true info 24 e)
-    (λ _. both P (eqb info 24) (λ z. absurd (omega arith)) (both P (eqb info 25) (λ z. absurd (omega arith)) (both P (eqb info 26) (λ z. absurd (omega arith)) (λ z. absurd (omega arith)))))
-  where
-    P : ℕ → Type 0
-    P width = width ≡ 0 → info < 24
-
-abbrev pub OneIs : List ℕ → HeadRead → Type 0
-OneIs s (HeadRead.Refused number place) = Unit {0}
-OneIs s (HeadRead.Head major arg len) = major < 8 → len ≡ 1 → Spelt s major arg len
-
--- a head of one byte that was read is one that is written, whatever numbers follow it
-pub one-is : (s : List ℕ) → OneIs s (headAt s)
-unfolding headAt headBytes infoOf argOf bytesOf pick
-one-is [] = tt
-one-is (first ∷ s) =
-    first-case P first s (λ _ _. tt) (λ _. tt) (λ _ _. tt)
-    (λ _ _. judged-case P (first / 32) (argOf first width s) width (λ _ _ _. tt) (λ _ _. tt)
-    (λ simple short low one.
-    let none : width ≡ 0 = omega arith in
-    record {
-      width = width;
-      bytes = rw (none, div-add-mod' first 32);
-      right = record { sized = rw none (Sized.in-first (short-info (first % 32) none)); simple = simple; short = short };
-      kind = low;
-    }))
-  where
-    width : ℕ
-    width = widthOf (first % 32)
-
-    P : HeadRead → Type 0
-    P = OneIs (first ∷ s)
+    spelt-heading s p w (λ major′ arg′ len q same same′. subst (SmallIs (drop p s)) q (small-is (drop p s)) (omega arith) (omega arith)) e major

@@ -25,7 +25,7 @@ use Rattle.syntax.specs.Message.{Loc, orNull}
 use Rattle.grammar.specs.Cddl.{uint, null, array, Protocol, Port, OrNull, LocatorItem}
 use Rattle.grammar.specs.Limits.{Utf8, locTexts}
 use Rattle.grammar.specs.Stands.{Stands, locOf}
-use Rattle.grammar.proofs.Bridge.{Heading, spelt-heading, token-heading, small-heading, OneIs, one-is, number-token, null-token}
+use Rattle.grammar.proofs.Bridge.{Heading, token-heading, small-heading, number-token, null-token}
 use Rattle.grammar.proofs.Pieces.{Is, number-at, null-at}
 use Rattle.grammar.proofs.Texts.{bad-text}
 
@@ -121,9 +121,9 @@ module _ (s : List ℕ) (p : ℕ) (w : Token) (read : w ≡ tokenAt s p) where
       let (e₂, q₂) = both-hold (eqb (w .arg) 22) q₁ in
       let (e₃, q₃) = both-hold (ltb (w .at) (w .body)) q₂ in
       let major : w .major ≡ 7 = eqb-true (w .major) 7 e₁ in
-      let one : w .body ≡ p + 1 = omega (arith, token-is s p w read .here, eqb-true (w .body - w .at) 1 q₃) in
-      let h = spelt-heading s p w (λ major′ arg′ len q same _ same″. subst (OneIs (drop p s)) q (one-is (drop p s)) (omega arith) (omega arith)) read (omega arith) in
-      null-at h major (eqb-true (w .arg) 22 e₂) (omega (arith, h .body))
+      let arg : w .arg ≡ 22 = eqb-true (w .arg) 22 e₂ in
+      let h = small-heading s p w read (omega arith) (omega arith) in
+      null-at h major arg (omega (arith, token-is s p w read .here, eqb-true (w .body - w .at) 1 q₃, h .body))
 
   null-of : (P : Item → ℕ → Type 0) (for-null kind : ℕ) → eqb kind 106 ≡ true → isNull w ≡ true → Here s p (w .next) P for-null kind for-null
   null-of P for-null kind e z = record { item = null; stands = null-here z; is = OfKind.missing (eqb-true kind 106 e) }

@@ -109,7 +109,7 @@ unfolding numbersIn saved flatMap
 bytes-loaded zero b h l = refl
 bytes-loaded (suc n) b h l =
     let e : 8 * suc n ≡ 8 + 8 * n = omega arith in
-    rw (e, take-add 8 (8 * n) b, spelled 8 b h (omega arith), bytes-loaded n (drop 8 b) (bytes-drop 8 b h) (omega (arith, length-drop 8 b)))
+    rw (e, take-add 8 (8 * n) b, spelled 8 b (λ i _. h i) (omega arith), bytes-loaded n (drop 8 b) (bytes-drop 8 b h) (omega (arith, length-drop 8 b)))
 
 -- for readers
 

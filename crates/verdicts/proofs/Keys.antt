@@ -55,7 +55,7 @@ lengths-differ false false e = omega arith
 -- ---- bytes by their numbers
 
 front-same : (n : ℕ) (a b : List ℕ) → Bytes a → Bytes b → n ≤ length a → n ≤ length b → bigEndian a n ≡ bigEndian b n → take n a ≡ take n b
-front-same n a b ba bb la lb e = sym (spelled n a ba la) ∙ ap (bytesOf n) e ∙ spelled n b bb lb
+front-same n a b ba bb la lb e = sym (spelled n a (λ i _. ba i) la) ∙ ap (bytesOf n) e ∙ spelled n b (λ i _. bb i) lb
 
 whole-same : (n : ℕ) (a b : List ℕ) → Bytes a → Bytes b → length a ≡ n → length b ≡ n → bigEndian a n ≡ bigEndian b n → a ≡ b
 whole-same n a b ba bb la lb e =
