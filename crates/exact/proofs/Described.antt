@@ -17,8 +17,8 @@ use Rattle.options.specs.declared.objective.Objective.{Objective}
 use Rattle.options.specs.Text.{spanOf}
 use Rattle.syntax.specs.Message.{Loc, Obj, Pair, Aim, Ending, Msg}
 use Rattle.grammar.specs.Cddl.{uint, LocatorItems, PairItems, Value}
-use Rattle.grammar.specs.Stands.{Stands, StandAll, ArrayHead, ValueIs, ObjectiveIs}
-use Rattle.grammar.proofs.Bridge.{split, none-end, stands-once}
+use Rattle.grammar.specs.Stands.{Stands, ArrayHead, ValueIs, ObjectiveIs}
+use Rattle.grammar.proofs.Bridge.{stands-once}
 use Rattle.message.specs.declared.Series.{Series}
 use Rattle.message.specs.declared.Targets.{Targets}
 use Rattle.message.specs.declared.Extra.{Extra}
@@ -33,17 +33,6 @@ ends-once : {s : List ℕ} {p p′ e e′ : ℕ} {x y : Item} → p ≡ p′ →
 ends-once {s} {p} {e′ = e′} {y = y} q a b =
     let b′ = subst (λ (k : ℕ). Stands s k e′ y) (sym q) b in
     a .end ∙ ap (λ (z : Item). p + length (encode z)) (stands-once a b′) ∙ sym (b′ .end)
-
--- as many items end at one place
-all-end-once : {s : List ℕ} {p p′ e e′ : ℕ} (xs ys : Items) → p ≡ p′ → count xs ≡ count ys → StandAll s p e xs → StandAll s p′ e′ ys → e ≡ e′
-unfolding count
-all-end-once Items.done Items.done q c a b = none-end a ∙ q ∙ sym (none-end b)
-all-end-once Items.done (Items.more y ys) q c a b = absurd (omega arith)
-all-end-once (Items.more x xs) Items.done q c a b = absurd (omega arith)
-all-end-once (Items.more x xs) (Items.more y ys) q c a b =
-    let i = split a in
-    let j = split b in
-    all-end-once xs ys (ends-once q (i .first) (j .first)) (omega arith) (i .rest) (j .rest)
 
 -- the head of an array ends at one place
 head-once : {s : List ℕ} {p p′ q q′ n n′ : ℕ} → p ≡ p′ → ArrayHead s p q n → ArrayHead s p′ q′ n′ → q ≡ q′
@@ -144,15 +133,15 @@ pairs-count PairItems.empty = refl
 pairs-count (PairItems.more i is) = ap suc (pairs-count is)
 
 -- locators or a divert
-aim-once : {s : List ℕ} {p p′ e e′ : ℕ} {t t′ : Targets} {aim : Aim} → p ≡ p′ → AimIs s p e t aim → AimIs s p′ e′ t′ aim → (t ≡ t′) × (e ≡ e′)
+aim-once : {s : List ℕ} {p p′ e e′ : ℕ} {t t′ : Targets} {aim : Aim} → p ≡ p′ → AimIs s p e t aim → AimIs s p′ e′ t′ aim → t ≡ t′
 aim-once q (AimIs.locators {series} at i) (AimIs.locators {series = series′} at′ i′) =
     let place : series .at ≡ series′ .at = at ∙ q ∙ sym at′ in
     let many = locators-count (i .are) ∙ sym (locators-count (i′ .are)) in
-    (ap Targets.Locators (series-ext series series′ place (i .many ∙ many ∙ sym (i′ .many))), all-end-once (i .items) (i′ .items) place many (i .stand) (i′ .stand))
+    ap Targets.Locators (series-ext series series′ place (i .many ∙ many ∙ sym (i′ .many)))
 aim-once q (AimIs.divert {series} head lead i) (AimIs.divert {series = series′} head′ lead′ i′) =
     let place = ends-once (head-once q head head′) lead lead′ in
     let many = locators-count (i .are) ∙ sym (locators-count (i′ .are)) in
-    (ap Targets.Divert (series-ext series series′ place (i .many ∙ many ∙ sym (i′ .many))), all-end-once (i .items) (i′ .items) place many (i .stand) (i′ .stand))
+    ap Targets.Divert (series-ext series series′ place (i .many ∙ many ∙ sym (i′ .many)))
 
 -- an objective that may be left out
 extra-once : {s : List ℕ} {p p′ : ℕ} {x x′ : Extra} {obj : Option (Obj Value)} → ExtraIs s p x obj → ExtraIs s p′ x′ obj → x ≡ x′
@@ -174,7 +163,7 @@ described-once (Describes.discovery {session} k n i o) (Describes.discovery k′
     ap₂ (M.Discovery session) initiator (objective-once after o o′)
 described-once (Describes.response {session} {ttl} k n i t a x) (Describes.response k′ n′ i′ t′ a′ x′) =
     let (after, initiator) = initiator-once (number-once (kind-once k k′) n n′) i i′ in
-    let (targets, _) = aim-once (number-once after t t′) a a′ in
+    let targets = aim-once (number-once after t t′) a a′ in
     let extra = extra-once x x′ in
     cc
 described-once (Describes.request-negotiation {session} _ _ o) (Describes.request-negotiation _ _ o′) = ap (M.RequestNegotiation session) (objective-ended o o′)
