@@ -89,7 +89,9 @@ pub unsafe extern "C" fn LLVMFuzzerTestOneInput(data: *const u8, size: usize) ->
 /// A first byte of the sort that is asked for.
 fn asked(first: u8) -> u8 {
     match ONLY.get() {
-        Some(only) if !only.contains(&first) => only.start() + first % (only.end() - only.start()),
+        Some(only) if !only.contains(&first) => {
+            only.start() + first % (only.end() - only.start() + 1)
+        }
         _ => first,
     }
 }

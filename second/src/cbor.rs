@@ -170,7 +170,7 @@ fn shortest_width(argument: u64) -> usize {
 }
 
 /// The number that up to 8 bytes say in network byte order.
-fn big_endian(bytes: &[u8]) -> u64 {
+pub fn big_endian(bytes: &[u8]) -> u64 {
     bytes
         .iter()
         .fold(0, |number, &byte| number << 8 | u64::from(byte))

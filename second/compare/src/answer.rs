@@ -2,15 +2,7 @@
 
 use std::fmt::{self, Display, Formatter};
 
-/// Fields of a message's block that are looked at by themselves.
-pub const LIST: usize = 13;
-pub const LIST_AT: usize = 14;
-pub const LIST_MANY: usize = 15;
-
-/// How many numbers each block has.
-pub const FIELDS: usize = 19;
-pub const LOCATOR_FIELDS: usize = 5;
-pub const PAIR_FIELDS: usize = 12;
+use second::writer::layout::{FIELDS, LOCATOR_FIELDS, PAIR_FIELDS};
 
 /// What a call returned, and its block, with a word on either side of it.
 #[derive(Clone, Copy, PartialEq, Eq)]

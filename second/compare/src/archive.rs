@@ -3,8 +3,9 @@
 use second::node::{Given, BAD_RECORD};
 use second::vectors::write::Draft;
 
-use crate::answer::{untouched, Answer, Description, LIST, LIST_AT, LIST_MANY};
-use crate::answer::{LocatorAnswer, PairAnswer, ReadAnswer};
+use second::writer::layout::{LIST, LIST_AT, LIST_MANY};
+
+use crate::answer::{untouched, Answer, Description, LocatorAnswer, PairAnswer, ReadAnswer};
 use crate::guarded::Guarded;
 use crate::node::{Fresh, Host, Node};
 use crate::writing::Written;

@@ -1,22 +1,9 @@
 //! What the second program reads, said as include/grasp.h says it.
 
 use second::message::{self, Locator, Message, Objective, Outcome, Pair, Span, Target};
+use second::writer::layout::*;
 
-use crate::answer::{Answer, Description, LocatorAnswer, PairAnswer, FIELDS};
-use crate::answer::{LIST, LIST_AT, LIST_MANY, LOCATOR_FIELDS};
-
-/// Fields of a message's block.
-const KIND: usize = 0;
-const SESSION: usize = 1;
-const INITIATOR: usize = 2;
-const TTL: usize = 4;
-const HAS_OBJECTIVE: usize = 5;
-const OBJECTIVE: usize = 6;
-const OUTCOME: usize = 16;
-const ITEM: usize = 17;
-
-/// The port that stands for null.
-const NO_PORT: u64 = 65_536;
+use crate::answer::{Answer, Description, LocatorAnswer, PairAnswer};
 
 /// What must be said of the message, and of each element of its list.
 pub fn description(bytes: &[u8]) -> Description {
@@ -217,7 +204,7 @@ fn locator_fields(locator: &Locator) -> [u64; LOCATOR_FIELDS] {
             protocol,
             port,
         } => {
-            let port = port.map_or(NO_PORT, u64::from);
+            let port = port.map_or(NULL_PORT, u64::from);
             (106, text, protocol.unwrap_or(0), port)
         }
     };
@@ -228,7 +215,7 @@ fn locator_fields(locator: &Locator) -> [u64; LOCATOR_FIELDS] {
 #[cfg(test)]
 mod tests {
     use super::*;
-    use crate::answer::{ReadAnswer, PAIR_FIELDS};
+    use crate::answer::ReadAnswer;
 
     /// 01's Discovery and Flood.
     const DISCOVERY: &[u8] = b"\x84\x01\x07\x44\xC0\x00\x02\x01\x83\x63EX1\x01\x02";

@@ -2,8 +2,9 @@
 
 use second::random::Random;
 use second::vectors::damage::damaged;
+use second::vectors::message::cases;
 use second::vectors::message::generated::{long_message, message, near_message};
-use second::vectors::message::{cases, LONGEST};
+use second::vectors::LONGEST;
 
 use crate::shrink::Case;
 

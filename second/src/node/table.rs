@@ -1,5 +1,7 @@
 //! The relay table (01, "Record and relay table"): 64 rows of four numbers.
 
+use crate::cbor::big_endian;
+
 /// The rows, and the numbers of the table and of a row.
 pub const ROWS: usize = 64;
 pub const NUMBERS: usize = 4 * ROWS;
@@ -122,10 +124,4 @@ impl Row {
         };
         clock - self.admitted < life
     }
-}
-
-/// The number that up to 8 bytes say in network byte order.
-fn big_endian(bytes: &[u8]) -> u64 {
-    let more = |number, &byte| 256 * number + u64::from(byte);
-    bytes.iter().fold(0, more)
 }

@@ -8,7 +8,7 @@ mod texts;
 
 use std::collections::BTreeSet;
 
-use super::{hex, Files};
+use super::{counted, hex, Files};
 use crate::cbor::{head, is_utf8, item, put_head, Refusal};
 
 /// One question to the CBOR layer.
@@ -30,9 +30,6 @@ pub enum Case {
         buffer: Vec<u8>,
     },
 }
-
-/// The longest content of a case.
-const LONGEST: usize = 4096;
 
 /// All cases, one after the other, and the line each gives.
 pub fn files() -> Files {
@@ -95,10 +92,7 @@ impl Case {
                 (4, *major, *at, content)
             }
         };
-        assert!(content.len() <= LONGEST);
-        let length = (content.len() as u16).to_be_bytes();
-        let header = [operation, first, second, length[0], length[1]];
-        [&header[..], &content].concat()
+        [vec![operation, first, second], counted(&content)].concat()
     }
 
     /// The line that the program must print, with its line feed.

@@ -14,16 +14,13 @@ pub(super) mod texts;
 
 use std::collections::BTreeSet;
 
-use super::Files;
-
-/// The longest case.
-pub const LONGEST: usize = 4096;
+use super::{counted, Files};
 
 /// All cases, one after the other, and the line each gives.
 pub(super) fn files() -> Files {
     let cases = cases();
     Files {
-        stdin: cases.iter().flat_map(|case| stored(case)).collect(),
+        stdin: cases.iter().flat_map(|case| counted(case)).collect(),
         stdout: cases.iter().flat_map(|case| lines::line(case)).collect(),
     }
 }
@@ -89,10 +86,4 @@ fn limits_and_faults() -> Vec<Vec<Vec<u8>>> {
         generated::messages(),
         generated::near_messages(),
     ]
-}
-
-/// The case's length, then its bytes.
-fn stored(case: &[u8]) -> Vec<u8> {
-    assert!(case.len() <= LONGEST);
-    [&(case.len() as u16).to_be_bytes(), case].concat()
 }

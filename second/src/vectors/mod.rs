@@ -56,6 +56,15 @@ fn program(name: &str, files: Files) -> [Stored; 2] {
     })
 }
 
+/// The most bytes that a stored case gives at once; every program has room for as many.
+pub const LONGEST: usize = 4_096;
+
+/// A length in two bytes, then as many bytes.
+fn counted(bytes: &[u8]) -> Vec<u8> {
+    assert!(bytes.len() <= LONGEST);
+    [&(bytes.len() as u16).to_be_bytes(), bytes].concat()
+}
+
 /// Bytes as lower-case hexadecimal digits.
 pub fn hex(bytes: &[u8]) -> String {
     bytes.iter().map(|byte| format!("{byte:02x}")).collect()

@@ -18,7 +18,7 @@ use std::collections::BTreeSet;
 
 pub use draft::Draft;
 
-use super::{hex, Files};
+use super::{counted, hex, Files};
 use crate::writer::{answer, lower, rewrite};
 
 /// One question to the writer.
@@ -49,9 +49,8 @@ pub enum Case {
 /// What a writing gives: the encoding or the refusal's number.
 pub type Outcome = Result<Vec<u8>, u8>;
 
-/// The most numbers in a list, bytes of a source or message, and bytes of an output.
+/// The most numbers in a list, and bytes of an output.
 const MOST_LISTED: usize = 2_000;
-const LONGEST: usize = 4_096;
 const MOST_OUTPUT: usize = 2_100;
 
 /// The output's bytes before the call.
@@ -159,7 +158,7 @@ impl Case {
             } => {
                 let places = [at.to_be_bytes(), end.to_be_bytes()].concat();
                 let rest = [places, vec![*count], output(*out_len)];
-                [vec![2], counted(message, LONGEST), rest.concat()].concat()
+                [vec![2], counted(message), rest.concat()].concat()
             }
             Case::Answer {
                 session,
@@ -175,7 +174,7 @@ impl Case {
                 [before.concat(), after.concat(), output(*out_len)].concat()
             }
             Case::Rewrite { message, out_len } => {
-                [vec![4], counted(message, LONGEST), output(*out_len)].concat()
+                [vec![4], counted(message), output(*out_len)].concat()
             }
         }
     }
@@ -222,12 +221,6 @@ impl Case {
             Case::Rewrite { message, out_len } => (rewrite(message, *out_len), *out_len),
         }
     }
-}
-
-/// A length in two bytes, then as many bytes.
-fn counted(bytes: &[u8], most: usize) -> Vec<u8> {
-    assert!(bytes.len() <= most);
-    [&(bytes.len() as u16).to_be_bytes(), bytes].concat()
 }
 
 /// The output's length in two bytes.

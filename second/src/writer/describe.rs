@@ -153,13 +153,13 @@ fn locator(locator: &Locator) -> [u64; LOCATOR_FIELDS] {
             port,
         } => (URI, span(text), *protocol, *port),
     };
-    let protocol = protocol.map_or(NO_PROTOCOL, u64::from);
+    let protocol = protocol.map_or(NULL_PROTOCOL, u64::from);
     [
         u64::from(kind),
         at,
         length,
         protocol,
-        port.map_or(NO_PORT, u64::from),
+        port.map_or(NULL_PORT, u64::from),
     ]
 }
 

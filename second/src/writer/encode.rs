@@ -186,12 +186,12 @@ impl<'a> Block<'a> {
             _ => return None,
         };
         let protocol = match self.take(first + PROTOCOL) {
-            NO_PROTOCOL if kind == URI => null(),
+            NULL_PROTOCOL if kind == URI => null(),
             said if said == u64::from(TCP) || said == u64::from(UDP) => number(said),
             _ => return None,
         };
         let port = match self.take(first + PORT) {
-            NO_PORT if kind == URI => null(),
+            NULL_PORT if kind == URI => null(),
             said if said <= MOST_PORT => number(said),
             _ => return None,
         };

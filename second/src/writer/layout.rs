@@ -15,11 +15,11 @@ pub const OUTCOME: usize = 16;
 pub const ITEM: usize = 17;
 pub const FIELDS: usize = 19;
 
-/// An objective, in the block from `OBJECTIVE` on and in the row of a pair; `COUNT_AT` is always 0.
+/// An objective, in the block from `OBJECTIVE` on and in the row of a pair; between its count and
+/// its value stands the place of the count, which only a reader gives.
 pub const NAME: usize = 0;
 pub const FLAGS: usize = 2;
 pub const COUNT: usize = 3;
-pub const COUNT_AT: usize = 4;
 pub const VALUE: usize = 5;
 
 /// A locator, as a row and in the row of a pair.
@@ -44,5 +44,5 @@ pub const DECLINED: u64 = 2;
 pub const DECLINED_WITH_REASON: u64 = 3;
 
 /// The protocol and the port that stand for null.
-pub const NO_PROTOCOL: u64 = 0;
-pub const NO_PORT: u64 = 65_536;
+pub const NULL_PROTOCOL: u64 = 0;
+pub const NULL_PORT: u64 = 65_536;

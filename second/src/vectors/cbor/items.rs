@@ -4,20 +4,10 @@ use std::collections::BTreeSet;
 
 use super::super::arbitrary::tree;
 use super::super::damage::plain_and_damaged;
-use super::super::encode::shortest_head;
+use super::super::encode::{held, shortest_head, AROUND};
 use super::super::unhex;
 use super::{item_and_head, Case};
 use crate::random::Random;
-
-/// The bytes before and after an item that hold it one level down.
-const AROUND: &[(&str, &str)] = &[
-    ("81", ""),
-    ("82 00", ""),
-    ("A1", "00"),
-    ("A1 00", ""),
-    ("C0", ""),
-    ("D9 D9F7", ""),
-];
 
 /// Open levels to stand under.
 const LEVELS: [u8; 12] = [0, 1, 2, 3, 4, 5, 6, 7, 8, 9, 10, 255];
@@ -34,20 +24,12 @@ const FAULTY: &[&str] = &[
 ];
 
 /// An item `depth` levels down, held by each sort of container alone and by all in turn.
-fn nested(depth: u8, inside: &[u8]) -> BTreeSet<Vec<u8>> {
+fn nested(depth: usize, inside: &[u8]) -> BTreeSet<Vec<u8>> {
     let alone = AROUND.iter().map(std::slice::from_ref);
     alone
         .chain([AROUND])
         .map(|sorts| held(depth, inside, sorts))
         .collect()
-}
-
-/// An item `depth` levels down, held by these sorts of container in turn.
-fn held(depth: u8, inside: &[u8], sorts: &[(&str, &str)]) -> Vec<u8> {
-    let outward = sorts.iter().cycle().take(usize::from(depth));
-    outward.fold(inside.to_vec(), |bytes, (before, after)| {
-        [unhex(before), bytes, unhex(after)].concat()
-    })
 }
 
 /// 0 to 9 levels deep under every number of open levels.
@@ -69,7 +51,7 @@ pub fn innermost() -> Vec<Case> {
         for above in [7, 8] {
             for inside in INNERMOST.iter().chain(FAULTY) {
                 let depth = u8::saturating_sub(above, levels);
-                let bytes = held(depth, &unhex(inside), AROUND);
+                let bytes = held(usize::from(depth), &unhex(inside), AROUND);
                 cases.push(Case::Item { levels, bytes });
             }
         }

@@ -1,25 +1,13 @@
 //! Levels 8 and 9 in every place.
 
+use super::super::encode::{held, AROUND};
 use super::super::unhex;
 use super::parts::*;
 use super::term::{encoded, Term};
 
-/// The bytes before and after an item that hold it one level down.
-pub const AROUND: &[(&str, &str)] = &[
-    ("81", ""),
-    ("82 00", ""),
-    ("A1", "00"),
-    ("A1 00", ""),
-    ("C0", ""),
-    ("D9 D9F7", ""),
-];
-
 /// An item inside so many containers, of these sorts in turn.
 pub fn nest(depth: usize, inside: &str, sorts: &[(&str, &str)]) -> Term {
-    let outward = sorts.iter().cycle().take(depth);
-    Term::Raw(outward.fold(unhex(inside), |bytes, (before, after)| {
-        [unhex(before), bytes, unhex(after)].concat()
-    }))
+    Term::Raw(held(depth, &unhex(inside), sorts))
 }
 
 /// Values of 5 to 8 levels in every place of a value, by each sort of container and by all.

@@ -1,10 +1,8 @@
 //! What a list of steps is made of, how it is stored and what comes of it.
 
+use super::super::counted;
 use crate::history::Stepped;
 use crate::negotiation::{step, Side, State};
-
-/// The most bytes of a message.
-const LONGEST: usize = 4_096;
 
 /// A step, or a state that is put in the place of the one that is there.
 #[derive(Clone)]
@@ -80,11 +78,7 @@ impl Op {
     /// Its number and what it takes; only an open state has a session, a count and a turn.
     fn stored(&self) -> Vec<u8> {
         match self {
-            Op::Step { message, sender } => {
-                assert!(message.len() <= LONGEST);
-                let length = (message.len() as u16).to_be_bytes();
-                [&[2, side(*sender)][..], &length, message].concat()
-            }
+            Op::Step { message, sender } => [vec![2, side(*sender)], counted(message)].concat(),
             Op::Put(state) => {
                 let (phase, session, count, turn) = match state {
                     State::Fresh => (0, 0, 0, 0),

@@ -1,7 +1,8 @@
 //! 01, "Bytes at the edges", as stories.
 
 use super::super::edges::AT_THE_EDGES;
-use super::super::message::levels::{nest, AROUND};
+use super::super::encode::AROUND;
+use super::super::message::levels::nest;
 use super::super::message::parts::*;
 use super::super::message::sizes::of_length;
 use super::super::message::term::Term;

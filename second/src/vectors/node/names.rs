@@ -1,7 +1,8 @@
 //! Own names: good and bad ones, and what is answered.
 
 use super::super::encode::head_forms;
-use super::super::message::levels::{nest, AROUND};
+use super::super::encode::AROUND;
+use super::super::message::levels::nest;
 use super::super::message::parts::{array, text};
 use super::super::message::term::Term;
 use super::super::message::texts::{BAD, GOOD};

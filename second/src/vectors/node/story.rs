@@ -1,13 +1,12 @@
 //! What a story is made of, how it is stored and what comes of it.
 
-use super::super::hex;
+use super::super::{counted, hex};
 use super::state::{State, MOST_NUMBERS};
 use crate::history::{Called, History};
 use crate::message::MOST_BYTES;
 use crate::node::{Answer, Given, Record};
 
-/// The most bytes of names and of a message, and of an output.
-const LONGEST: usize = 4_096;
+/// The most bytes of an output.
 const MOST_OUTPUT: usize = 2_100;
 
 /// The address of 01's example.
@@ -230,10 +229,4 @@ fn record(address: &[u8; 16], port: u16, ttl: u32, rest: &[u64]) -> Vec<u8> {
 /// The count or the mask of a record that is put: the program's type holds no greater one.
 fn byte(number: u64) -> u8 {
     u8::try_from(number).expect("one byte")
-}
-
-/// A length in two bytes, then as many bytes.
-fn counted(bytes: &[u8]) -> Vec<u8> {
-    assert!(bytes.len() <= LONGEST);
-    [&(bytes.len() as u16).to_be_bytes(), bytes].concat()
 }

@@ -1,7 +1,8 @@
 //! Descriptions to build cases from.
 
+use super::super::counted;
 use super::super::message::term::Term;
-use super::{counted, output, Case, Outcome, LONGEST, MOST_LISTED, MOST_OUTPUT};
+use super::{output, Case, Outcome, MOST_LISTED, MOST_OUTPUT};
 use crate::random::Random;
 use crate::writer::layout::*;
 use crate::writer::{describe, write};
@@ -218,7 +219,7 @@ impl Draft {
         let numbers = |numbers: &[u64]| numbers.iter().flat_map(|n| n.to_be_bytes()).collect();
         let fields: Vec<u8> = numbers(&self.fields);
         let many = (self.list.len() as u16).to_be_bytes().to_vec();
-        let source = counted(&self.source, LONGEST);
+        let source = counted(&self.source);
         [
             fields,
             many,

@@ -1,6 +1,7 @@
 //! Values and items: their levels, and what is not exactly one well-formed item.
 
-use super::super::message::levels::{nest, AROUND};
+use super::super::encode::AROUND;
+use super::super::message::levels::nest;
 use super::super::message::parts::*;
 use super::super::unhex;
 use super::draft::Slot;

@@ -2,7 +2,8 @@
 
 use super::super::message::parts::*;
 use super::super::message::term::Term;
-use super::{Case, LONGEST, MOST_OUTPUT};
+use super::super::LONGEST;
+use super::{Case, MOST_OUTPUT};
 use crate::message::{read, Message, Objective, Span, MOST_BYTES};
 use crate::random::Random;
 

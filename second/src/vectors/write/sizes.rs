@@ -2,8 +2,9 @@
 
 use super::super::encode::shortest_head;
 use super::super::message::parts::*;
+use super::super::LONGEST;
 use super::draft::Slot;
-use super::{Case, Draft, LONGEST, MOST_OUTPUT};
+use super::{Case, Draft, MOST_OUTPUT};
 use crate::message::MOST_BYTES;
 use crate::writer::layout::*;
 

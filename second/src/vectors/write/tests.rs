@@ -41,8 +41,8 @@ fn locator(source: &[u8], said: &[u64]) -> Option<Term> {
         _ => Term::Text(place),
     };
     let or_null = |said, none| if said == none { null() } else { number(said) };
-    let protocol = or_null(said[PROTOCOL], NO_PROTOCOL);
-    let port = or_null(said[PORT], NO_PORT);
+    let protocol = or_null(said[PROTOCOL], NULL_PROTOCOL);
+    let port = or_null(said[PORT], NULL_PORT);
     Some(array([number(said[LOCATOR_KIND]), place, protocol, port]))
 }
 
