@@ -61,5 +61,5 @@ blockOf (M.Negotiate session o) = exchangeBlock 5 session o
 blockOf (M.End session outcome) = outcomeBlock (openedBlock 6 session (spanOf 0 0) 0) outcome
 blockOf (M.Wait session time) = openedBlock 7 session (spanOf 0 0) time
 blockOf (M.Synch session o) = exchangeBlock 8 session o
-blockOf (M.Flood session initiator ttl first pairs) = withSeries (withObjective (openedBlock 9 session initiator ttl) first) 3 pairs
+blockOf (M.Flood session initiator ttl first pairs) = withSeries (withObjective (openedBlock 9 session initiator ttl) (first .objective)) 3 pairs
 blockOf (M.Invalid session item) = withSpan (openedBlock 99 session (spanOf 0 0) 0) 0 item

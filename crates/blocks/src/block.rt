@@ -59,7 +59,8 @@ pub fn fill(b: &mut [u64; 19], m: Message)
             pairs,
         } => {
             put_opening(b, 9, session, initiator, ttl);
-            put_objective(b, first);
+            let objective = first.objective;
+            put_objective(b, objective);
             put_series(b, 3, pairs);
         }
         Message::Invalid { session, item } => {

@@ -57,7 +57,7 @@ objectiveOf (M.Negotiate session objective) = Extra.With objective
 objectiveOf (M.End session outcome) = Extra.Without
 objectiveOf (M.Wait session time) = Extra.Without
 objectiveOf (M.Synch session objective) = Extra.With objective
-objectiveOf (M.Flood session initiator ttl first pairs) = Extra.With first
+objectiveOf (M.Flood session initiator ttl first pairs) = Extra.With (first .objective)
 objectiveOf (M.Invalid session item) = Extra.Without
 
 -- an objective's count, 0 where there is none

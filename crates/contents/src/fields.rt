@@ -81,7 +81,10 @@ pub fn objective_of(m: Message) -> Extra
         Message::End { .. } => Extra::Without,
         Message::Wait { .. } => Extra::Without,
         Message::Synch { objective, .. } => Extra::With(objective),
-        Message::Flood { first, .. } => Extra::With(first),
+        Message::Flood { first, .. } => {
+            let objective = first.objective;
+            Extra::With(objective)
+        }
         Message::Invalid { .. } => Extra::Without,
     }
 }

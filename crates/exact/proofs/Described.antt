@@ -3,21 +3,29 @@
 -- Assumes nothing.
 use mathlib.Core.Path.{_≡_, refl, sym, ap, ap₂, _∙_, subst}
 use mathlib.Core.List.{List}
-use mathlib.Core.Option.{Option}
+use mathlib.Core.Option.{Option, none, some}
 use Prim.Native.Nat.{ℕ, suc, _+_, _-_, _≤_}
 use native.Mathlib.Omega.{arith}
 use lib.ListN.{length, drop}
+use lib.Dec.{eqb}
+use borrow.Author.Tests.{eqb-true}
 use Rattle.base.specs.Pick.{pick}
+use Rattle.base.proofs.Picks.{pick-case}
 use Rattle.cbor.specs.declared.head.HeadRead.{HeadRead}
 use Rattle.cbor.specs.Head.{leastOf, headAt}
 use Rattle.cbor.specs.Tree.{Item, Items, Sized, shortest, headBytes, count, encode}
 use Rattle.cbor.proofs.HeadExact.{shortest-case, length-head, head-read}
 use Rattle.options.specs.declared.Span.{Span}
+use Rattle.options.specs.declared.locator.Locator.{Locator}
+use Rattle.options.specs.declared.locator.Locator.the-variants as L
 use Rattle.options.specs.declared.objective.Objective.{Objective}
+use Rattle.options.specs.declared.pair.Tag.{Tag}
+use Rattle.options.specs.declared.pair.Pair as P
 use Rattle.options.specs.Text.{spanOf}
-use Rattle.syntax.specs.Message.{Loc, Obj, Pair, Aim, Ending, Msg}
+use Rattle.options.specs.Locator.{nullProtocol, nullPort}
+use Rattle.syntax.specs.Message.{Loc, orNull, Obj, Pair, Aim, Ending, Msg}
 use Rattle.grammar.specs.Cddl.{uint, LocatorItems, PairItems, Value}
-use Rattle.grammar.specs.Stands.{Stands, ArrayHead, ValueIs, ObjectiveIs}
+use Rattle.grammar.specs.Stands.{Stands, ArrayHead, Before, Addressed, TagIs, ValueIs, ObjectiveIs}
 use Rattle.grammar.proofs.Bridge.{stands-once}
 use Rattle.message.specs.declared.Series.{Series}
 use Rattle.message.specs.declared.Targets.{Targets}
@@ -50,11 +58,15 @@ kind-once a b = ends-once (head-once refl (a .opened) (b .opened)) (a .stands) (
 number-once : {s : List ℕ} {p p′ e e′ n : ℕ} → p ≡ p′ → NumberIs s p e n → NumberIs s p′ e′ n → e ≡ e′
 number-once q a b = ends-once q (a .stands) (b .stands)
 
+-- the span of a content
+before-once : (content : List ℕ) {p p′ : ℕ} {i i′ : Span} → p ≡ p′ → Before p content i → Before p′ content i′ → i ≡ i′
+before-once content e a b = a ∙ ap (λ (k : ℕ). spanOf (k - length content) (length content)) e ∙ sym b
+
 -- an initiator, and its span
 initiator-once : {s : List ℕ} {p p′ e e′ : ℕ} {i i′ : Span} {from : List ℕ} → p ≡ p′ → InitiatorIs s p e i from → InitiatorIs s p′ e′ i′ from → (e ≡ e′) × (i ≡ i′)
 initiator-once {from = from} q a b =
     let same = ends-once q (a .stands) (b .stands) in
-    (same, a .held ∙ ap (λ (k : ℕ). spanOf (k - length from) (length from)) same ∙ sym (b .held))
+    (same, before-once from same (a .held) (b .held))
 
 -- ---- from one end
 -- no other width than the shortest is without fault
@@ -99,7 +111,7 @@ objective-from : {s : List ℕ} {p p′ e e′ : ℕ} {o o′ : Objective} {obj 
 objective-from {o = o} {o′} {obj} a b flags =
     let counts = ends-once flags (a .flags-item) (b .flags-item) in
     let value = ends-once counts (a .count-item) (b .count-item) in
-    objective-ext o o′ (a .name ∙ ap (λ (k : ℕ). spanOf (k - length (obj .name)) (length (obj .name))) flags ∙ sym (b .name)) (a .flags ∙ sym (b .flags)) (a .count ∙ sym (b .count)) counts
+    objective-ext o o′ (before-once (obj .name) flags (a .name) (b .name)) (a .flags ∙ sym (b .flags)) (a .count ∙ sym (b .count)) counts
     (span-ext (o .value) (o′ .value) value (value-once (a .value) (b .value)))
 
 -- from one start
@@ -112,6 +124,36 @@ objective-ended {o = o} {o′} a b =
     let value : o .value .at ≡ o′ .value .at = omega (arith, a .ends, b .ends, value-once (a .value) (b .value)) in
     objective-from a b (number-begins (number-begins value (a .count-item) (b .count-item)) (a .flags-item) (b .flags-item))
 
+-- ---- locators and tags
+-- a number that may stand for null
+null-once : (null n n′ : ℕ) → orNull null n ≡ orNull null n′ → n ≡ n′
+unfolding orNull
+null-once null n n′ e = sym (back n) ∙ ap number e ∙ back n′
+  where
+    number : Option ℕ → ℕ
+    number none = null
+    number (some n) = n
+
+    back : (n : ℕ) → number (orNull null n) ≡ n
+    back n = pick-case (λ (x : Option ℕ). number x ≡ n) (eqb n null) (λ t. sym (eqb-true n null t)) (λ _. refl)
+
+-- by a locator's items
+addressed-once : {p p′ : ℕ} {kind kind′ address address′ : Item} {l l′ : Locator} {loc : Loc} → p ≡ p′ → Addressed p kind address l loc → Addressed p′ kind′ address′ l′ loc → l ≡ l′
+addressed-once e (Addressed.v6 {protocol = protocol} {port} {a} h) (Addressed.v6 h′) = ap (λ (i : Span). L.V6 (i .at) protocol port) (before-once a e h h′)
+addressed-once e (Addressed.v4 {protocol = protocol} {port} {a} h) (Addressed.v4 h′) = ap (λ (i : Span). L.V4 (i .at) protocol port) (before-once a e h h′)
+addressed-once e (Addressed.domain {protocol = protocol} {port} {a = a} h) (Addressed.domain h′) = ap (λ (i : Span). L.Domain i protocol port) (before-once a e h h′)
+addressed-once e (Addressed.uri {protocol = protocol} {port} {a = a} h x y) (Addressed.uri {protocol = protocol′} {port = port′} h′ x′ y′) =
+    let same = before-once a e h h′ in
+    let first = null-once nullProtocol protocol protocol′ (x ∙ sym x′) in
+    let second = null-once nullPort port port′ (y ∙ sym y′) in
+    cc
+
+-- from one start
+tag-once : {s : List ℕ} {p p′ : ℕ} {t t′ : Tag} {loc : Option Loc} → p ≡ p′ → TagIs s p t loc → TagIs s p′ t′ loc → t ≡ t′
+tag-once q TagIs.empty TagIs.empty = refl
+tag-once q (TagIs.at a) (TagIs.at b) =
+    ap Tag.At (addressed-once (ends-once (ends-once (head-once q (a .opened) (b .opened)) (a .kind-item) (b .kind-item)) (a .address-item) (b .address-item)) (a .is) (b .is))
+
 -- ---- series, and what a Response holds
 -- series by their parts
 abbrev series-of : ℕ → ℕ → Series
@@ -119,6 +161,10 @@ series-of at many = record { at = at; many = many }
 
 series-ext : (i i′ : Series) → i .at ≡ i′ .at → i .many ≡ i′ .many → i ≡ i′
 series-ext i i′ a b = ap₂ (λ (at many : ℕ). series-of at many) a b
+
+-- a pair by its parts
+abbrev pair-of : Objective → Tag → P.Pair
+pair-of objective tag = record { objective = objective; tag = tag }
 
 -- there are as many items as locators
 pub locators-count : {xs : Items} {ls : List Loc} → LocatorItems xs ls → count xs ≡ length ls
@@ -172,10 +218,12 @@ described-once (Describes.negotiate {session} _ _ o) (Describes.negotiate _ _ o�
 described-once (Describes.end {session} r) (Describes.end r′) = ap (M.End session) (outcome-once r r′)
 described-once Describes.wait Describes.wait = refl
 described-once (Describes.synch {session} _ _ o) (Describes.synch _ _ o′) = ap (M.Synch session) (objective-ended o o′)
-described-once (Describes.flood {series = series} k n i t is h o) (Describes.flood {series = series′} k′ n′ i′ t′ is′ h′ o′) =
+described-once (Describes.flood {first = first} {series = series} k n i t is h o tag) (Describes.flood {first = first′} {series = series′} k′ n′ i′ t′ is′ h′ o′ tag′) =
     let (after, initiator) = initiator-once (number-once (kind-once k k′) n n′) i i′ in
     let place = number-once after t t′ in
-    let first = objective-once (head-once place h h′) o o′ in
+    let objective = objective-once (head-once place h h′) o o′ in
+    let tagged = tag-once (o .ends ∙ ap (λ (x : Objective). x .value .at + x .value .len) objective ∙ sym (o′ .ends)) tag tag′ in
+    let pair = ap₂ (λ (x : Objective) (y : Tag). pair-of x y) objective tagged in
     let pairs = series-ext series series′ place (is .many ∙ pairs-count (is .are) ∙ sym (pairs-count (is′ .are)) ∙ sym (is′ .many)) in
     cc
 described-once (Describes.invalid {session} {span = span} k n v e) (Describes.invalid {span = span′} k′ n′ v′ e′) =

@@ -12,6 +12,7 @@ use Rattle.base.specs.Lists.{Every}
 use Rattle.cbor.specs.Tree.{Item, Items, count, depth, depths}
 use Rattle.options.specs.declared.objective.Objective.{Objective}
 use Rattle.options.specs.declared.pair.Tag.{Tag}
+use Rattle.options.specs.declared.pair.Pair as P
 use Rattle.options.specs.declared.pair.PairRead.{PairRead}
 use Rattle.options.specs.Text.{firstOf}
 use Rattle.options.specs.Pair.{pairAt}
@@ -84,7 +85,7 @@ module _ {s : List ℕ} (b : Bytes s) where
 
 module _ {s : List ℕ} {n at next : ℕ} (k : Kinded s 9 n at) {opening : Opening} (h : OpeningHere s at next opening) {parts : ℕ} (counted : n ≡ 4 + parts) (some : 1 ≤ parts) where
   -- the first pair and the others are the message
-  flooded-by-sound : {e bad long : ℕ} {first : Objective} {t : Tag} → PairStands s next e first t bad long → (x : PairsRead) → PairsOk s e (parts - 1) bad long x
+  flooded-by-sound : {e bad long : ℕ} {first : P.Pair} → PairStands s next e (first .objective) (first .tag) bad long → (x : PairsRead) → PairsOk s e (parts - 1) bad long x
       → ShapeOk s (floodedBy opening first (record { at = next; many = parts }) x)
   unfolding floodedBy count textsOf namesOf flatMap
   flooded-by-sound i _ PairsOk.refused = ShapeOk.bad
@@ -95,7 +96,7 @@ module _ {s : List ℕ} {n at next : ℕ} (k : Kinded s 9 n at) {opening : Openi
       (join (h .session .stands) (join (h .initiator .stands) (join (h .ttl .stands) stand)))
       (λ w v. MessageItem.flood (Number.number (h .session .low)) (Initiator.initiator (h .initiator .size)) (Number.number (h .ttl .low)) pairs)
       (λ full. Describes.flood (kind-is k) (number-is-here (h .session)) (initiator-is (h .initiator)) (number-is-here (h .ttl))
-      (record { items = Items.more (i .item) (r .items); stand = subst (λ (e : ℕ). StandAll s next e (Items.more (i .item) (r .items))) full stand; many = omega (arith, r .counted); are = pairs }) (i .opened) (i .objective))
+      (record { items = Items.more (i .item) (r .items); stand = subst (λ (e : ℕ). StandAll s next e (Items.more (i .item) (r .items))) full stand; many = omega (arith, r .counted); are = pairs }) (i .opened) (i .objective) (i .tag))
       (then-noted Utf8 (pairTexts (i .pair)) (flatMap pairTexts (r .pairs)) (i .texts) (r .texts))
       (then-noted Short (i .pair .0 .name ∷ []) (map pairName (r .pairs)) (single (i .names)) (r .names))
 
@@ -103,8 +104,8 @@ module _ {s : List ℕ} {n at next : ℕ} (k : Kinded s 9 n at) {opening : Openi
   flooded-of-sound : (x : PairRead) → pairAt s next ≡ x → ShapeOk s (floodedOf s opening parts next x)
   unfolding floodedOf
   flooded-of-sound (PairRead.Bad place) e = ShapeOk.bad
-  flooded-of-sound (PairRead.Got first t size bad long) e =
-      let i = pair-sound s next first t size bad long (k .bytes) e in
+  flooded-of-sound (PairRead.Got o t size bad long) e =
+      let i = pair-sound s next o t size bad long (k .bytes) e in
       flooded-by-sound i _ (pairs-sound (k .bytes) (parts - 1) (next + size) bad long (i .stands .within))
 
 -- after the opening

@@ -21,6 +21,7 @@ use Rattle.cbor.proofs.Passes.{Passes, passes-none, passes-then, passes-within,
 use Rattle.options.specs.declared.locator.LocatorRead.{LocatorRead}
 use Rattle.options.specs.declared.objective.Objective.{Objective}
 use Rattle.options.specs.declared.objective.ObjectiveRead.{ObjectiveRead}
+use Rattle.options.specs.declared.pair.Pair.{Pair}
 use Rattle.options.specs.declared.pair.PairRead.{PairRead}
 use Rattle.options.specs.Text.{firstOf}
 use Rattle.options.specs.Locator.{locatorAt}
@@ -237,13 +238,13 @@ module _ (s : List ℕ) where
   unfolding floodedAt floodedOf floodedBy
   flooded-walked n p opening some = by (pairAt s p) (pair-walked p (drop p s))
     where
-      all : (m : ℕ) (first : Objective) (pairs : Series) (x : PairsRead) → PairsWalked (n - 1) m x → ShapeWalked (n - 1) m (floodedBy opening first pairs x)
+      all : (m : ℕ) (first : Pair) (pairs : Series) (x : PairsRead) → PairsWalked (n - 1) m x → ShapeWalked (n - 1) m (floodedBy opening first pairs x)
       all m first pairs (PairsRead.Bad place) h = ShapeWalked.refused
       all m first pairs (PairsRead.Ran end bad long) h = ShapeWalked.walked h
 
       by : (x : PairRead) → PairWalked (drop p s) x → ShapeWalked n p (floodedOf s opening n p x)
       by (PairRead.Bad place) h = ShapeWalked.refused
-      by (PairRead.Got first tag size bad long) h = after (omega arith) (passes-within h) (all (p + size) first _ (pairsFrom s (n - 1) (p + size) bad long) (pairs-walked (n - 1) (p + size) bad long))
+      by (PairRead.Got o tag size bad long) h = after (omega arith) (passes-within h) (all (p + size) _ _ (pairsFrom s (n - 1) (p + size) bad long) (pairs-walked (n - 1) (p + size) bad long))
 
   -- 9, Flood
   flood-walked : (n p : ℕ) → ShapeWalked (n - 1) p (floodAt s n p)

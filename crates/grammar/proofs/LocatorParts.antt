@@ -1,6 +1,6 @@
 -- The four kinds of locators have one shape: a kind, an address, a protocol and a port. What the readers of these parts answer, and which items they are.
 -- Assumes nothing.
-use mathlib.Core.Path.{_≡_, refl, sym, ap, _∙_, subst}
+use mathlib.Core.Path.{_≡_, refl, sym, ap, ap₂, _∙_, subst}
 use mathlib.Core.Logic.{_↔_}
 use mathlib.Core.List.{List, [], _∷_}
 use mathlib.Core.Bool.{Bool, true, false, cond}
@@ -19,12 +19,12 @@ use Rattle.cbor.specs.declared.token.Token.{Token}
 use Rattle.cbor.specs.Tree.{Item}
 use Rattle.cbor.specs.Token.{tokenAt}
 use Rattle.cbor.proofs.Tokens.{token-is}
-use Rattle.options.specs.Text.{badText}
+use Rattle.options.specs.Text.{spanOf, badText}
 use Rattle.options.specs.Locator.{isNull, addressFits, protocolOf, portOf, locatorOf, textOf}
 use Rattle.syntax.specs.Message.{Loc, orNull}
 use Rattle.grammar.specs.Cddl.{uint, null, array, Protocol, Port, OrNull, LocatorItem}
 use Rattle.grammar.specs.Limits.{Utf8, locTexts}
-use Rattle.grammar.specs.Stands.{Stands, locOf}
+use Rattle.grammar.specs.Stands.{Stands, locOf, Addressed}
 use Rattle.grammar.proofs.Bridge.{Heading, token-heading, small-heading, number-token, null-token}
 use Rattle.grammar.proofs.Pieces.{Is, number-at, null-at}
 use Rattle.grammar.proofs.Texts.{bad-text}
@@ -93,6 +93,15 @@ shape-item m at len content (Address.v6 long) i j = rw (front (drop at m) len 16
 shape-item m at len content (Address.v4 long) i j = rw (front (drop at m) len 4 content long) (LocatorItem.v4 long (plain (λ e. omega arith) i) (plain (λ e. omega arith) j))
 shape-item m at len content Address.domain i j = rw content (LocatorItem.domain (plain (λ e. omega arith) i) (plain (λ e. omega arith) j))
 shape-item m at len content Address.uri i j = rw content (LocatorItem.uri (uri-protocol i) (uri-port j))
+
+-- its numbers, and its place right before p
+pub shape-addressed : (m : List ℕ) (at len p pn qn : ℕ) {k u kind : ℕ} {t : Bool} {a : List ℕ} → take len (drop at m) ≡ a → at ≡ p - length a → len ≡ length a → Address kind t a
+    → Addressed p (uint k kind) (Item.string t u a) (locatorOf kind at len pn qn) (locOf m (locatorOf kind at len pn qn))
+unfolding locOf locatorOf pick
+shape-addressed m at len p pn qn content place size (Address.v6 long) = rw (front (drop at m) len 16 content long) (Addressed.v6 (ap₂ spanOf place (sym long)))
+shape-addressed m at len p pn qn content place size (Address.v4 long) = rw (front (drop at m) len 4 content long) (Addressed.v4 (ap₂ spanOf place (sym long)))
+shape-addressed m at len p pn qn content place size Address.domain = rw content (Addressed.domain (ap₂ spanOf place size))
+shape-addressed m at len p pn qn content place size Address.uri = rw content (Addressed.uri (ap₂ spanOf place size) refl refl)
 
 -- its bad text, which an address of bytes never is
 pub shape-texts : (m : List ℕ) (at len pn qn : ℕ) (text : List ℕ) (place : ℕ) {kind : ℕ} {t : Bool} → text ≡ take len (drop at m) → (place ≡ 0 → ⊥)

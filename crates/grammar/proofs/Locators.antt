@@ -1,7 +1,7 @@
 -- A locator that is read stands in the message as an item that the CDDL calls this locator (`locator-sound`), and every such item is read, wherever it
 -- stands, and as this locator (`locator-read`).
 -- Assumes nothing.
-use mathlib.Core.Path.{_≡_, refl, sym, ap, subst}
+use mathlib.Core.Path.{_≡_, refl, sym, ap, _∙_, subst}
 use mathlib.Core.Logic.{_↔_}
 use mathlib.Core.List.{List}
 use mathlib.Core.Bool.{true, cond}
@@ -27,11 +27,11 @@ use Rattle.options.specs.Locator.{addressFits, protocolOf, portOf, locatorOf, t
 use Rattle.syntax.specs.Message.{Loc}
 use Rattle.grammar.specs.Cddl.{LocatorItem}
 use Rattle.grammar.specs.Limits.{Utf8, locTexts}
-use Rattle.grammar.specs.Stands.{Stands, locOf}
-use Rattle.grammar.proofs.Bridge.{split, join, last, only, lift-first, sink-first, advances, string-major, token-heading, number-token, text-token, array-token}
-use Rattle.grammar.proofs.Pieces.{array-items, number-is, number-here, content-bytes, text-at, array-at, content-there}
+use Rattle.grammar.specs.Stands.{Stands, ArrayHead, locOf, LocatorIs}
+use Rattle.grammar.proofs.Bridge.{split, join, last, only, lift, lift-first, sink-first, advances, string-major, token-heading, number-token, text-token, array-token}
+use Rattle.grammar.proofs.Pieces.{array-items, number-is, number-here, content-bytes, text-size, text-at, array-head, array-at, lift-head, content-there}
 use Rattle.grammar.proofs.One.{locator-one}
-use Rattle.grammar.proofs.LocatorParts.{AddressIs, Shape, shape-of, shape-item, shape-texts, protocol-here, port-here, address-here, protocol-reads, port-reads, address-reads}
+use Rattle.grammar.proofs.LocatorParts.{AddressIs, Shape, shape-of, shape-item, shape-addressed, shape-texts, protocol-here, port-here, address-here, protocol-reads, port-reads, address-reads}
 
 -- the locator l, read from p to e of the message m with a bad text at `bad`: the item that stands there, and the locator that it is
 pub record LocatorStands (m : List ℕ) (p e : ℕ) (l : Locator) (bad : ℕ) : Type 0 where
@@ -39,7 +39,7 @@ pub record LocatorStands (m : List ℕ) (p e : ℕ) (l : Locator) (bad : ℕ) : 
   pub loc : Loc
   pub stands : Stands m p e item
   pub is : LocatorItem item loc
-  pub described : locOf m l ≡ loc
+  pub described : LocatorIs m p l loc
   pub texts : bad ≡ 0 ↔ Every Utf8 (locTexts loc)
 
 -- ---- sound
@@ -95,6 +95,7 @@ sound m base by =
         let ha = token-heading s 0 a bytes refl (omega arith) in
         let hb = token-heading s (k .next) b bytes refl (omega (arith, fits .major, string-major (fits .text))) in
         let (string, long) = text-at hb (fits .text) (fits .major) (content-bytes s b bytes) in
+        let size : b .next - b .body ≡ length (contentIn s b) = text-size hb (fits .text) (fits .major) ∙ sym long in
         let protocol = protocol-here s (b .next) p refl kind some-protocol in
         let port = port-here s (p .next) q refl bytes kind some-port in
         let address = fits .is (contentIn s b) long in
@@ -107,7 +108,18 @@ sound m base by =
           loc = _;
           stands = lift-first (array-at ha array four (join (lead .stands) (join (string .stands) (join (protocol .stands) (last (port .stands))))));
           is = shape-item m (base + b .body) (b .next - b .body) content address (protocol .is) (port .is);
-          described = refl;
+          described =
+              record {
+                kind-at = base + a .next;
+                address-at = base + k .next;
+                protocol-at = base + b .next;
+                kind = _;
+                address = _;
+                opened = subst (ArrayHead m base (base + a .next)) four (lift-head (array-head ha array));
+                kind-item = lift base (lead .stands);
+                address-item = lift base (string .stands);
+                is = shape-addressed m (base + b .body) (b .next - b .body) (base + b .next) (protocolOf kind p) (portOf kind q) content (omega (arith, token-is s (k .next) b refl .start)) size address;
+              };
           texts = shape-texts m (base + b .body) (b .next - b .body) (protocolOf kind p) (portOf kind q) (contentIn s b) (base + b .at) (sym content) far address;
         }
 

@@ -7,6 +7,7 @@ use mathlib.Core.List.{List, [], _∷_}
 use mathlib.Core.Bool.{Bool, true, false}
 use mathlib.Core.Option.{Option, none, some}
 use Prim.Native.Nat.{ℕ, suc, _+_, _-_, _≤_}
+use native.Mathlib.Nat.{add-assoc}
 use native.Mathlib.Omega.{arith}
 use lib.ListN.{drop}
 use lib.Seq.{drop-drop}
@@ -36,7 +37,7 @@ use Rattle.options.proofs.Fits.{empty-is}
 use Rattle.syntax.specs.Message.{Loc, Obj, Pair}
 use Rattle.grammar.specs.Cddl.{array, LocatorItem, ObjectiveItem, PairItem, Value}
 use Rattle.grammar.specs.Limits.{Utf8, Short, tagTexts, pairTexts}
-use Rattle.grammar.specs.Stands.{Stands, ArrayHead, tagLoc, ObjectiveIs}
+use Rattle.grammar.specs.Stands.{Stands, ArrayHead, tagLoc, LocatorIs, TagIs, ObjectiveIs}
 use Rattle.grammar.proofs.Bridge.{split, join, none as no-more, none-end, only, last, lift, lift-first, sink-sized, sink-first, advances, Heading, token-heading, array-token}
 use Rattle.grammar.proofs.Pieces.{array-items, array-at, array-head, lift-head}
 use Rattle.grammar.proofs.Texts.{first-zero}
@@ -59,7 +60,7 @@ pub record PairStands (m : List ℕ) (p e : ℕ) (o : Objective) (t : Tag) (bad 
   pub mid : ℕ
   pub opened : ArrayHead m p at 2
   pub objective : ObjectiveIs m at mid o (pair .0)
-  pub tag : tagLoc m t ≡ pair .1
+  pub tag : TagIs m mid t (pair .1)
   pub texts : bad ≡ 0 ↔ Every Utf8 (pairTexts pair)
   pub names : long ≡ 0 ↔ Short (pair .0 .name)
 
@@ -77,7 +78,7 @@ module _ (m : List ℕ) (base : ℕ) (a : Token) (n : ℕ) where
   at = a .next + n
 
   module _ (ha : Heading s 0 a) (major : a .major ≡ 4) (two : a .arg ≡ 2) {o : Objective} {bad long : ℕ} (i : ObjectiveStands m (base + a .next) (base + a .next + n) o bad long) where
-    made : (size : ℕ) (y : Item) (t : Tag) (l : Option Loc) (bad′ : ℕ) → Stands s at size y → ((w : ℕ) → PairItem (array w (i .item ∷ y ∷ [])) (i .obj, l)) → tagLoc m t ≡ l
+    made : (size : ℕ) (y : Item) (t : Tag) (l : Option Loc) (bad′ : ℕ) → Stands s at size y → ((w : ℕ) → PairItem (array w (i .item ∷ y ∷ [])) (i .obj, l)) → TagIs m (base + a .next + n) t l
         → bad′ ≡ 0 ↔ (bad ≡ 0) × Every Utf8 (tagTexts l) → PairStands m base (base + size) o t bad′ long
     unfolding count pairTexts
     made size y t l bad′ second is tag texts =
@@ -103,7 +104,7 @@ module _ (m : List ℕ) (base : ℕ) (a : Token) (n : ℕ) where
         let j = locator-sound m (base + at) l size bad′ by q in
         let (there, back) = first-zero bad bad′ in
         made (at + size) (j .item) (Tag.At l) (some (j .loc)) (firstOf bad bad′) (sink-sized m base at size (j .stands)) (λ w. PairItem.tagged (i .is) (j .is))
-        (ap some (j .described))
+        (TagIs.at (subst (λ (p : ℕ). LocatorIs m p l (j .loc)) (sym (add-assoc base (a .next) n)) (j .described)))
         (λ z. let (x, y) = there z in (x, j .texts .0 y), λ h. back (h .0, j .texts .1 (h .1)))
 
     tailed : Bytes m → Sound m base (pairTail base s at o bad long)
@@ -112,7 +113,7 @@ module _ (m : List ℕ) (base : ℕ) (a : Token) (n : ℕ) where
         pick-case (Sound m base) (isEmpty w)
         (λ e. let (four, zero) = empty-is w e in
         let h = token-heading s at w (bytes-drop base m by) refl (omega arith) in
-        made (w .next) _ Tag.Empty none bad (array-at h four zero (no-more (h .within))) (λ k. PairItem.untagged (i .is)) refl (λ z. (z, tt), λ z. z .0))
+        made (w .next) _ Tag.Empty none bad (array-at h four zero (no-more (h .within))) (λ k. PairItem.untagged (i .is)) TagIs.empty (λ z. (z, tt), λ z. z .0))
         (λ _. tagged by (locatorIn (base + at) (drop at s)) (ap (locatorIn (base + at)) (sym (drop-drop at base m))))
       where
         w : Token

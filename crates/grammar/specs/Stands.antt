@@ -13,7 +13,7 @@ use Rattle.options.specs.declared.pair.Tag.{Tag}
 use Rattle.options.specs.Text.{spanOf, held}
 use Rattle.options.specs.Locator.{nullProtocol, nullPort}
 use Rattle.syntax.specs.Message.{Loc, orNull, Obj}
-use Rattle.grammar.specs.Cddl.{uint, text, Value}
+use Rattle.grammar.specs.Cddl.{uint, bytes, text, Value}
 
 -- the item x stands in the bytes s from p to e
 pub record Stands (s : List ℕ) (p e : ℕ) (x : Item) : Type 0 where
@@ -49,6 +49,32 @@ locOf s (L.Uri uri protocol port) = Loc.uri (held s uri) (orNull nullProtocol pr
 unfoldable pub tagLoc : List ℕ → Tag → Option Loc
 tagLoc s Tag.Empty = none
 tagLoc s (Tag.At l) = some (locOf s l)
+
+-- the locator that an answer describes, by the items of its kind and of its address, domain name or URI, which ends at p
+pub data Addressed (p : ℕ) : Item → Item → Locator → Loc → Type 0 where
+  v6 : {k b at protocol port : ℕ} {a : List ℕ} → Before p a (spanOf at 16) → Addressed p (uint k 103) (bytes b a) (L.V6 at protocol port) (Loc.v6 a protocol port)
+  v4 : {k b at protocol port : ℕ} {a : List ℕ} → Before p a (spanOf at 4) → Addressed p (uint k 104) (bytes b a) (L.V4 at protocol port) (Loc.v4 a protocol port)
+  domain : {k b protocol port : ℕ} {name : Span} {a : List ℕ} → Before p a name → Addressed p (uint k 105) (text b a) (L.Domain name protocol port) (Loc.domain a protocol port)
+  uri : {k b protocol port : ℕ} {uri : Span} {a : List ℕ} {protocol′ port′ : Option ℕ} → Before p a uri → orNull nullProtocol protocol ≡ protocol′ → orNull nullPort port ≡ port′
+      → Addressed p (uint k 106) (text b a) (L.Uri uri protocol port) (Loc.uri a protocol′ port′)
+
+-- the locator that an answer describes, read of the item that begins at p: each part stands right after the one before it
+pub record LocatorIs (s : List ℕ) (p : ℕ) (l : Locator) (loc : Loc) : Type 0 where
+  -- where the kind, the address and the protocol stand
+  pub kind-at : ℕ
+  pub address-at : ℕ
+  pub protocol-at : ℕ
+  pub kind : Item
+  pub address : Item
+  pub opened : ArrayHead s p kind-at 4
+  pub kind-item : Stands s kind-at address-at kind
+  pub address-item : Stands s address-at protocol-at address
+  pub is : Addressed protocol-at kind address l loc
+
+-- the tag that an answer describes, read of the item that begins at p
+pub data TagIs (s : List ℕ) (p : ℕ) : Tag → Option Loc → Type 0 where
+  empty : TagIs s p Tag.Empty none
+  at : {l : Locator} {loc : Loc} → LocatorIs s p l loc → TagIs s p (Tag.At l) (some loc)
 
 -- the item that a span holds: none where it has no bytes
 pub data ValueIs (s : List ℕ) (span : Span) : Value → Type 0 where

@@ -30,7 +30,7 @@ spread-told message s =
 told-by : (message : List ℕ) (m : Message) (s : Spread) → roleOf m ≡ Role.Spreads s → toldReading message (Reading.Read m) ≡ spread-told message s
 unfolding roleOf toldReading numberIn countIn sessionOf initiatorOf objectiveOf pick
 told-by message (M.Discovery session i o) s e = let same : spreadOf false session i o ≡ s = cc in rw (← same) refl
-told-by message (M.Flood session i ttl o series) s e = let same : spreadOf true session i o ≡ s = cc in rw (← same) refl
+told-by message (M.Flood session i ttl first series) s e = let same : spreadOf true session i (first .objective) ≡ s = cc in rw (← same) refl
 told-by message M.Noop s e = absurd (let z : _≡_ {A = ℕ} 0 1 = cc in omega arith)
 told-by message (M.Response session i ttl targets extra) s e = absurd (let z : _≡_ {A = ℕ} 0 1 = cc in omega arith)
 told-by message (M.RequestNegotiation session o) s e = absurd (let z : _≡_ {A = ℕ} 0 1 = cc in omega arith)

@@ -19,6 +19,7 @@ use Rattle.cbor.proofs.Tokens.{token-is, token-end, token-has}
 use Rattle.options.specs.declared.Span.{Span}
 use Rattle.options.specs.declared.objective.Objective.{Objective}
 use Rattle.options.specs.declared.objective.ObjectiveRead.{ObjectiveRead}
+use Rattle.options.specs.declared.pair.Pair.{Pair}
 use Rattle.options.specs.declared.pair.PairRead.{PairRead}
 use Rattle.options.specs.Text.{contentOf}
 use Rattle.options.specs.Objective.{objectiveAt}
@@ -67,7 +68,7 @@ MessageParts s (M.Negotiate session o) = ObjectiveParts (length s) o
 MessageParts s (M.End session outcome) = Unit {0}
 MessageParts s (M.Wait session time) = Unit {0}
 MessageParts s (M.Synch session o) = ObjectiveParts (length s) o
-MessageParts s (M.Flood session initiator ttl first pairs) = SpreadParts s session initiator first × Six s pairs
+MessageParts s (M.Flood session initiator ttl first pairs) = SpreadParts s session initiator (first .objective) × Six s pairs
 MessageParts s (M.Invalid session item) = Unit {0}
 
 -- a Discovery is of kind 1 and a Flood of kind 9
@@ -154,7 +155,7 @@ module _ (s : List ℕ) where
       (λ _. tt))
 
   -- Flood
-  flooded-by : (from n at : ℕ) (opening : Opening) (first : Objective) (x : PairsRead) → SpreadParts s (opening .session) (opening .initiator) first
+  flooded-by : (from n at : ℕ) (opening : Opening) (first : Pair) (x : PairsRead) → SpreadParts s (opening .session) (opening .initiator) (first .objective)
       → PairsRan s (n - 1) at x → 6 ≤ at → ShapeParts 9 (floodedBy opening first (record { at = from; many = n }) x)
   unfolding floodedBy
   flooded-by from n at opening first (PairsRead.Bad place) h k six = tt
@@ -164,8 +165,8 @@ module _ (s : List ℕ) where
       → PairOk at (length s - at) x → ShapeParts 9 (floodedOf s opening n at x)
   unfolding floodedOf
   flooded-of n at opening (PairRead.Bad place) make h = tt
-  flooded-of n at opening (PairRead.Got first tag size bad long) make h =
-      flooded-by at n (at + size) opening first _ (make first (objective-in (omega arith) (h .0))) (pairs-ran s (n - 1) (at + size) bad long (omega arith)) (omega arith)
+  flooded-of n at opening (PairRead.Got o tag size bad long) make h =
+      flooded-by at n (at + size) opening _ _ (make o (objective-in (omega arith) (h .0))) (pairs-ran s (n - 1) (at + size) bad long (omega arith)) (omega arith)
 
   flood-parts : (n at : ℕ) → ShapeParts 9 (floodAt s n at)
   unfolding floodAt floodBy floodedAt

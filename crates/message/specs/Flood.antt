@@ -3,7 +3,7 @@ use Prim.Native.Nat.{ℕ, _+_, _-_}
 use mathlib.Core.List.{List}
 use lib.Dec.{ltb}
 use Rattle.base.specs.Pick.{pick}
-use Rattle.options.specs.declared.objective.Objective.{Objective}
+use Rattle.options.specs.declared.pair.Pair.{Pair}
 use Rattle.options.specs.declared.pair.PairRead.{PairRead}
 use Rattle.options.specs.Pair.{pairAt}
 use Rattle.message.specs.declared.Series.{Series}
@@ -16,14 +16,14 @@ use Rattle.message.specs.declared.shape.Shape.the-variants.{Bad, Good}
 use Rattle.message.specs.Opening.{openingAt}
 use Rattle.message.specs.Sequence.{pairsFrom}
 
-unfoldable pub floodedBy : Opening → Objective → Series → PairsRead → Shape
+unfoldable pub floodedBy : Opening → Pair → Series → PairsRead → Shape
 floodedBy o first pairs (PairsRead.Bad place) = Bad place
 floodedBy o first pairs (PairsRead.Ran end bad long) = Good (M.Flood (o .session) (o .initiator) (o .ttl) first pairs) end bad long
 
 unfoldable pub floodedOf : List ℕ → Opening → ℕ → ℕ → PairRead → Shape
 floodedOf s opening n at (PairRead.Bad place) = Bad place
-floodedOf s opening n at (PairRead.Got first tag size bad long) =
-    floodedBy opening first (record { at = at; many = n }) (pairsFrom s (n - 1) (at + size) bad long)
+floodedOf s opening n at (PairRead.Got objective tag size bad long) =
+    floodedBy opening (record { objective = objective; tag = tag }) (record { at = at; many = n }) (pairsFrom s (n - 1) (at + size) bad long)
 
 -- n pairs from `at` on
 unfoldable pub floodedAt : List ℕ → Opening → ℕ → ℕ → Shape

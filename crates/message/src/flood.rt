@@ -11,6 +11,7 @@ use crate::sequence;
 use crate::sequence::PairsRead;
 use crate::shape::Shape;
 use options::pair;
+use options::pair::Pair;
 use options::pair::PairRead;
 
 // A Flood of n items in all, its session at `at`.
@@ -38,10 +39,10 @@ fn flooded_at(s: &[u8], opening: Opening, n: u64, at: usize) -> Shape
         PairRead::Bad(place) => Shape::Bad(place),
         PairRead::Got {
             objective,
+            tag,
             size,
             bad,
             long,
-            ..
         } => {
             let more = sequence::read_pairs(s, n - 1, at + size, bad, long);
             match more {
@@ -55,7 +56,7 @@ fn flooded_at(s: &[u8], opening: Opening, n: u64, at: usize) -> Shape
                         session: opening.session,
                         initiator,
                         ttl: opening.ttl,
-                        first: objective,
+                        first: Pair { objective, tag },
                         pairs: Series { at, many: n },
                     },
                     end,

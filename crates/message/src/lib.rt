@@ -5,6 +5,7 @@ use cbor::token;
 use options::Outcome;
 use options::Span;
 use options::objective::Objective;
+use options::pair::Pair;
 use shape::Shape;
 
 mod flood;
@@ -34,7 +35,7 @@ pub enum Extra {
     With(Objective),
 }
 
-// A Flood has its first objective beside its pairs, and Invalid an item of 0 bytes where it has none.
+// A Flood has its first pair beside the series of all, and Invalid an item of 0 bytes where it has none.
 pub enum Message {
     Noop,
     Discovery {
@@ -77,7 +78,7 @@ pub enum Message {
         session: u32,
         initiator: Span,
         ttl: u32,
-        first: Objective,
+        first: Pair,
         pairs: Series,
     },
     Invalid {

@@ -34,9 +34,9 @@ unfolding roleOf
 spreading message s (M.Discovery session i o) h e =
     let same : spreadOf false session i o ≡ s = cc in
     subst (Spreading message (M.Discovery session i o)) same (spread-in false Lowers.discovery h)
-spreading message s (M.Flood session i ttl o series) h e =
-    let same : spreadOf true session i o ≡ s = cc in
-    subst (Spreading message (M.Flood session i ttl o series)) same (spread-in true Lowers.flood (h .0))
+spreading message s (M.Flood session i ttl first series) h e =
+    let same : spreadOf true session i (first .objective) ≡ s = cc in
+    subst (Spreading message (M.Flood session i ttl first series)) same (spread-in true Lowers.flood (h .0))
 spreading message s M.Noop h e = absurd (let z : _≡_ {A = ℕ} 0 1 = cc in omega arith)
 spreading message s (M.Response session i ttl targets extra) h e = absurd (let z : _≡_ {A = ℕ} 0 1 = cc in omega arith)
 spreading message s (M.RequestNegotiation session o) h e = absurd (let z : _≡_ {A = ℕ} 0 1 = cc in omega arith)

@@ -31,7 +31,7 @@ roleOf (M.Negotiate session objective) = Role.Upward
 roleOf (M.End session outcome) = Role.Upward
 roleOf (M.Wait session time) = Role.Upward
 roleOf (M.Synch session objective) = Role.Upward
-roleOf (M.Flood session initiator ttl first pairs) = Role.Spreads (spreadOf true session initiator first)
+roleOf (M.Flood session initiator ttl first pairs) = Role.Spreads (spreadOf true session initiator (first .objective))
 roleOf (M.Invalid session item) = Role.Upward
 
 -- the message is read, and this is its role

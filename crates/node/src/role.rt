@@ -46,12 +46,15 @@ pub(crate) fn role_of(m: Message) -> Role
             initiator,
             first,
             ..
-        } => Role::Spreads(Spread {
-            flood: true,
-            session,
-            initiator,
-            objective: first,
-        }),
+        } => {
+            let objective = first.objective;
+            Role::Spreads(Spread {
+                flood: true,
+                session,
+                initiator,
+                objective,
+            })
+        }
         Message::Invalid { .. } => Role::Upward,
     }
 }

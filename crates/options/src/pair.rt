@@ -21,6 +21,12 @@ pub enum Tag {
     At(Locator),
 }
 
+// An objective and its tag.
+pub struct Pair {
+    pub objective: Objective,
+    pub tag: Tag,
+}
+
 // The place of the first departure from the shape; or a pair of `size` bytes, with the places of its first text that isn't
 // UTF-8 and of a name over 64 bytes, else 0.
 pub enum PairRead {

@@ -124,12 +124,12 @@ row-behind ns rest i e = let sum : pairRow * suc i ≡ length ns + pairRow * i =
 
 -- ---- what it tells
 -- a pair's place: five zeros, or its locator's numbers
-pub record TagIs (m : List ℕ) (p : Place) (tag : Option Loc) : Type 0 where
+pub record TagPlaceIs (m : List ℕ) (p : Place) (tag : Option Loc) : Type 0 where
   pub is : locOrNone m p ≡ tag
   pub says : Blank p ⊎ PlaceSays m p
 
 -- none
-tag-empty : (m rest : List ℕ) → TagIs m (placeAt (tagNumbers Tag.Empty ++ rest) 0) none
+tag-empty : (m rest : List ℕ) → TagPlaceIs m (placeAt (tagNumbers Tag.Empty ++ rest) 0) none
 unfolding tagNumbers placeAt locOrNone pick
 tag-empty m rest = record { is = refl; says = inl (record { kind = refl; at = refl; len = refl; protocol = refl; port = refl }) }
 
@@ -139,20 +139,20 @@ unfolding locOrNone pick
 known {p = p} says = rw (ne-eqb (p .kind) 0 (λ e. omega (arith, says .least)))
 
 tag-locator : {m : List ℕ} {x : Item} (l : Locator) → TextIn m l → LocatorItem x (S.locOf m l) → (rest : List ℕ)
-    → TagIs m (placeAt (tagNumbers (Tag.At l) ++ rest) 0) (some (S.locOf m l))
+    → TagPlaceIs m (placeAt (tagNumbers (Tag.At l) ++ rest) 0) (some (S.locOf m l))
 unfolding tagNumbers
 tag-locator l t i rest = let told = placed l t i rest in record { is = known (told .says) ∙ ap some (told .is); says = inr (told .says) }
 
 -- of what was read
 tag-tells : {m : List ℕ} {x : Item} {pair : Pair Value} (tag : Tag) → TagIn m tag → PairItem x pair → tagLoc m tag ≡ pair .1 → (rest : List ℕ)
-    → TagIs m (placeAt (tagNumbers tag ++ rest) 0) (pair .1)
+    → TagPlaceIs m (placeAt (tagNumbers tag ++ rest) 0) (pair .1)
 unfolding tagLoc
 tag-tells Tag.Empty t (PairItem.untagged o) e rest = tag-empty _ rest
 tag-tells Tag.Empty t (PairItem.tagged o l) e rest = absurd (let z : _≡_ {A = ℕ} 0 1 = cc in omega arith)
 tag-tells (Tag.At l) t (PairItem.untagged o) e rest = absurd (let z : _≡_ {A = ℕ} 0 1 = cc in omega arith)
 tag-tells {m} (Tag.At l) t (PairItem.tagged {y = y} {loc = loc} o i) e rest =
     let same : S.locOf m l ≡ loc = cc in
-    subst (λ (k : Loc). TagIs m (placeAt (tagNumbers (Tag.At l) ++ rest) 0) (some k)) same (tag-locator l t (subst (LocatorItem y) (sym same) i) rest)
+    subst (λ (k : Loc). TagPlaceIs m (placeAt (tagNumbers (Tag.At l) ++ rest) 0) (some k)) same (tag-locator l t (subst (LocatorItem y) (sym same) i) rest)
 
 -- ---- the rows of all
 -- what a row is, what it tells, and that it is in order
@@ -184,11 +184,11 @@ module _ (s : List ℕ) where
   pair-next p {e} {o} {tag} {bad} {long} q = ap (R.pairNextFrom p) q ∙ omega (arith, pair-within s p p _ (PairRead.Got o tag (e - p) bad long) refl q .1)
 
   -- what the numbers tell
-  pair-tells : {obj : Obj Value} {loc : Option Loc} (o : Objective) (tag : Tag) → Goals s o obj → ((rest : List ℕ) → TagIs s (placeAt (tagNumbers tag ++ rest) 0) loc) → (rest : List ℕ)
+  pair-tells : {obj : Obj Value} {loc : Option Loc} (o : Objective) (tag : Tag) → Goals s o obj → ((rest : List ℕ) → TagPlaceIs s (placeAt (tagNumbers tag ++ rest) 0) loc) → (rest : List ℕ)
       → Tells rowOf (pairOf s) (InOrder s) (R.pairCells o tag ++ rest) (valuedPair valueBytes (obj, loc))
   unfolding R.pairCells pairNumbers rowAt entryAt placeAt entryOf goalOf valuedPair
   pair-tells {loc = loc} o tag goal told rest =
-      let tag-is = subst (λ (ns : List ℕ). TagIs s (placeAt (ns ++ rest) 0) loc) (sym (tag-five tag)) (told rest) in
+      let tag-is = subst (λ (ns : List ℕ). TagPlaceIs s (placeAt (ns ++ rest) 0) loc) (sym (tag-five tag)) (told rest) in
       (ap₂ (λ (x : Obj (List ℕ)) (y : Option Loc). (x, y)) (goal .is) (tag-is .is), record { kept = refl; objective = goal .says; locator = tag-is .says })
 
   -- the pairs that stand in a message

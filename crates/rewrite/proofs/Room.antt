@@ -50,7 +50,7 @@ module _ (s : List ℕ) (few : length s ≤ mostBytes) (list : List ℕ) (long :
   message-fit (M.End session outcome) h = omega arith
   message-fit (M.Wait session time) h = omega arith
   message-fit (M.Synch session o) h = omega arith
-  message-fit (M.Flood session i ttl o series) h = pairs-fit series (h .1)
+  message-fit (M.Flood session i ttl first series) h = pairs-fit series (h .1)
   message-fit (M.Invalid session item) h = omega arith
 
 -- for readers

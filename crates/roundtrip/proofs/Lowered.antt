@@ -18,6 +18,7 @@ use Rattle.options.specs.declared.Span.{Span}
 use Rattle.options.specs.declared.objective.Objective.{Objective}
 use Rattle.options.specs.declared.objective.ObjectiveRead.{ObjectiveRead}
 use Rattle.options.specs.declared.pair.Tag.{Tag}
+use Rattle.options.specs.declared.pair.Pair.{Pair}
 use Rattle.options.specs.declared.pair.PairRead.{PairRead}
 use Rattle.options.specs.Text.{held, contentOf}
 use Rattle.options.specs.Objective.{objectiveAt}
@@ -196,17 +197,17 @@ module _ (u h r : List ℕ) (n : ℕ) where
       initiatorIn (OpeningRead.Bad place) = contentOf j
       initiatorIn (OpeningRead.Got opening end) = opening .initiator
 
-  flood-recounted : n ≤ 255 → (m at session : ℕ) (i : Span) (ttl : ℕ) (o : Objective) (series : Series) (end : ℕ) → CountAt u h 0 o
-      → floodAt old m at ≡ S.Good (M.Flood session i ttl o series) end 0 0
-      → ShapeRecounted at i (floodAt new m at) (λ o. M.Flood session i ttl o series) end
+  flood-recounted : n ≤ 255 → (m at session : ℕ) (i : Span) (ttl : ℕ) (first : Pair) (series : Series) (end : ℕ) → CountAt u h 0 (first .objective)
+      → floodAt old m at ≡ S.Good (M.Flood session i ttl first series) end 0 0
+      → (tag : Tag) × ShapeRecounted at i (floodAt new m at) (λ o. M.Flood session i ttl (record { objective = o; tag = tag }) series) end
   unfolding floodAt floodBy floodedAt floodedOf floodedBy pick
-  flood-recounted few m at session i ttl o series end place = pick-case P (ltb m 5) (λ _ q. absurd (no-shape q)) (λ t. opened t (openingAt old at) refl)
+  flood-recounted few m at session i ttl pair series end place = pick-case P (ltb m 5) (λ _ q. absurd (no-shape q)) (λ t. opened t (openingAt old at) refl)
     where
       Found : Type 0
-      Found = ShapeRecounted at i (floodAt new m at) (λ o. M.Flood session i ttl o series) end
+      Found = (tag : Tag) × ShapeRecounted at i (floodAt new m at) (λ o. M.Flood session i ttl (record { objective = o; tag = tag }) series) end
 
       P : Shape → Type 0
-      P x = x ≡ S.Good (M.Flood session i ttl o series) end 0 0 → Found
+      P x = x ≡ S.Good (M.Flood session i ttl pair series) end 0 0 → Found
 
       -- with the opening, the first pair and the other pairs of the new bytes
       made : ltb m 5 ≡ false → {opening : Opening} {next : ℕ} {tag : Tag} {size : ℕ}
@@ -215,20 +216,22 @@ module _ (u h r : List ℕ) (n : ℕ) where
           → PairsMove (next + size) end (next + (length (drop next u) + length (head 0 n) + x .rest))
           (pairsFrom new (m - 4 - 1) (next + (length (drop next u) + length (head 0 n) + x .rest)) 0 0)
           → opening .session ≡ session → opening .initiator ≡ i → opening .ttl ≡ ttl → record { at = next; many = m - 4 } ≡ series → Found
-      made t {next = next} (start, within, first) x (size, ends, run) a b c d =
-          let to : next + (length (drop next u) + length (head 0 n) + x .rest) + size ≡ length u + length (head 0 n) + (x .rest + size + (next - length u)) = omega (arith, length-drop next u) in
-          record {
-            start = start;
-            within = rw b at within;
-            shape =
-                record {
-                  rest = x .rest + size + (next - length u);
-                  objective = x .objective;
-                  sized = omega (arith, x .sized, length-drop next u);
-                  is = rw (t, first, x .is, run, ← a, ← b, ← c, ← d, to);
-                  count = x .count;
-                };
-          }
+      made t {next = next} {tag} (start, within, first) x (size, ends, run) a b c d =
+          let to : next + (length (drop next u) + length (head 0 n) + x .rest) + size ≡ length u + length (head 0 n) + (x .rest + size + (next - length u)) = omega (arith, length-drop next u) in (
+            tag,
+            record {
+              start = start;
+              within = rw b at within;
+              shape =
+                  record {
+                    rest = x .rest + size + (next - length u);
+                    objective = x .objective;
+                    sized = omega (arith, x .sized, length-drop next u);
+                    is = rw (t, first, x .is, run, ← a, ← b, ← c, ← d, to);
+                    count = x .count;
+                  };
+            },
+          )
 
       paired : ltb m 5 ≡ false → {opening : Opening} {next : ℕ} → openingAt old at ≡ OpeningRead.Got opening next → {size : ℕ}
           → (next ≤ length u) × (tag : Tag) × Recounted (drop next u) h n (pairAt new next) (λ o e. PairRead.Got o tag e 0 0) size
@@ -243,16 +246,16 @@ module _ (u h r : List ℕ) (n : ℕ) where
           rw (from, to) (rest-kept h r n u (x .rest + y)))
           run)
 
-      ran : ltb m 5 ≡ false → {opening : Opening} {next : ℕ} → openingAt old at ≡ OpeningRead.Got opening next → {first : Objective} {tag : Tag} {size bad long : ℕ}
-          → pairAt old next ≡ PairRead.Got first tag size bad long → (x : PairsRead) → pairsFrom old (m - 4 - 1) (next + size) bad long ≡ x
+      ran : ltb m 5 ≡ false → {opening : Opening} {next : ℕ} → openingAt old at ≡ OpeningRead.Got opening next → {first : Pair} {size bad long : ℕ}
+          → pairAt old next ≡ PairRead.Got (first .objective) (first .tag) size bad long → (x : PairsRead) → pairsFrom old (m - 4 - 1) (next + size) bad long ≡ x
           → P (floodedBy opening first (record { at = next; many = m - 4 }) x)
       ran t e f (PairsRead.Bad place) g = λ q. absurd (no-shape q)
-      ran t {opening} {next} e {first} {tag} {size} {bad} {long} f (PairsRead.Ran end₁ bad₁ long₁) g =
+      ran t {opening} {next} e {first} {size} {bad} {long} f (PairsRead.Ran end₁ bad₁ long₁) g =
           λ q.
-          let same : first ≡ o = cc in
+          let same : first ≡ pair = cc in
           let run : pairsFrom old (m - 4 - 1) (next + size) bad long ≡ PairsRead.Ran end 0 0 = cc in
           let (fine, short) = none-before old (m - 4 - 1) (next + size) bad long end run in
-          paired t e (pair-beyond h r n few u 0 next next o tag size (omega arith) place (rw (same, fine, short) at f)) (rw (fine, short) at run) (cc) (cc) (cc) (cc)
+          paired t e (pair-beyond h r n few u 0 next next (pair .objective) (pair .tag) size (omega arith) place (rw (same, fine, short) at f)) (rw (fine, short) at run) (cc) (cc) (cc) (cc)
 
       opened : ltb m 5 ≡ false → (x : OpeningRead) → openingAt old at ≡ x → P (floodBy old m x)
       opened t (OpeningRead.Bad place) e = λ q. absurd (no-shape q)
@@ -260,7 +263,7 @@ module _ (u h r : List ℕ) (n : ℕ) where
         where
           by : (x : PairRead) → pairAt old next ≡ x → P (floodedOf old opening (m - 4) next x)
           by (PairRead.Bad place) f = λ q. absurd (no-shape q)
-          by (PairRead.Got first tag size bad long) f = ran t e f (pairsFrom old (m - 4 - 1) (next + size) bad long) refl
+          by (PairRead.Got o tag size bad long) f = ran t e f (pairsFrom old (m - 4 - 1) (next + size) bad long) refl
 
   -- ---- the whole
   abbrev array : Token
@@ -278,11 +281,11 @@ module _ (u h r : List ℕ) (n : ℕ) where
     pub relays : Relays old m o new message
 
   -- so it is where its shape is
-  whole : (make : Objective → Message) (o : Objective) (end : ℕ) (i : Span) → Led old (make o) end → kind .arg ≤ 9
+  whole : (m : Message) (make : Objective → Message) (o : Objective) (end : ℕ) (i : Span) → Led old m end → kind .arg ≤ 9
       → ShapeRecounted (kind .next) i (byKind new (kind .arg) (array .arg) (kind .next)) make end
-      → ((o′ : Objective) → held new i ≡ held old i → o′ .count ≡ n → Relays old (make o) o new (make o′)) → MessageRecounted (make o) o end
+      → ((o′ : Objective) → held new i ≡ held old i → o′ .count ≡ n → Relays old m o new (make o′)) → MessageRecounted m o end
   unfolding shaped judgedShape pick
-  whole make o end i l known c relays =
+  whole m make o end i l known c relays =
       let four : array .major ≡ 4 = is-array array (eqb-false (itemsIn array) 0 (l .filled)) in
       let none : kind .major ≡ 0 = eqb-true (kind .major) 0 (l .number) in
       let one : array .next + 1 ≤ kind .next = token-has old (array .next) .some (omega arith) in
@@ -305,10 +308,11 @@ module _ (u h r : List ℕ) (n : ℕ) where
   message-recounted end (Lowers.discovery {session} {i} {o}) place lower q =
       let l = led old q in
       let (one, parts) = of-kind (M.Discovery session i o) end l in
-      whole (M.Discovery session i) o end i l (omega arith) (rw one (discovery-recounted (omega (arith, parts .objective .limit)) (array .arg) (kind .next) session i o end place (rw one at (l .shape))))
+      whole (M.Discovery session i o) (M.Discovery session i) o end i l (omega arith) (rw one (discovery-recounted (omega (arith, parts .objective .limit)) (array .arg) (kind .next) session i o end place (rw one at (l .shape))))
       (λ o′ same e. record { kind = refl; session = refl; initiator = same; objective = o′; lowers = Lowers.discovery; lower = e ∙ lower })
-  message-recounted end (Lowers.flood {session} {ttl} {i} {o} {series}) place lower q =
+  message-recounted end (Lowers.flood {session} {ttl} {i} {first} {series}) place lower q =
       let l = led old q in
-      let (nine, parts) = of-kind (M.Flood session i ttl o series) end l in
-      whole (λ o. M.Flood session i ttl o series) o end i l (omega arith) (rw nine (flood-recounted (omega (arith, parts .0 .objective .limit)) (array .arg) (kind .next) session i ttl o series end place (rw nine at (l .shape))))
+      let (nine, parts) = of-kind (M.Flood session i ttl first series) end l in
+      let (tag, shape) = flood-recounted (omega (arith, parts .0 .objective .limit)) (array .arg) (kind .next) session i ttl first series end place (rw nine at (l .shape)) in
+      whole (M.Flood session i ttl first series) (λ o. M.Flood session i ttl (record { objective = o; tag = tag }) series) (first .objective) end i l (omega arith) (rw nine shape)
       (λ o′ same e. record { kind = refl; session = refl; initiator = same; objective = o′; lowers = Lowers.flood; lower = e ∙ lower })

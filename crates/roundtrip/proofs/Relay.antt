@@ -180,7 +180,7 @@ neither (inr e) f g = g e
 pub lowers-by : (m : Message) (o : Objective) → (kindOf m ≡ 1) ⊎ (kindOf m ≡ 9) → objectiveOf m ≡ Extra.With o → Lowers m o
 unfolding objectiveOf
 lowers-by (M.Discovery session i o′) o k e = let same : o′ ≡ o = cc in subst (Lowers (M.Discovery session i o′)) same Lowers.discovery
-lowers-by (M.Flood session i ttl o′ series) o k e = let same : o′ ≡ o = cc in subst (Lowers (M.Flood session i ttl o′ series)) same Lowers.flood
+lowers-by (M.Flood session i ttl first series) o k e = let same : first .objective ≡ o = cc in subst (Lowers (M.Flood session i ttl first series)) same Lowers.flood
 lowers-by M.Noop o k e = absurd (neither k (λ e. omega arith) (λ e. omega arith))
 lowers-by (M.Response session i ttl targets extra) o k e = absurd (neither k (λ e. omega arith) (λ e. omega arith))
 lowers-by (M.RequestNegotiation session objective) o k e = absurd (neither k (λ e. omega arith) (λ e. omega arith))

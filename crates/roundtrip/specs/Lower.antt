@@ -5,6 +5,7 @@ use mathlib.Core.Path.{_≡_}
 use Rattle.options.specs.Text.{held}
 use Rattle.options.specs.declared.Span.{Span}
 use Rattle.options.specs.declared.objective.Objective.{Objective}
+use Rattle.options.specs.declared.pair.Pair.{Pair}
 use Rattle.syntax.specs.Message.{Obj, Msg}
 use Rattle.message.specs.declared.Series.{Series}
 use Rattle.message.specs.declared.Message.{Message}
@@ -38,7 +39,7 @@ lowerMsg (Msg.invalid s item) = Msg.invalid s item
 -- the objective whose count a relay lowers
 pub data Lowers : Message → Objective → Type 0 where
   discovery : {session : ℕ} {i : Span} {o : Objective} → Lowers (M.Discovery session i o) o
-  flood : {session ttl : ℕ} {i : Span} {o : Objective} {series : Series} → Lowers (M.Flood session i ttl o series) o
+  flood : {session ttl : ℕ} {i : Span} {first : Pair} {series : Series} → Lowers (M.Flood session i ttl first series) (first .objective)
 
 -- the message as it is relayed: that count's head is replaced by the shortest head of one less
 abbrev pub onward : List ℕ → Objective → List ℕ

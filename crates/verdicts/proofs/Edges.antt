@@ -20,6 +20,7 @@ use Rattle.options.specs.Objective.{longName, objectiveFrom, objectiveIn, objec
 use Rattle.options.specs.Pair.{isEmpty, pairTagged, pairTail, pairLed, pairIn}
 use Rattle.message.specs.declared.Message.the-variants as M
 use Rattle.options.specs.declared.Outcome.{Outcome}
+use Rattle.options.specs.declared.pair.Tag.{Tag}
 use Rattle.message.specs.declared.Reading.{Reading}
 use Rattle.message.specs.Opening.{isInitiator, openingAt}
 use Rattle.message.specs.Sequence.{pairThen, pairsFrom}
@@ -57,7 +58,7 @@ pub starred :
     × (readOf (discoveryBytes (2 ∷ [])) ≡ Reading.Read (M.Discovery 7 (spanOf 4 4) (objective 10 1 2 14)))
     × (held (discoveryBytes (2 ∷ [])) (spanOf 4 4) ≡ initiator)
     × (held (discoveryBytes (2 ∷ [])) (spanOf 10 3) ≡ name)
-    × (readOf (floodBytes 2) ≡ Reading.Read (M.Flood 7 (spanOf 4 4) 1000 (objective 14 4 2 18) (record { at = 11; many = 1 })))
+    × (readOf (floodBytes 2) ≡ Reading.Read (M.Flood 7 (spanOf 4 4) 1000 (record { objective = objective 14 4 2 18; tag = Tag.Empty }) (record { at = 11; many = 1 })))
     × (held (floodBytes 2) (spanOf 4 4) ≡ initiator)
     × (held (floodBytes 2) (spanOf 14 3) ≡ name)
     × (outcomes (arrives 1000 (discoveryBytes (2 ∷ [])) ∷ arrives 1000 (discoveryBytes (2 ∷ [])) ∷ arrives 60999 (discoveryBytes (2 ∷ [])) ∷ arrives 61000 (discoveryBytes (2 ∷ [])) ∷ [])

@@ -103,8 +103,8 @@ module _ (r : Record) (t : List ℕ) (c : Call) where
   due-handed (M.End session outcome) v up due = others-up 6 v up (λ e. omega arith) (λ e. omega arith) (λ e. omega arith) due
   due-handed (M.Wait session time) v up due = others-up 7 v up (λ e. omega arith) (λ e. omega arith) (λ e. omega arith) due
   due-handed (M.Synch session o) v up due = others-up 8 v up (λ e. omega arith) (λ e. omega arith) (λ e. omega arith) due
-  due-handed (M.Flood session i ttl o pairs) v up due =
-      let is = flood-up session i o v up due in
+  due-handed (M.Flood session i ttl first pairs) v up due =
+      let is = flood-up session i (first .objective) v up due in
       (λ e. handed-flood v (is .1) (sym (is .0) ∙ e), λ h. is .0 ∙ up-handed h)
   due-handed (M.Invalid session item) v up due = others-up 99 v up (λ e. omega arith) (λ e. omega arith) (λ e. omega arith) due
 
@@ -118,7 +118,7 @@ module _ (r : Record) (t : List ℕ) (c : Call) where
   others-due (M.End session outcome) v up a b d due = plain-due Hand true v up due
   others-due (M.Wait session time) v up a b d due = plain-due Hand true v up due
   others-due (M.Synch session o) v up a b d due = plain-due Hand true v up due
-  others-due (M.Flood session i ttl o pairs) v up a b d due = absurd (d refl)
+  others-due (M.Flood session i ttl first pairs) v up a b d due = absurd (d refl)
   others-due (M.Invalid session item) v up a b d due = plain-due Hand true v up due
 
 -- for readers

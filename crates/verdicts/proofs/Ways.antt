@@ -16,6 +16,7 @@ use Rattle.base.proofs.Picks.{pick-case}
 use Rattle.base.proofs.Bools.{and-left, and-right, and-true, not-both, or-true}
 use Rattle.options.specs.declared.Span.{Span}
 use Rattle.options.specs.declared.objective.Objective.{Objective}
+use Rattle.options.specs.declared.pair.Pair.{Pair}
 use Rattle.message.specs.declared.Message.{Message}
 use Rattle.message.specs.declared.Message.the-variants as M
 use Rattle.message.specs.declared.Series.{Series}
@@ -254,18 +255,18 @@ module _ (r : Record) (t : List ℕ) (c : Call) where
   discovery-does session i o Noop = silent Noop refl refl
   discovery-does session i o Hand = silent Hand refl refl
 
-  flood-does : (session ttl : ℕ) (i : Span) (o : Objective) (pairs : Series) (v : Verdict) → v ≢ Answer
-      → Does r t c (M.Flood session i ttl o pairs) v (handed true v) (carriedOut (clocked r (c .clock)) (freed (c .clock) t) c (spreadOf true session i o) v)
+  flood-does : (session ttl : ℕ) (i : Span) (first : Pair) (pairs : Series) (v : Verdict) → v ≢ Answer
+      → Does r t c (M.Flood session i ttl first pairs) v (handed true v) (carriedOut (clocked r (c .clock)) (freed (c .clock) t) c (spreadOf true session i (first .objective)) v)
   unfolding carriedOut handed isAnswer isRelay
-  flood-does session ttl i o pairs Own n = silent Own refl refl
-  flood-does session ttl i o pairs Answer n = absurd (n refl)
-  flood-does session ttl i o pairs Duplicate n = silent Duplicate refl refl
-  flood-does session ttl i o pairs Last n = silent Last refl refl
-  flood-does session ttl i o pairs Nowhere n = silent Nowhere refl refl
-  flood-does session ttl i o pairs NoRow n = silent NoRow refl refl
-  flood-does session ttl i o pairs Relay n = relays-flood
-  flood-does session ttl i o pairs Noop n = silent Noop refl refl
-  flood-does session ttl i o pairs Hand n = silent Hand refl refl
+  flood-does session ttl i first pairs Own n = silent Own refl refl
+  flood-does session ttl i first pairs Answer n = absurd (n refl)
+  flood-does session ttl i first pairs Duplicate n = silent Duplicate refl refl
+  flood-does session ttl i first pairs Last n = silent Last refl refl
+  flood-does session ttl i first pairs Nowhere n = silent Nowhere refl refl
+  flood-does session ttl i first pairs NoRow n = silent NoRow refl refl
+  flood-does session ttl i first pairs Relay n = relays-flood
+  flood-does session ttl i first pairs Noop n = silent Noop refl refl
+  flood-does session ttl i first pairs Hand n = silent Hand refl refl
 
   -- it does one thing
   does-once : {m : Message} {v : Verdict} {up : Bool} {a b : After} → Does r t c m v up a → Does r t c m v up b → a ≡ b
@@ -313,11 +314,11 @@ module _ (r : Record) (t : List ℕ) (c : Call) where
   read-verdicted p (M.End session outcome) = plain (M.End session outcome) Hand true refl refl refl
   read-verdicted p (M.Wait session time) = plain (M.Wait session time) Hand true refl refl refl
   read-verdicted p (M.Synch session o) = plain (M.Synch session o) Hand true refl refl refl
-  read-verdicted p (M.Flood session i ttl o pairs) = (
-    flood-verdict r t c session i o,
-    handed true (flood-verdict r t c session i o),
-    flood-due r t c session i o p,
-    flood-does session ttl i o pairs (flood-verdict r t c session i o) (flood-unanswered r t c session i o),
+  read-verdicted p (M.Flood session i ttl first pairs) = (
+    flood-verdict r t c session i (first .objective),
+    handed true (flood-verdict r t c session i (first .objective)),
+    flood-due r t c session i (first .objective) p,
+    flood-does session ttl i first pairs (flood-verdict r t c session i (first .objective)) (flood-unanswered r t c session i (first .objective)),
   )
   read-verdicted p (M.Invalid session item) = plain (M.Invalid session item) Hand true refl refl refl
 

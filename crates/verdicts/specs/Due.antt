@@ -12,6 +12,7 @@ use Rattle.base.specs.Bits.{hasBit}
 use Rattle.cbor.specs.Token.{tokenAt}
 use Rattle.options.specs.declared.Span.{Span}
 use Rattle.options.specs.declared.objective.Objective.{Objective}
+use Rattle.options.specs.declared.pair.Pair.{Pair}
 use Rattle.message.specs.declared.Message.{Message}
 use Rattle.message.specs.declared.Message.the-variants as M
 use Rattle.message.specs.declared.Series.{Series}
@@ -107,7 +108,7 @@ module _ (r : Record) (t : List ℕ) (c : Call) where
   rulesOn (M.End session outcome) = otherwise Hand true
   rulesOn (M.Wait session time) = otherwise Hand true
   rulesOn (M.Synch session objective) = otherwise Hand true
-  rulesOn (M.Flood session initiator ttl first pairs) = floodRules session initiator first
+  rulesOn (M.Flood session initiator ttl first pairs) = floodRules session initiator (first .objective)
   rulesOn (M.Invalid session item) = otherwise Hand true
 
   -- the verdict that is due on a message, and whether it is handed up
@@ -123,8 +124,8 @@ module _ (r : Record) (t : List ℕ) (c : Call) where
         → Does (M.Discovery session i o) Answer false (answered (clocked r (c .clock)) (freed (c .clock) t) c (spreadOf false session i o))
     relays-discovery : {session : ℕ} {i : Span} {o : Objective}
         → Does (M.Discovery session i o) Relay false (relayed (clocked r (c .clock)) (freed (c .clock) t) c (spreadOf false session i o))
-    relays-flood : {session ttl : ℕ} {i : Span} {o : Objective} {pairs : Series}
-        → Does (M.Flood session i ttl o pairs) Relay true (relayed (clocked r (c .clock)) (freed (c .clock) t) c (spreadOf true session i o))
+    relays-flood : {session ttl : ℕ} {i : Span} {first : Pair} {pairs : Series}
+        → Does (M.Flood session i ttl first pairs) Relay true (relayed (clocked r (c .clock)) (freed (c .clock) t) c (spreadOf true session i (first .objective)))
 
   -- the number that bars a call before its message is read, 0 for none
   abbrev pub bar : ℕ

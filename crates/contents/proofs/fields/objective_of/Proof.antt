@@ -79,7 +79,7 @@ returns-9 c = sym (ap objectiveOf (c .before .m6 .given .1))
 
 returns-10 : tie.Need-returns-10
 unfolding objectiveOf
-returns-10 c = sym (ap objectiveOf (c .before .m7 .given .1))
+returns-10 c = sym (ap objectiveOf (c .before .before .m7 .given .1))
 
 returns-11 : tie.Need-returns-11
 unfolding objectiveOf

@@ -79,7 +79,7 @@ returns-9 c = rw (c .enum-told8 .given .1) refl
 
 returns-10 : tie.Need-returns-10
 unfolding roleOf
-returns-10 c = rw (c .before .m2 .given .1) refl
+returns-10 c = rw (c .before .before .m2 .given .1) refl
 
 returns-11 : tie.Need-returns-11
 unfolding roleOf
