@@ -1,6 +1,10 @@
--- The choice by a test; a proof goes by the test's two cases without naming it, as `pick` doesn't unfold by itself.
+-- The choice by a test. It isn't the library's `cond`, which unfolds by itself: of `pick` a proof goes by the test's two cases without naming it.
 use mathlib.Core.Bool.{Bool, true, false}
 
 unfoldable pub pick {ℓ} : {A : Type ℓ} → Bool → A → A → A
 pick true x y = x
 pick false x y = y
+
+-- `else` where the test fails, so that a chain of tests reads from top to bottom
+abbrev pub unless : {A : Type 0} → Bool → A → A → A
+unless test else rest = pick test rest else

@@ -4,10 +4,10 @@ use mathlib.Core.Bool.{Bool, true, false}
 use mathlib.Core.List.{List, [], _∷_, _++_}
 use lib.ListN.{getD}
 use lib.Dec.{ltb, eqb}
-use Rattle.base.specs.Pick.{pick}
+use Rattle.base.specs.Pick.{pick, unless}
 use Rattle.base.specs.Bits.{hasBit, maskWith}
 use Rattle.options.specs.declared.Span.{Span}
-use Rattle.options.specs.Text.{unless, spanOf}
+use Rattle.options.specs.Text.{spanOf}
 use Rattle.message.specs.Opening.{most}
 use Rattle.description.specs.declared.Goal.{Goal}
 use Rattle.description.specs.declared.Extra.{Extra}

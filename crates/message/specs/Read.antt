@@ -3,11 +3,10 @@ use Prim.Native.Nat.{ℕ}
 use mathlib.Core.List.{List}
 use lib.ListN.{length}
 use lib.Dec.{ltb, eqb}
-use Rattle.base.specs.Pick.{pick}
+use Rattle.base.specs.Pick.{pick, unless}
 use Rattle.cbor.specs.declared.item.ItemRead.{ItemRead}
 use Rattle.cbor.specs.Item.{firstItem, framedBy}
 use Rattle.cbor.specs.Token.{tokenAt, itemsIn}
-use Rattle.options.specs.Text.{unless}
 use Rattle.message.specs.declared.shape.Shape.{Shape}
 use Rattle.message.specs.declared.Reading.{Reading}
 use Rattle.message.specs.declared.Examined.{Examined}

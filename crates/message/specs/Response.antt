@@ -2,10 +2,10 @@
 use Prim.Native.Nat.{ℕ, _+_, _-_}
 use mathlib.Core.List.{List}
 use lib.Dec.{ltb, leb, eqb}
-use Rattle.base.specs.Pick.{pick}
+use Rattle.base.specs.Pick.{pick, unless}
 use Rattle.cbor.specs.Token.{tokenAt, itemsIn, upTo}
 use Rattle.options.specs.declared.objective.ObjectiveRead.{ObjectiveRead}
-use Rattle.options.specs.Text.{unless, firstOf}
+use Rattle.options.specs.Text.{firstOf}
 use Rattle.options.specs.Objective.{objectiveAt}
 use Rattle.message.specs.declared.Targets.{Targets}
 use Rattle.message.specs.declared.Extra.{Extra}

@@ -5,14 +5,14 @@ use mathlib.Core.List.{List, [], _∷_}
 use mathlib.Core.Bool.{Bool, false}
 use lib.ListN.{drop}
 use lib.Dec.{ltb, leb, eqb}
-use Rattle.base.specs.Pick.{pick}
+use Rattle.base.specs.Pick.{pick, unless}
 use Rattle.cbor.specs.declared.token.Token.{Token}
 use Rattle.cbor.specs.Token.{tokenAt, itemsIn, upTo}
 use Rattle.options.specs.declared.locator.Locator.{Locator}
 use Rattle.options.specs.declared.locator.Locator.the-variants as L
 use Rattle.options.specs.declared.locator.LocatorRead.{LocatorRead}
 use Rattle.options.specs.declared.locator.LocatorRead.the-variants as LR
-use Rattle.options.specs.Text.{unless, spanOf, contentIn, badText}
+use Rattle.options.specs.Text.{spanOf, contentIn, badText}
 
 -- null: simple value 22, which has a head of one byte (a float has a longer one)
 unfoldable pub isNull : Token → Bool

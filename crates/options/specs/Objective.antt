@@ -3,13 +3,13 @@ use Prim.Native.Nat.{ℕ, _+_, _-_}
 use mathlib.Core.List.{List}
 use lib.ListN.{drop}
 use lib.Dec.{ltb, eqb}
-use Rattle.base.specs.Pick.{pick}
+use Rattle.base.specs.Pick.{pick, unless}
 use Rattle.cbor.specs.declared.token.Token.{Token}
 use Rattle.cbor.specs.Token.{tokenAt, sizeAt, itemsIn, upTo}
 use Rattle.options.specs.declared.objective.Objective.{Objective}
 use Rattle.options.specs.declared.objective.ObjectiveRead.{ObjectiveRead}
 use Rattle.options.specs.declared.objective.ObjectiveRead.the-variants as OR
-use Rattle.options.specs.Text.{unless, spanOf, contentIn, badText}
+use Rattle.options.specs.Text.{spanOf, contentIn, badText}
 
 -- house limit: how many bytes an objective's name has at most
 abbrev pub mostName : ℕ

@@ -4,7 +4,7 @@ use mathlib.Core.List.{List, [], _∷_, _++_}
 use mathlib.Core.Bool.{Bool, false}
 use lib.ListN.{drop, getD, replicate}
 use lib.Dec.{eqb}
-use Rattle.base.specs.Pick.{pick}
+use Rattle.base.specs.Pick.{pick, unless}
 use Rattle.cbor.specs.declared.token.Token.{Token}
 use Rattle.cbor.specs.Token.{tokenAt, itemsIn}
 use Rattle.options.specs.declared.locator.LocatorRead.{LocatorRead}
@@ -15,7 +15,7 @@ use Rattle.options.specs.declared.objective.ObjectiveRead.the-variants a
 use Rattle.options.specs.declared.pair.Tag.{Tag}
 use Rattle.options.specs.declared.pair.PairRead.{PairRead}
 use Rattle.options.specs.declared.pair.PairRead.the-variants as PR
-use Rattle.options.specs.Text.{unless, firstOf}
+use Rattle.options.specs.Text.{firstOf}
 use Rattle.options.specs.Locator.{locatorIn, locatorNumbers}
 use Rattle.options.specs.Objective.{objectiveIn}
 

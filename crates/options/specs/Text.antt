@@ -1,17 +1,12 @@
 -- Named texts, and places.
 use Prim.Native.Nat.{ℕ, _-_}
 use mathlib.Core.List.{List}
-use mathlib.Core.Bool.{Bool}
 use lib.ListN.{take, drop}
 use lib.Dec.{eqb}
 use Rattle.base.specs.Pick.{pick}
 use Rattle.cbor.specs.declared.token.Token.{Token}
 use Rattle.utf8.specs.Utf8.{isUtf8}
 use Rattle.options.specs.declared.Span.{Span}
-
--- the rest where a test holds
-abbrev pub unless : {A : Type 0} → Bool → A → A → A
-unless test else rest = pick test rest else
 
 abbrev pub spanOf : ℕ → ℕ → Span
 spanOf at len = record { at = at; len = len }
