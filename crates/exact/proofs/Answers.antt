@@ -1,4 +1,4 @@
--- What `examined` answers of any bytes: one item that is the whole is what it is by its shape; the other answers have their reasons.
+-- What `readPlaced` answers of any bytes: one item that is the whole is what it is by its shape; the other answers have their reasons.
 -- Assumes nothing.
 use mathlib.Core.Path.{_≡_, refl, sym, ap, _∙_}
 use mathlib.Core.Logic.{_⊎_, inl, inr, _↔_}
@@ -27,12 +27,12 @@ use Rattle.message.specs.declared.Message.{Message}
 use Rattle.message.specs.declared.shape.Shape.the-variants as S
 use Rattle.message.specs.declared.Examined.{Examined}
 use Rattle.message.specs.declared.Examined.the-variants as E
-use Rattle.message.specs.Read.{mostBytes, judgedShape, shaped, framed, examined}
+use Rattle.message.specs.Read.{mostBytes, judgedShape, examined, framed, readPlaced}
 use Rattle.exact.specs.Describes.{Describes}
 use Rattle.exact.specs.Accepted.{OneItem, IsMessage, Accepted}
 use Rattle.exact.specs.Rows.{Fits, UnknownKind}
 use Rattle.exact.proofs.Whole.{stands, WholeIs}
-use Rattle.exact.proofs.Shaped.{shaped-case, shape-complete}
+use Rattle.exact.proofs.Shaped.{examined-case, shape-complete}
 use Rattle.exact.proofs.Once.{message-one}
 
 -- ---- one item that is the whole
@@ -43,9 +43,9 @@ module _ {s : List ℕ} (one : OneItem s) where
       ∙ ap ItemRead.Ends (ap length (one .bytes))
 
   -- its shape decides
-  pub examined-one : examined s ≡ shaped s
-  unfolding examined framed pick
-  examined-one =
+  pub placed-one : readPlaced s ≡ examined s
+  unfolding readPlaced framed pick
+  placed-one =
       rw (ne-eqb (length s) 0 (λ z. omega (arith, advances (stands one))), le-ltb mostBytes (length s) (one .most), walked, eq-eqb (length s) (length s) refl)
 
 -- ---- one message
@@ -55,7 +55,7 @@ pub record MessageShape (s : List ℕ) (msg : Msg Value) : Type 0 where
   pub end : ℕ
   pub bad : ℕ
   pub long : ℕ
-  pub is : examined s ≡ judgedShape (S.Good message end bad long)
+  pub is : readPlaced s ≡ judgedShape (S.Good message end bad long)
   pub describes : Describes s message msg
   pub texts : bad ≡ 0 ↔ TextsGood msg
   pub names : long ≡ 0 ↔ NamesGood msg
@@ -75,7 +75,7 @@ pub message-shape : {s : List ℕ} (i : IsMessage s) → MessageShape s (i .msg)
 message-shape {s} i =
     let one = i .one in
     let r = shape-complete (stands one) (one .shallow) (i .is) in
-    shaped-case one (λ (x : Examined). shaped s ≡ x → MessageShape s (i .msg))
+    examined-case one (λ (x : Examined). examined s ≡ x → MessageShape s (i .msg))
     (λ place u e. absurd (omega (arith, judged-number (r .message) (r .end) (r .bad) (r .long) (sym (r .is) ∙ e))))
     (λ place e. absurd (omega (arith, judged-number (r .message) (r .end) (r .bad) (r .long) (sym (r .is) ∙ e))))
     (λ m end bad long h e.
@@ -85,7 +85,7 @@ message-shape {s} i =
       end = end;
       bad = bad;
       long = long;
-      is = examined-one one ∙ e;
+      is = placed-one one ∙ e;
       describes = rw same at (h .describes);
       texts = rw same at (h .texts);
       names = rw same at (h .names);
@@ -127,14 +127,14 @@ module _ {s : List ℕ} (b : Bytes s) where
       let whole : firstItem 0 s ≡ ItemRead.Ends (length s) = e ∙ ap ItemRead.Ends (eqb-true end (length s) t) in
       let i = item-exact 0 s (length s) b whole in
       let one : OneItem s = record { item = i .item; bytes = sym (i .bytes) ∙ take-length s; most = fits .most; good = i .good; shallow = i .shallow } in
-      shaped-case one (Answer s) (λ place u. Answer.kind one u) (λ place. Answer.shape one) (judged-answer one))
+      examined-case one (Answer s) (λ place u. Answer.kind one u) (λ place. Answer.shape one) (judged-answer one))
       (λ t.
       let i = item-exact 0 s end b e in
       Answer.more fits i (omega (arith, i .within, eqb-false end (length s) t)))
 
   -- whatever the bytes
-  pub answer : Answer s (examined s)
-  unfolding examined
+  pub answer : Answer s (readPlaced s)
+  unfolding readPlaced
   answer =
       pick-case (Answer s) (eqb (length s) 0) (λ e. Answer.size (inl (eqb-true (length s) 0 e)))
       (λ e. pick-case (Answer s) (ltb mostBytes (length s)) (λ e′. Answer.size (inr (ltb-true mostBytes (length s) e′)))

@@ -14,7 +14,7 @@ use Rattle.message.specs.declared.Examined.{Examined}
 use Rattle.message.specs.declared.Examined.the-variants as E
 use Rattle.message.specs.declared.shape.Shape.the-variants as S
 use Rattle.message.specs.declared.Reading.{Reading}
-use Rattle.message.specs.Read.{judgedShape, examined, placeless, readOf}
+use Rattle.message.specs.Read.{judgedShape, readPlaced, placeless, readOf}
 use Rattle.exact.specs.Describes.{Describes}
 use Rattle.exact.specs.Accepted.{IsMessage, Accepted}
 use Rattle.exact.proofs.Bytes.{bytes-encode}
@@ -40,7 +40,7 @@ judged-good e e′ = rw (e, e′)
 pub accepted-exactly : (s : List ℕ) → Bytes s → ((m : Message) × (readOf s ≡ Reading.Read m)) ↔ Accepted s
 unfolding readOf placeless
 accepted-exactly s b = (
-  λ (m, q). read-answer (examined s) (answer b) q .0,
+  λ (m, q). read-answer (readPlaced s) (answer b) q .0,
   λ a.
       let h = message-shape (a .message) in
       (h .message, ap placeless (h .is ∙ judged-good (h .texts .1 (a .texts)) (h .names .1 (a .names)))),
@@ -60,14 +60,14 @@ message-once s a b =
 pub accepted-described : (s : List ℕ) (m : Message) → readOf s ≡ Reading.Read m → (a : Accepted s) → Describes s m (a .message .msg)
 unfolding readOf
 accepted-described s m q a =
-    let (a′, d) = read-answer (examined s) (answer (accepted-bytes s a)) q in
+    let (a′, d) = read-answer (readPlaced s) (answer (accepted-bytes s a)) q in
     subst (Describes s m) (message-once s (a′ .message) (a .message) .1) d
 
 -- So an answer is given exactly if it is the description of accepted bytes: no other place and no other number fits them.
 pub read-exactly : (s : List ℕ) (m : Message) → Bytes s → readOf s ≡ Reading.Read m ↔ ((a : Accepted s) × Describes s m (a .message .msg))
 unfolding readOf placeless
 read-exactly s m b = (
-  read-answer (examined s) (answer b),
+  read-answer (readPlaced s) (answer b),
   λ (a, d).
       let (m′, q) = accepted-exactly s b .1 a in
       q ∙ ap Reading.Read (described-once (accepted-described s m′ q a) d),

@@ -17,12 +17,12 @@ use Rattle.message.specs.declared.Examined.{Examined}
 use Rattle.message.specs.declared.Examined.the-variants as E
 use Rattle.message.specs.declared.shape.Shape.the-variants as S
 use Rattle.message.specs.declared.Reading.{Reading}
-use Rattle.message.specs.Read.{mostBytes, judgedShape, framed, examined, placeless, readOf}
+use Rattle.message.specs.Read.{mostBytes, judgedShape, framed, readPlaced, placeless, readOf}
 use Rattle.exact.specs.Accepted.{Accepted}
 use Rattle.exact.specs.Rows.{Fits, Row}
 use Rattle.exact.proofs.Whole.{stands}
-use Rattle.exact.proofs.Shaped.{shaped-case, unknown-complete}
-use Rattle.exact.proofs.Answers.{examined-one, judged-number, message-shape, Answer, answer}
+use Rattle.exact.proofs.Shaped.{examined-case, unknown-complete}
+use Rattle.exact.proofs.Answers.{placed-one, judged-number, message-shape, Answer, answer}
 use Rattle.exact.proofs.Exact.{accepted-exactly, accepted-bytes}
 
 -- ---- the row's refusal is given
@@ -37,22 +37,22 @@ unfolding judgedShape placeless pick
 judged-long m end bad long e e′ = rw (e, ne-eqb long 0 e′)
 
 -- neither too short nor too long
-examined-fit : {s : List ℕ} → Fits s → examined s ≡ framed s (firstItem 0 s)
-unfolding examined pick
-examined-fit {s} f = rw (ne-eqb (length s) 0 (f .some), le-ltb mostBytes (length s) (f .most))
+placed-fit : {s : List ℕ} → Fits s → readPlaced s ≡ framed s (firstItem 0 s)
+unfolding readPlaced pick
+placed-fit {s} f = rw (ne-eqb (length s) 0 (f .some), le-ltb mostBytes (length s) (f .most))
 
 -- row by row
 row-given : (s : List ℕ) (n : ℕ) → Row s n → readOf s ≡ Reading.Refused n
-unfolding readOf placeless examined framed pick
+unfolding readOf placeless readPlaced framed pick
 row-given s _ (Row.size (inl e)) = rw (eq-eqb (length s) 0 e)
 row-given s _ (Row.size (inr h)) = rw (ne-eqb (length s) 0 (λ z. omega arith), lt-ltb mostBytes (length s) h)
-row-given s n (Row.head {place = place} fits f) = ap placeless (examined-fit fits ∙ ap (framed s) (refusal-complete 0 s n place f))
+row-given s n (Row.head {place = place} fits f) = ap placeless (placed-fit fits ∙ ap (framed s) (refusal-complete 0 s n place f))
 row-given s _ (Row.more {e} fits i less) =
-    ap placeless (examined-fit fits ∙ ap (framed s) (item-found 0 s e i)) ∙ rw (ne-eqb e (length s) (λ z. omega arith))
-row-given s _ (Row.kind one u) = ap placeless (examined-one one ∙ unknown-complete (stands one) u .1)
+    ap placeless (placed-fit fits ∙ ap (framed s) (item-found 0 s e i)) ∙ rw (ne-eqb e (length s) (λ z. omega arith))
+row-given s _ (Row.kind one u) = ap placeless (placed-one one ∙ unknown-complete (stands one) u .1)
 row-given s _ (Row.shape one known none) =
-    ap placeless (examined-one one)
-    ∙ shaped-case one (λ (r : Examined). placeless r ≡ Reading.Refused 9) (λ place u. absurd (known u)) (λ place. refl) (λ m end bad long h. absurd (none (h .msg) (h .is)))
+    ap placeless (placed-one one)
+    ∙ examined-case one (λ (r : Examined). placeless r ≡ Reading.Refused 9) (λ place u. absurd (known u)) (λ place. refl) (λ m end bad long h. absurd (none (h .msg) (h .is)))
 row-given s _ (Row.text i bad) = let h = message-shape i in ap placeless (h .is) ∙ judged-bad (h .message) (h .end) (h .bad) (h .long) (λ z. bad (h .texts .0 z))
 row-given s _ (Row.name i texts long) = let h = message-shape i in ap placeless (h .is) ∙ judged-long (h .message) (h .end) (h .bad) (h .long) (h .texts .1 texts) (λ z. long (h .names .0 z))
 
@@ -62,7 +62,7 @@ refused-8-9 : {r : Reading} → r ≡ Reading.Refused 8 → r ≡ Reading.Refuse
 refused-8-9 e f = let z : _≡_ {A = ℕ} 8 9 = cc in omega arith
 
 -- refusal by refusal
-row-of : {s : List ℕ} {number place : ℕ} → examined s ≡ E.Refused number place → Answer s (E.Refused number place) → Row s number
+row-of : {s : List ℕ} {number place : ℕ} → readPlaced s ≡ E.Refused number place → Answer s (E.Refused number place) → Row s number
 unfolding readOf placeless
 row-of e (Answer.size h) = Row.size h
 row-of e (Answer.head fits f) = Row.head fits f
@@ -81,9 +81,9 @@ row-of e (Answer.name m texts long) = Row.name m texts long
 -- Each refusal is given exactly where its row says.
 pub refused-exactly : (s : List ℕ) (n : ℕ) → Bytes s → readOf s ≡ Reading.Refused n ↔ Row s n
 unfolding readOf placeless
-refused-exactly s n b = (by (examined s) refl, row-given s n)
+refused-exactly s n b = (by (readPlaced s) refl, row-given s n)
   where
-    by : (r : Examined) → examined s ≡ r → placeless r ≡ Reading.Refused n → Row s n
+    by : (r : Examined) → readPlaced s ≡ r → placeless r ≡ Reading.Refused n → Row s n
     by (E.Refused number place) e q = let same : number ≡ n = cc in subst (Row s) same (row-of e (subst (Answer s) e (answer b)))
     by (E.Accepted m end) e q = absurd (let z : _≡_ {A = ℕ} 0 1 = cc in omega arith)
 

@@ -1,4 +1,4 @@
--- The eleven kinds together: what `shaped` answers of bytes that are one item.
+-- The eleven kinds together: what `examined` answers of bytes that are one item.
 -- Assumes nothing.
 use mathlib.Core.Path.{_≡_, refl, sym, ap, _∙_, subst}
 use mathlib.Core.Logic.{_⊎_, inl, inr, _≢_}
@@ -28,7 +28,7 @@ use Rattle.message.specs.declared.shape.Shape.the-variants as S
 use Rattle.message.specs.declared.Examined.{Examined}
 use Rattle.message.specs.declared.Examined.the-variants as E
 use Rattle.message.specs.Shape.{exchangeAt}
-use Rattle.message.specs.Read.{byKind, judgedShape, shaped}
+use Rattle.message.specs.Read.{byKind, judgedShape, examined}
 use Rattle.exact.specs.Accepted.{OneItem}
 use Rattle.exact.specs.Rows.{UnknownKind}
 use Rattle.exact.proofs.Whole.{ShapeOk, Reads, Kinded, WholeIs, stands, one-bytes, fills}
@@ -160,10 +160,10 @@ module _ {s : List ℕ} (one : OneItem s) where
       record { bytes = one-bytes one; from = tokenAt s 0 .next; width = i .width; opened = array-head h four; lead = i .stands }
 
   -- an item of an unknown kind, a departure, or a message that is described
-  pub shaped-case : (P : Examined → Type 0) → ((place : ℕ) → UnknownKind (one .item) → P (E.Refused 8 place)) → ((place : ℕ) → P (E.Refused 9 place))
-      → ((m : Message) (end bad long : ℕ) → WholeIs one m bad long → P (judgedShape (S.Good m end bad long))) → P (shaped s)
-  unfolding shaped judgedShape
-  shaped-case P unknown departs reads =
+  pub examined-case : (P : Examined → Type 0) → ((place : ℕ) → UnknownKind (one .item) → P (E.Refused 8 place)) → ((place : ℕ) → P (E.Refused 9 place))
+      → ((m : Message) (end bad long : ℕ) → WholeIs one m bad long → P (judgedShape (S.Good m end bad long))) → P (examined s)
+  unfolding examined judgedShape
+  examined-case P unknown departs reads =
       let a = tokenAt s 0 in
       let k = tokenAt s (a .next) in
       pick-case P _ (λ _. departs _)
@@ -182,17 +182,17 @@ module _ {s : List ℕ} (one : OneItem s) where
       shape (ShapeOk.bad {place}) = departs place
       shape (ShapeOk.good {m} {end} {bad} {long} i) = reads m end bad long (fills one i)
 
--- an array that a number leads, and what `shaped` reads of it
+-- an array that a number leads, and what `examined` reads of it
 record Led (s : List ℕ) (kind : ℕ) (xs : Items) : Type 0 where
   at : ℕ
   place : ℕ
   end : ℕ
   stand : StandAll s at end xs
-  is : let read = judgedShape (byKind s kind (suc (count xs)) at) in shaped s ≡ pick (ltb 9 kind) (pick (eqb kind 99) read (E.Refused 8 place)) read
+  is : let read = judgedShape (byKind s kind (suc (count xs)) at) in examined s ≡ pick (ltb 9 kind) (pick (eqb kind 99) read (E.Refused 8 place)) read
 
 -- such an array is so read
 led : {s : List ℕ} {w v kind : ℕ} {xs : Items} → Stands s 0 (length s) (Item.array w (Items.more (uint v kind) xs)) → Led s kind xs
-unfolding shaped count pick
+unfolding examined count pick
 led {s} {kind = kind} {xs} a =
     let t = array-passed (last a) in
     let (number, arg, stand) = uint-passed (t .items) in
@@ -205,7 +205,7 @@ led {s} {kind = kind} {xs} a =
     }
 
 -- an item of no known kind
-pub unknown-complete : {s : List ℕ} {x : Item} → Stands s 0 (length s) x → UnknownKind x → (place : ℕ) × (shaped s ≡ E.Refused 8 place)
+pub unknown-complete : {s : List ℕ} {x : Item} → Stands s 0 (length s) x → UnknownKind x → (place : ℕ) × (examined s ≡ E.Refused 8 place)
 unfolding pick
 unknown-complete a (UnknownKind.unknown {n = n} high other) = let l = led a in (l .place, l .is ∙ rw (lt-ltb 9 n high, ne-eqb n 99 other))
 
@@ -215,10 +215,10 @@ pub record MessageReads (s : List ℕ) : Type 0 where
   pub end : ℕ
   pub bad : ℕ
   pub long : ℕ
-  pub is : shaped s ≡ judgedShape (S.Good message end bad long)
+  pub is : examined s ≡ judgedShape (S.Good message end bad long)
 
 -- as its shape is read
-reads-of : {s : List ℕ} (r : Shape) → shaped s ≡ judgedShape r → Reads r → MessageReads s
+reads-of : {s : List ℕ} (r : Shape) → examined s ≡ judgedShape r → Reads r → MessageReads s
 reads-of _ e (Reads.reads {m} {end} {bad} {long}) = record { message = m; end = end; bad = bad; long = long; is = e }
 
 -- each message is read

@@ -44,7 +44,7 @@ use Rattle.message.specs.Sequence.{locatorThen, locatorsFrom, pairThen, pairsFr
 use Rattle.message.specs.Shape.{noopAt, discovered, discoveryAt, exchanged, exchangeAt, waitAt, invalidAt, optionAt, endAt}
 use Rattle.message.specs.Response.{restOf, restAt, divertOf, divertAt, locatedOf, locatedAt, targetsAt, responseBy, responseAt}
 use Rattle.message.specs.Flood.{floodedBy, floodedOf, floodedAt, floodBy, floodAt}
-use Rattle.message.specs.Read.{byKind, judgedShape, shaped}
+use Rattle.message.specs.Read.{byKind, judgedShape, examined}
 use Rattle.message.proofs.Parts.{initiated}
 use Rattle.exact.proofs.Whole.{partLevels}
 
@@ -346,8 +346,8 @@ module _ (s : List ℕ) where
         P x = x ≡ E.Accepted m end → firstItem 0 s ≡ ItemRead.Ends end
 
 -- The walk accepts a message that its parts make up, and ends where they end.
-pub parts-walked : (s : List ℕ) {m : Message} {end : ℕ} → shaped s ≡ E.Accepted m end → firstItem 0 s ≡ ItemRead.Ends end
-unfolding shaped
+pub parts-walked : (s : List ℕ) {m : Message} {end : ℕ} → examined s ≡ E.Accepted m end → firstItem 0 s ≡ ItemRead.Ends end
+unfolding examined
 parts-walked s {m} {end} =
     pick-case P _ (λ _ q. absurd (refused-accepted q))
     (λ filled. pick-case P _

@@ -41,7 +41,7 @@ use Rattle.message.specs.Shape.{noopAt, discovered, discoveryAt, exchang
 use Rattle.message.specs.Response.{restOf, restAt, divertOf, divertAt, locatedOf, locatedAt, targetsAt, responseBy, responseAt}
 use Rattle.message.specs.Flood.{floodedBy, floodedOf, floodedAt, floodBy, floodAt}
 use Rattle.message.proofs.Fits.{LocatorsRan, locators-ran, PairsRan, pairs-ran}
-use Rattle.message.specs.Read.{mostBytes, byKind, judgedShape, shaped, framed, examined, placeless, readOf}
+use Rattle.message.specs.Read.{mostBytes, byKind, judgedShape, examined, framed, readPlaced, placeless, readOf}
 
 -- a session of 32 bits, an initiator of 4 or 16 bytes in the message, and an objective in it
 pub record SpreadParts (s : List ℕ) (number : ℕ) (i : Span) (o : Objective) : Type 0 where
@@ -267,16 +267,16 @@ module _ (s : List ℕ) where
   judged-parts kind (Shape.Bad place) h = tt
   judged-parts kind (Shape.Good m end bad long) h = both ExaminedParts _ (both ExaminedParts _ (h .1) tt) tt
 
-  shaped-parts : ExaminedParts (shaped s)
-  unfolding shaped
-  shaped-parts =
+  examined-parts : ExaminedParts (examined s)
+  unfolding examined
+  examined-parts =
       let read = judged-parts _ _ (kind-parts (tokenAt s (tokenAt s 0 .next) .arg) (tokenAt s 0 .arg) (tokenAt s (tokenAt s 0 .next) .next)) in
       both ExaminedParts _ tt (both ExaminedParts _ (both ExaminedParts _ (both ExaminedParts _ read tt) read) tt)
 
   framed-parts : (x : ItemRead) → ExaminedParts (framed s x)
   unfolding framed
   framed-parts (ItemRead.Refused number place) = tt
-  framed-parts (ItemRead.Ends end) = both ExaminedParts _ shaped-parts tt
+  framed-parts (ItemRead.Ends end) = both ExaminedParts _ examined-parts tt
 
 -- what was read
 abbrev ReadingParts : List ℕ → Examined → Type 0
@@ -288,7 +288,7 @@ answered s (Examined.Refused number place) few h m e = absurd (let z : _≡_ {A 
 answered s (Examined.Accepted m′ end) few h m e = (few, (let same : m′ ≡ m = cc in subst (MessageParts s) same h))
 
 pub read-parts : (s : List ℕ) (m : Message) → readOf s ≡ Reading.Read m → (length s ≤ mostBytes) × MessageParts s m
-unfolding readOf examined placeless
+unfolding readOf readPlaced placeless
 read-parts s m =
     pick-case (ReadingParts s) (eqb (length s) 0) refused
     (λ _. pick-case (ReadingParts s) (ltb mostBytes (length s)) refused (λ e. answered s (framed s (firstItem 0 s)) (ltb-false mostBytes (length s) e) (framed-parts s (firstItem 0 s)))) m

@@ -22,6 +22,7 @@ objectiveLevels = 2
 unfoldable pub isInitiator : Token → Bool
 isInitiator t = pick (eqb (t .major) 2) (pick (eqb (t .arg) 4) true (eqb (t .arg) 16)) false
 
+-- session, initiator and ttl, the session at `at`
 unfoldable pub openingAt : List ℕ → ℕ → OpeningRead
 openingAt s at =
     let i = tokenAt s at in

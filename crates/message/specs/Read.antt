@@ -37,8 +37,8 @@ judgedShape (Shape.Bad place) = Refused 9 place
 judgedShape (Shape.Good m end bad long) = unless (eqb bad 0) (Refused 11 bad) (unless (eqb long 0) (Refused 10 long) (Accepted m end))
 
 -- by the message's parts alone: 9 for what is no array or has no number first, 8 for an unknown kind, then by the kind
-unfoldable pub shaped : List ℕ → Examined
-shaped s =
+unfoldable pub examined : List ℕ → Examined
+examined s =
     let a = tokenAt s 0 in
     let k = tokenAt s (a .next) in
     pick (eqb (itemsIn a) 0) (Refused 9 0)
@@ -48,16 +48,17 @@ shaped s =
 
 -- by the walk: 2 to 6, and 7 where bytes follow the item; else by the parts
 unfoldable pub framed : List ℕ → ItemRead → Examined
-framed s r = framedBy Refused (shaped s) (length s) r
+framed s r = framedBy Refused (examined s) (length s) r
 
 -- the message that s is, or the refusal with its place
-unfoldable pub examined : List ℕ → Examined
-examined s = pick (eqb (length s) 0) (Refused 1 0) (pick (ltb mostBytes (length s)) (Refused 1 0) (framed s (firstItem 0 s)))
+unfoldable pub readPlaced : List ℕ → Examined
+readPlaced s = pick (eqb (length s) 0) (Refused 1 0) (pick (ltb mostBytes (length s)) (Refused 1 0) (framed s (firstItem 0 s)))
 
--- without places
+-- an answer without its place
 unfoldable pub placeless : Examined → Reading
 placeless (Refused number place) = Reading.Refused number
 placeless (Accepted m end) = Reading.Read m
 
+-- the message that s is, or the number of the refusal
 unfoldable pub readOf : List ℕ → Reading
-readOf s = placeless (examined s)
+readOf s = placeless (readPlaced s)

@@ -21,11 +21,12 @@ use Rattle.message.specs.Opening.{most, objectiveLevels, isInitiator}
 unfoldable pub noopAt : ℕ → ℕ → Shape
 noopAt n at = unless (eqb n 1) (Bad 0) (Good M.Noop at 0 0)
 
--- 1: session, initiator, objective
+-- a Discovery whose objective was read at `at`
 unfoldable pub discovered : ℕ → Span → ℕ → ObjectiveRead → Shape
 discovered session initiator at (ObjectiveRead.Bad place) = Bad place
 discovered session initiator at (ObjectiveRead.Got o size bad long) = Good (M.Discovery session initiator o) (at + size) bad long
 
+-- 1: session, initiator, objective
 unfoldable pub discoveryAt : List ℕ → ℕ → ℕ → Shape
 discoveryAt s n at =
     let i = tokenAt s at in
@@ -35,7 +36,7 @@ discoveryAt s n at =
     (unless (isInitiator j) (Bad (j .at))
     (discovered (upTo most i) (contentOf j) (j .next) (objectiveAt objectiveLevels s (j .next)))))
 
--- 3, 4, 5 and 8: session, objective
+-- the message of the kind 3, 4, 5 or 8
 unfoldable pub exchangeOf : ℕ → ℕ → Objective → Message
 exchangeOf kind session o =
     pick (eqb kind 3) (M.RequestNegotiation session o)
@@ -43,10 +44,12 @@ exchangeOf kind session o =
     (pick (eqb kind 5) (M.Negotiate session o)
     (M.Synch session o)))
 
+-- such a message whose objective was read at `at`
 unfoldable pub exchanged : ℕ → ℕ → ℕ → ObjectiveRead → Shape
 exchanged kind session at (ObjectiveRead.Bad place) = Bad place
 exchanged kind session at (ObjectiveRead.Got o size bad long) = Good (exchangeOf kind session o) (at + size) bad long
 
+-- 3, 4, 5 and 8: session, objective
 unfoldable pub exchangeAt : List ℕ → ℕ → ℕ → ℕ → Shape
 exchangeAt s kind n at =
     let i = tokenAt s at in
@@ -80,7 +83,7 @@ invalidAt s n at =
     (pick (eqb len 0) (Bad (i .next))
     (Good (M.Invalid (upTo most i) (spanOf (i .next) len)) (i .next + len) 0 0)))))
 
--- 6: session, accept or decline
+-- accept, or decline with its text or with none
 unfoldable pub optionAt : List ℕ → ℕ → ℕ → Shape
 optionAt s session at =
     let o = tokenAt s at in
@@ -96,6 +99,7 @@ optionAt s session at =
     (unless (eqb (t .major) 3) (Bad (t .at))
     (Good (M.End session (Outcome.Reason (contentOf t))) (t .next) (badText (contentIn s t) (t .at)) 0)))))))
 
+-- 6: session, accept or decline
 unfoldable pub endAt : List ℕ → ℕ → ℕ → Shape
 endAt s n at =
     let i = tokenAt s at in

@@ -1,6 +1,6 @@
 // GRASP messages (RFC 8990): the eleven kinds and their shapes. What a message holds is told by numbers and by places in its bytes.
 ghost use mathlib.Core.Path.{_≡_};
-ghost use Rattle.message.specs.Read.{judgedShape, shaped};
+ghost use Rattle.message.specs.Read.{judgedShape, examined};
 use cbor::token;
 use options::Outcome;
 use options::Span;
@@ -102,7 +102,7 @@ pub enum Examined {
 // The message that s begins with, by its parts alone: 9 for what is no array or has no number first, 8 for an unknown kind, then by
 // the kind. What follows the message isn't looked at.
 pub fn examine(s: &[u8]) -> Examined
-    ensures { λ r. ⌜ r ≡ shaped (now (s .entry)) ⌝ }
+    ensures { λ r. ⌜ r ≡ examined (now (s .entry)) ⌝ }
 {
     let a = token::array_at(s, 0);
     if token::items_in(a) == 0 {

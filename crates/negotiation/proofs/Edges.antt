@@ -12,7 +12,7 @@ use Rattle.utf8.specs.Utf8.{tailsOf, leastTail, greatestTail, goesOn, isUtf8}
 use Rattle.options.specs.Text.{badText}
 use Rattle.options.specs.Objective.{longName, objectiveFrom, objectiveIn, objectiveNamed}
 use Rattle.message.specs.Shape.{exchangeOf, exchanged, exchangeAt, waitAt, optionAt, endAt}
-use Rattle.message.specs.Read.{byKind, judgedShape, shaped, framed, examined, placeless, readOf}
+use Rattle.message.specs.Read.{byKind, judgedShape, examined, framed, readPlaced, placeless, readOf}
 use Rattle.negotiation.specs.declared.Side.the-variants.{Us, Them}
 use Rattle.negotiation.specs.declared.State.the-variants.{Fresh, Open, Closed}
 use Rattle.negotiation.specs.declared.Stepped.{Stepped}
@@ -55,5 +55,5 @@ pub session :
     ∷ Refused 20 ∷ Refused 1 ∷ [])
     × (negotiated (answered Fresh messages) ≡ 2)
     × (step (Open 7 0 Us) ending Us ≡ Refused 20)
-unfolding pick bigEndian widthOf leastOf initialOf argOf judged headFrom headBy headOf headAt opens stepOf stepFrom stepAt itemsOf next run enough firstItem nothingAt tokenOf tokenFrom tokenAt itemsIn upTo tailsOf leastTail greatestTail goesOn isUtf8 badText longName objectiveFrom objectiveIn objectiveNamed exchangeOf exchanged exchangeAt waitAt optionAt endAt byKind judgedShape shaped framed examined placeless readOf moveOf freshStep lowerStep turnStep stateStep readingStep step after answered isKind tookNegotiate negotiated
+unfolding pick bigEndian widthOf leastOf initialOf argOf judged headFrom headBy headOf headAt opens stepOf stepFrom stepAt itemsOf next run enough firstItem nothingAt tokenOf tokenFrom tokenAt itemsIn upTo tailsOf leastTail greatestTail goesOn isUtf8 badText longName objectiveFrom objectiveIn objectiveNamed exchangeOf exchanged exchangeAt waitAt optionAt endAt byKind judgedShape examined framed readPlaced placeless readOf moveOf freshStep lowerStep turnStep stateStep readingStep step after answered isKind tookNegotiate negotiated
 session = (refl, refl, refl)

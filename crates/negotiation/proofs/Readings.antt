@@ -15,7 +15,7 @@ use Rattle.message.proofs.Parts.{MessageParts, read-parts}
 use Rattle.message.specs.declared.Reading.{Reading}
 use Rattle.message.specs.declared.Examined.{Examined}
 use Rattle.message.specs.declared.shape.Shape.{Shape}
-use Rattle.message.specs.Read.{judgedShape, shaped, framed, examined, placeless, readOf}
+use Rattle.message.specs.Read.{judgedShape, examined, framed, readPlaced, placeless, readOf}
 use Rattle.negotiation.specs.declared.Move.{Move}
 use Rattle.negotiation.specs.declared.Move.the-variants.{Request, Negotiate, Wait, End, Other}
 use Rattle.negotiation.specs.Step.{moveOf}
@@ -57,7 +57,7 @@ judged-low (Shape.Bad place) = lit≤ tt
 judged-low (Shape.Good m end bad long) = both Low _ (both Low _ tt (lit≤ tt)) (lit≤ tt)
 
 framed-low : (s : List ℕ) (x : ItemRead) → firstItem 0 s ≡ x → Low (framed s x)
-unfolding framed shaped
+unfolding framed examined
 framed-low s (ItemRead.Refused number place) e = omega (arith, refused-numbers 0 s number place e .1)
 framed-low s (ItemRead.Ends end) e =
     both Low _ (both Low _ (lit≤ tt) (both Low _ (both Low _ (both Low _ (judged-low _) (lit≤ tt)) (judged-low _)) (lit≤ tt))) (lit≤ tt)
@@ -67,8 +67,8 @@ LowReading (Reading.Refused number) = number ≤ 11
 LowReading (Reading.Read m) = Unit {0}
 
 reading-low : (s : List ℕ) → LowReading (readOf s)
-unfolding readOf placeless examined
-reading-low s = go (examined s) (both Low _ (lit≤ tt) (both Low _ (lit≤ tt) (framed-low s (firstItem 0 s) refl)))
+unfolding readOf placeless readPlaced
+reading-low s = go (readPlaced s) (both Low _ (lit≤ tt) (both Low _ (lit≤ tt) (framed-low s (firstItem 0 s) refl)))
   where
     go : (x : Examined) → Low x → LowReading (placeless x)
     go (Examined.Refused number place) h = h

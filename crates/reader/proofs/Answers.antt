@@ -20,34 +20,34 @@ use Rattle.message.specs.declared.Message.{Message}
 use Rattle.message.specs.declared.Reading.{Reading}
 use Rattle.message.specs.declared.Examined.{Examined}
 use Rattle.message.specs.declared.Examined.the-variants as E
-use Rattle.message.specs.Read.{mostBytes, shaped, framed, examined, placeless, readOf}
+use Rattle.message.specs.Read.{mostBytes, examined, framed, readPlaced, placeless, readOf}
 use Rattle.exact.proofs.Walked.{parts-walked}
 use Rattle.reader.specs.Walk.{walkedBy, walkedFirst}
 
 -- too short, or too long
 pub read-none : (s : List ℕ) → length s ≡ 0 → Reading.Refused 1 ≡ readOf s
-unfolding readOf examined placeless pick
+unfolding readOf readPlaced placeless pick
 read-none s e = rw (eq-eqb (length s) 0 e)
 
 pub read-long : (s : List ℕ) → mostBytes < length s → Reading.Refused 1 ≡ readOf s
-unfolding readOf examined placeless pick
+unfolding readOf readPlaced placeless pick
 read-long s h = rw (ne-eqb (length s) 0 (λ z. omega arith), lt-ltb mostBytes (length s) h)
 
 -- neither: the walk is asked first
-fitting : (s : List ℕ) → length s ≢ 0 → length s ≤ mostBytes → examined s ≡ framed s (firstItem 0 s)
-unfolding examined pick
+fitting : (s : List ℕ) → length s ≢ 0 → length s ≤ mostBytes → readPlaced s ≡ framed s (firstItem 0 s)
+unfolding readPlaced pick
 fitting s some most = rw (ne-eqb (length s) 0 some, le-ltb mostBytes (length s) most)
 
 -- no bytes are no message
-shaped-some : (s : List ℕ) {m : Message} {end : ℕ} → shaped s ≡ E.Accepted m end → length s ≢ 0
-unfolding shaped tokenAt tokenFrom nothingAt itemsIn headAt pick
-shaped-some [] q = absurd (let z : _≡_ {A = ℕ} 0 1 = cc in omega arith)
-shaped-some (x ∷ s) q = λ z. omega arith
+examined-some : (s : List ℕ) {m : Message} {end : ℕ} → examined s ≡ E.Accepted m end → length s ≢ 0
+unfolding examined tokenAt tokenFrom nothingAt itemsIn headAt pick
+examined-some [] q = absurd (let z : _≡_ {A = ℕ} 0 1 = cc in omega arith)
+examined-some (x ∷ s) q = λ z. omega arith
 
 -- a message
-module _ (s : List ℕ) (r : Examined) (most : length s ≤ mostBytes) (is : r ≡ shaped s) (m : Message) (end : ℕ) (found : r ≡ E.Accepted m end) where
-  walked : examined s ≡ framed s (ItemRead.Ends end)
-  walked = fitting s (shaped-some s (sym is ∙ found)) most ∙ ap (framed s) (parts-walked s (sym is ∙ found))
+module _ (s : List ℕ) (r : Examined) (most : length s ≤ mostBytes) (is : r ≡ examined s) (m : Message) (end : ℕ) (found : r ≡ E.Accepted m end) where
+  walked : readPlaced s ≡ framed s (ItemRead.Ends end)
+  walked = fitting s (examined-some s (sym is ∙ found)) most ∙ ap (framed s) (parts-walked s (sym is ∙ found))
 
   pub read-whole : end ≡ length s → Reading.Read m ≡ readOf s
   unfolding readOf framed placeless pick
@@ -59,41 +59,41 @@ module _ (s : List ℕ) (r : Examined) (most : length s ≤ mostBytes) (is : r �
   read-over more = sym (ap placeless walked ∙ rw (ne-eqb end (length s) more))
 
 -- a refusal by the parts comes after the walk's
-due-later : (s : List ℕ) (number place : ℕ) → shaped s ≡ E.Refused number place → (x : ItemRead) → placeless (framed s x) ≡ Reading.Refused (walkedBy number (length s) x)
+due-later : (s : List ℕ) (number place : ℕ) → examined s ≡ E.Refused number place → (x : ItemRead) → placeless (framed s x) ≡ Reading.Refused (walkedBy number (length s) x)
 unfolding walkedBy framed placeless pick
 due-later s number place later (ItemRead.Refused number′ place′) = refl
 due-later s number place later (ItemRead.Ends end) = by (eqb end (length s))
   where
-    by : (t : Bool) → placeless (pick t (shaped s) (E.Refused 7 end)) ≡ Reading.Refused (pick t number 7)
+    by : (t : Bool) → placeless (pick t (examined s) (E.Refused 7 end)) ≡ Reading.Refused (pick t number 7)
     by true = ap placeless later
     by false = refl
 
-pub read-refused : (s : List ℕ) (r : Examined) (number place n : ℕ) → length s ≢ 0 → length s ≤ mostBytes → r ≡ shaped s → r ≡ E.Refused number place → n ≡ walkedFirst number s
+pub read-refused : (s : List ℕ) (r : Examined) (number place n : ℕ) → length s ≢ 0 → length s ≤ mostBytes → r ≡ examined s → r ≡ E.Refused number place → n ≡ walkedFirst number s
     → Reading.Refused n ≡ readOf s
 unfolding readOf walkedFirst
 read-refused s r number place n some most is found same =
     ap Reading.Refused same ∙ sym (ap placeless (fitting s some most) ∙ due-later s number place (sym is ∙ found) (firstItem 0 s))
 
 -- a message that was read is the whole that its parts make up
-pub read-shaped : (s : List ℕ) (m : Message) → readOf s ≡ Reading.Read m → (length s ≢ 0) × (shaped s ≡ E.Accepted m (length s))
-unfolding readOf examined framed placeless
-read-shaped s m =
+pub read-examined : (s : List ℕ) (m : Message) → readOf s ≡ Reading.Read m → (length s ≢ 0) × (examined s ≡ E.Accepted m (length s))
+unfolding readOf readPlaced framed placeless
+read-examined s m =
     both P (eqb (length s) 0) (λ q. absurd (let z : _≡_ {A = ℕ} 0 1 = cc in omega arith))
     (both P (ltb mostBytes (length s)) (λ q. absurd (let z : _≡_ {A = ℕ} 0 1 = cc in omega arith)) (by (firstItem 0 s) refl))
   where
     P : Examined → Type 0
-    P x = placeless x ≡ Reading.Read m → (length s ≢ 0) × (shaped s ≡ E.Accepted m (length s))
+    P x = placeless x ≡ Reading.Read m → (length s ≢ 0) × (examined s ≡ E.Accepted m (length s))
 
-    found : firstItem 0 s ≡ ItemRead.Ends (length s) → (x : Examined) → shaped s ≡ x → P x
+    found : firstItem 0 s ≡ ItemRead.Ends (length s) → (x : Examined) → examined s ≡ x → P x
     found w (E.Refused number place) e q = absurd (let z : _≡_ {A = ℕ} 0 1 = cc in omega arith)
     found w (E.Accepted m′ end) e q =
         let same : m′ ≡ m = cc in
         let ends : ItemRead.Ends end ≡ ItemRead.Ends (length s) = sym (parts-walked s e) ∙ w in
         let full : end ≡ length s = cc in
-        (shaped-some s e, rw (same, full) at e)
+        (examined-some s e, rw (same, full) at e)
 
     by : (x : ItemRead) → firstItem 0 s ≡ x → P (framed s x)
     by (ItemRead.Refused number place) w = λ q. absurd (let z : _≡_ {A = ℕ} 0 1 = cc in omega arith)
     by (ItemRead.Ends end) w =
-        pick-case P (eqb end (length s)) (λ t. found (w ∙ ap ItemRead.Ends (eqb-true end (length s) t)) (shaped s) refl)
+        pick-case P (eqb end (length s)) (λ t. found (w ∙ ap ItemRead.Ends (eqb-true end (length s) t)) (examined s) refl)
         (λ _ q. absurd (let z : _≡_ {A = ℕ} 0 1 = cc in omega arith))

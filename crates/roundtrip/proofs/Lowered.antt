@@ -37,7 +37,7 @@ use Rattle.message.specs.Opening.{most, objectiveLevels, isInitiator, openingAt
 use Rattle.message.specs.Shape.{discovered, discoveryAt}
 use Rattle.message.specs.Sequence.{pairsFrom}
 use Rattle.message.specs.Flood.{floodedBy, floodedOf, floodedAt, floodBy, floodAt}
-use Rattle.message.specs.Read.{byKind, judgedShape, shaped}
+use Rattle.message.specs.Read.{byKind, judgedShape, examined}
 use Rattle.message.proofs.Parts.{MessageParts, OfKind, ShapeParts, initiated, kind-parts}
 use Rattle.contents.specs.Fields.{sessionOf, initiatorOf}
 use Rattle.roundtrip.specs.Lower.{Lowers, Relays}
@@ -73,8 +73,8 @@ record Led (s : List ℕ) (m : Message) (end : ℕ) : Type 0 where
   shape : byKind s (tokenAt s (tokenAt s 0 .next) .arg) (tokenAt s 0 .arg) (tokenAt s (tokenAt s 0 .next) .next) ≡ S.Good m end 0 0
 
 -- a message that its parts make up is so led
-led : (s : List ℕ) {m : Message} {end : ℕ} → shaped s ≡ E.Accepted m end → Led s m end
-unfolding shaped
+led : (s : List ℕ) {m : Message} {end : ℕ} → examined s ≡ E.Accepted m end → Led s m end
+unfolding examined
 led s {m} {end} =
     pick-case P _ (λ _ q. absurd (never q))
     (λ t₁. pick-case P _ (λ t₂. both P _ (both P _ (read t₁ t₂) (λ q. absurd (never q))) (read t₁ t₂)) (λ _ q. absurd (never q)))
@@ -277,14 +277,14 @@ module _ (u h r : List ℕ) (n : ℕ) where
     pub message : Message
     pub rest : ℕ
     pub sized : end ≡ length u + length h + rest
-    pub read : shaped new ≡ E.Accepted message (length u + length (head 0 n) + rest)
+    pub read : examined new ≡ E.Accepted message (length u + length (head 0 n) + rest)
     pub relays : Relays old m o new message
 
   -- so it is where its shape is
   whole : (m : Message) (make : Objective → Message) (o : Objective) (end : ℕ) (i : Span) → Led old m end → kind .arg ≤ 9
       → ShapeRecounted (kind .next) i (byKind new (kind .arg) (array .arg) (kind .next)) make end
       → ((o′ : Objective) → held new i ≡ held old i → o′ .count ≡ n → Relays old m o new (make o′)) → MessageRecounted m o end
-  unfolding shaped judgedShape pick
+  unfolding examined judgedShape pick
   whole m make o end i l known c relays =
       let four : array .major ≡ 4 = is-array array (eqb-false (itemsIn array) 0 (l .filled)) in
       let none : kind .major ≡ 0 = eqb-true (kind .major) 0 (l .number) in
@@ -303,7 +303,7 @@ module _ (u h r : List ℕ) (n : ℕ) where
   of-kind : (m : Message) (end : ℕ) → Led old m end → OfKind (kind .arg) m × MessageParts old m
   of-kind m end l = subst (ShapeParts old (kind .arg)) (l .shape) (kind-parts old (kind .arg) (array .arg) (kind .next))
 
-  pub message-recounted : {m : Message} {o : Objective} (end : ℕ) → Lowers m o → CountAt u h 0 o → n ≡ o .count - 1 → shaped old ≡ E.Accepted m end → MessageRecounted m o end
+  pub message-recounted : {m : Message} {o : Objective} (end : ℕ) → Lowers m o → CountAt u h 0 o → n ≡ o .count - 1 → examined old ≡ E.Accepted m end → MessageRecounted m o end
   unfolding byKind sessionOf initiatorOf pick
   message-recounted end (Lowers.discovery {session} {i} {o}) place lower q =
       let l = led old q in

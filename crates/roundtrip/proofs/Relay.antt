@@ -24,7 +24,7 @@ use Rattle.message.specs.declared.Message.{Message}
 use Rattle.message.specs.declared.Message.the-variants as M
 use Rattle.message.specs.declared.Reading.{Reading}
 use Rattle.contents.specs.Fields.{kindOf, objectiveOf}
-use Rattle.message.specs.Read.{mostBytes, shaped, readOf}
+use Rattle.message.specs.Read.{mostBytes, examined, readOf}
 use Rattle.message.proofs.Parts.{MessageParts, read-parts}
 use Rattle.exact.specs.Accepted.{Accepted}
 use Rattle.exact.proofs.Exact.{accepted-described}
@@ -33,7 +33,7 @@ use Rattle.writer.specs.declared.Written.{Written}
 use Rattle.writer.specs.Write.{lowered, passes, passAnswer, passOut, okLower, lowerAnswer, lowerOut}
 use Rattle.roundtrip.specs.Plain.{plain}
 use Rattle.roundtrip.specs.Lower.{withCount, lowerObj, lowerMsg, Lowers, onward, Relays}
-use Rattle.reader.proofs.Answers.{read-whole, read-shaped}
+use Rattle.reader.proofs.Answers.{read-whole, read-examined}
 use Rattle.roundtrip.proofs.Recounted.{CountAt}
 use Rattle.roundtrip.proofs.Lowered.{MessageRecounted, message-recounted}
 use Rattle.roundtrip.proofs.Hand.{handed}
@@ -107,7 +107,7 @@ module _ (s : List ℕ) (o : Objective) (h : ObjectiveParts (length s) o) where
       let size : length s ≡ length (before s o) + (length (between s o) + length r) = sym (ap length spelt-whole) ∙ simp length-append in
       let size′ : length new ≡ length (before s o) + (length (head 0 (o .count - 1)) + length r) = simp length-append in
       let read : readOf new ≡ Reading.Read (x .message) =
-      sym (read-whole new (shaped new) (omega (arith, shorter s o h, ap length is)) refl (x .message) _ (x .read) (omega (arith, x .sized))) in (
+      sym (read-whole new (examined new) (omega (arith, shorter s o h, ap length is)) refl (x .message) _ (x .read) (omega (arith, x .sized))) in (
         x .message,
         subst (λ (l : List ℕ). readOf l ≡ Reading.Read (x .message)) is read,
         subst (λ (l : List ℕ). Relays l m o (onward s o) (x .message)) spelt-whole (subst (λ (l : List ℕ). Relays (before s o ++ (between s o ++ r)) m o l (x .message)) is (x .relays)),
@@ -209,7 +209,7 @@ lowered-reads s m o q low =
     let h = lowers-parts s low parts in
     reads-lower s o h
     (message-recounted (before s o) (between s o) (drop (o .value .at) s) (o .count - 1) (length s) low (count-at s o h) refl
-    (ap shaped (spelt-whole s o h) ∙ read-shaped s m q .1))
+    (ap examined (spelt-whole s o h) ∙ read-examined s m q .1))
     most
 
 -- It is what the writer writes for that message.

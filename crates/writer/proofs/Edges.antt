@@ -22,7 +22,7 @@ use Rattle.message.specs.Sequence.{textLed, locatorThen, locatorsFrom, pairThen
 use Rattle.message.specs.Shape.{noopAt, discovered, discoveryAt, exchangeOf, exchanged, exchangeAt, waitAt, invalidAt, optionAt, endAt}
 use Rattle.message.specs.Response.{responseBy, responseAt, targetsAt, locatedAt, locatedOf, restAt}
 use Rattle.message.specs.Flood.{floodedBy, floodedOf, floodedAt, floodBy, floodAt}
-use Rattle.message.specs.Read.{byKind, judgedShape, shaped, framed, examined, placeless, readOf}
+use Rattle.message.specs.Read.{byKind, judgedShape, examined, framed, readPlaced, placeless, readOf}
 use Rattle.syntax.specs.Message.{orNull}
 use Rattle.description.specs.Encoding.{string, numberOrNull, reached, fixed, encodeLoc, oneMore, encodeObj, maybeObj, howMany, locOrEmpty, encodePair, targetItems, encodeTargets, encodeEnding, opening, exchange, encodeMsg}
 use Rattle.description.specs.Describe.{listOf, entryOf, objOf, placeLoc, placeAt, rowLoc, locsOf, targetsOf, extraOf, entryAt, locOrNone, rowPair, pairsOf, endOf, msgOf}
@@ -40,7 +40,7 @@ pub written :
     × (writeOut source floodRow floodTold (replicate 20 0) ≡ floodBytes 2)
     × (writeAnswer [] [] endTold (replicate 6 0) ≡ Written.Length 6)
     × (writeOut [] [] endTold (replicate 6 0) ≡ endBytes)
-unfolding pick bigEndian bytesOf widthOf leastOf initialOf argOf judged headFrom headBy headOf headAt opens stepOf stepFrom stepAt itemsOf next run enough firstItem nothingAt tokenOf tokenFrom tokenAt sizeFrom sizeAt itemsIn upTo tailsOf leastTail greatestTail goesOn isUtf8 infoOf headBytes shortest head badText firstOf isNull addressFits protocolOf portOf locatorOf textOf locatorIn locatorReached longName objectiveFrom objectiveIn objectiveNamed isEmpty pairTagged pairTail pairLed pairIn isInitiator openingAt textLed locatorThen locatorsFrom pairThen pairsFrom noopAt discovered discoveryAt exchangeOf exchanged exchangeAt waitAt invalidAt optionAt endAt responseBy responseAt floodedBy floodedOf floodedAt floodBy floodAt byKind judgedShape shaped framed examined placeless readOf string numberOrNull reached fixed encodeLoc oneMore encodeObj maybeObj howMany locOrEmpty encodePair flatMap targetItems encodeTargets encodeEnding opening exchange encodeMsg listOf entryOf objOf orNull placeLoc placeAt rowLoc locsOf targetsOf extraOf entryAt locOrNone rowPair pairsOf endOf msgOf alone whole accepts inside okValue okItem okEntry okPlace blankPlace okNoneOr allFrom okEach okRow okRows okPair okPairs okExtra okOutcome okDiscovery okResponse okFlood okParts okList okDescribed handAnswer handOut passes passAnswer passOut draftOf writeAnswer writeOut lowered okLower lowerAnswer lowerOut answerOf targetsAt locatedAt locatedOf restAt
+unfolding pick bigEndian bytesOf widthOf leastOf initialOf argOf judged headFrom headBy headOf headAt opens stepOf stepFrom stepAt itemsOf next run enough firstItem nothingAt tokenOf tokenFrom tokenAt sizeFrom sizeAt itemsIn upTo tailsOf leastTail greatestTail goesOn isUtf8 infoOf headBytes shortest head badText firstOf isNull addressFits protocolOf portOf locatorOf textOf locatorIn locatorReached longName objectiveFrom objectiveIn objectiveNamed isEmpty pairTagged pairTail pairLed pairIn isInitiator openingAt textLed locatorThen locatorsFrom pairThen pairsFrom noopAt discovered discoveryAt exchangeOf exchanged exchangeAt waitAt invalidAt optionAt endAt responseBy responseAt floodedBy floodedOf floodedAt floodBy floodAt byKind judgedShape examined framed readPlaced placeless readOf string numberOrNull reached fixed encodeLoc oneMore encodeObj maybeObj howMany locOrEmpty encodePair flatMap targetItems encodeTargets encodeEnding opening exchange encodeMsg listOf entryOf objOf orNull placeLoc placeAt rowLoc locsOf targetsOf extraOf entryAt locOrNone rowPair pairsOf endOf msgOf alone whole accepts inside okValue okItem okEntry okPlace blankPlace okNoneOr allFrom okEach okRow okRows okPair okPairs okExtra okOutcome okDiscovery okResponse okFlood okParts okList okDescribed handAnswer handOut passes passAnswer passOut draftOf writeAnswer writeOut lowered okLower lowerAnswer lowerOut answerOf targetsAt locatedAt locatedOf restAt
 written = (refl, refl, refl, refl, refl, refl, refl)
 
 -- for readers

@@ -1,7 +1,7 @@
 -- `message::examine` meets its contract.
 -- Assumes nothing.
 use mathlib.Core.Logic.{⊎-elim}
-use Rattle.message.specs.Read.{shaped}
+use Rattle.message.specs.Read.{examined}
 use Rattle.base.specs.Pick.{pick}
 use borrow.Author.Tests.{lt-ltb, le-ltb, eq-eqb, ne-eqb}
 use borrow.Author.Needs.{needs}
@@ -22,7 +22,7 @@ items-in-requires : tie.Need-items-in-requires
 items-in-requires c κs = search needs
 
 returns : tie.Need-returns
-unfolding shaped pick
+unfolding examined pick
 returns c =
     rw (← c .before .before .array-at .ensures .is, ← c .before .items-in .ensures, eq-eqb _ _ (c .if1 .taken))
 
@@ -30,12 +30,12 @@ number-at-requires : tie.Need-number-at-requires
 number-at-requires c κs = search needs
 
 returns-2 : tie.Need-returns-2
-unfolding shaped pick
+unfolding examined pick
 returns-2 c =
     rw (← c .before .before .before .before .before .array-at .ensures .is, ← c .before .before .before .before .items-in .ensures, ne-eqb _ _ (c .before .before .before .if1 .left), ← c .before .before .number-at .ensures .is, ne-eqb _ _ (c .if2 .taken))
 
 returns-3 : tie.Need-returns-3
-unfolding shaped pick
+unfolding examined pick
 returns-3 c =
     rw (← c .before .before .before .before .before .before .before .before .before .array-at .ensures .is, ← c .before .before .before .before .before .before .before .before .items-in .ensures, ne-eqb _ _ (c .before .before .before .before .before .before .before .if1 .left), ← c .before .before .before .before .before .before .number-at .ensures .is, eq-eqb _ _ (c .before .before .before .before .if2 .left), lt-ltb _ _ (c .before .before .if3 .taken), ne-eqb _ _ (c .if4 .taken))
 
@@ -46,7 +46,7 @@ judge-requires : tie.Need-judge-requires
 judge-requires c κs = search needs
 
 returns-4 : tie.Need-returns-4
-unfolding shaped pick
+unfolding examined pick
 returns-4 c =
     ⊎-elim
     (λ w. rw (← c .before .before .before .before .before .before .before .before .before .array-at .ensures .is, ← c .before .before .before .before .before .before .before .before .items-in .ensures, ne-eqb _ _ (c .before .before .before .before .before .before .before .if1 .left), ← c .before .before .before .before .before .before .number-at .ensures .is, eq-eqb _ _ (c .before .before .before .before .if2 .left), lt-ltb _ _ (w .0 .taken), eq-eqb _ _ (w .2 .left), ← c .before .by-kind .ensures, ← c .judge .ensures))
