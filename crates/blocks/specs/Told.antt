@@ -8,7 +8,7 @@ use Rattle.base.specs.Pick.{pick, unless}
 use Rattle.base.specs.Bits.{hasBit, maskWith}
 use Rattle.options.specs.declared.Span.{Span}
 use Rattle.options.specs.Text.{spanOf}
-use Rattle.message.specs.Opening.{most}
+use Rattle.message.specs.Opening.{mostNumber}
 use Rattle.description.specs.declared.Goal.{Goal}
 use Rattle.description.specs.declared.Extra.{Extra}
 use Rattle.options.specs.declared.Outcome.{Outcome}
@@ -121,8 +121,8 @@ toldKind f numbers n =
 unfoldable pub toldBy : List ℕ → ℕ → Told
 toldBy f numbers =
     unless (allFit f (allowedIn (getD f 0 0))) Nothing
-    (pick (ltb most (getD f 1 0)) Nothing
-    (pick (ltb most (getD f 4 0)) Nothing
+    (pick (ltb mostNumber (getD f 1 0)) Nothing
+    (pick (ltb mostNumber (getD f 4 0)) Nothing
     (pick (ltb 255 (getD f 8 0)) Nothing
     (pick (ltb 255 (getD f 9 0)) Nothing
     (toldKind f numbers (record { session = getD f 1 0; ttl = getD f 4 0; flags = getD f 8 0; count = getD f 9 0 }))))))

@@ -91,20 +91,20 @@ token-end s at = token-is s at (tokenAt s at) refl .end
 
 -- ---- by its numbers
 -- items are of an array
-pub is-array : (w : Token) → (itemsIn w ≡ 0 → ⊥) → w .major ≡ 4
+pub is-array : (t : Token) → (itemsIn t ≡ 0 → ⊥) → t .major ≡ 4
 unfolding itemsIn
-is-array w = pick-case (λ n. (n ≡ 0 → ⊥) → w .major ≡ 4) (eqb (w .major) 4) (λ e _. eqb-true (w .major) 4 e) (λ e n. absurd (n refl))
+is-array t = pick-case (λ n. (n ≡ 0 → ⊥) → t .major ≡ 4) (eqb (t .major) 4) (λ e _. eqb-true (t .major) 4 e) (λ e n. absurd (n refl))
 
 -- a number within its limit
-pub is-number : (limit : ℕ) (w : Token) → upTo limit w ≤ limit → (w .major ≡ 0) × (upTo limit w ≡ w .arg)
+pub is-number : (limit : ℕ) (t : Token) → upTo limit t ≤ limit → (t .major ≡ 0) × (upTo limit t ≡ t .arg)
 unfolding upTo
-is-number limit w =
-    pick-case by (eqb (w .major) 0)
-    (λ e. pick-case by (leb (w .arg) limit) (λ _ _. (eqb-true (w .major) 0 e, refl)) (λ _ h. absurd (omega arith)))
+is-number limit t =
+    pick-case by (eqb (t .major) 0)
+    (λ e. pick-case by (leb (t .arg) limit) (λ _ _. (eqb-true (t .major) 0 e, refl)) (λ _ h. absurd (omega arith)))
     (λ e h. absurd (omega arith))
   where
     by : ℕ → Type 0
-    by n = n ≤ limit → (w .major ≡ 0) × (n ≡ w .arg)
+    by n = n ≤ limit → (t .major ≡ 0) × (n ≡ t .arg)
 
 -- ---- the least that a token has
 -- a head with an argument above 23 has two bytes at least

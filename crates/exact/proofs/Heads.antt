@@ -20,7 +20,7 @@ use Rattle.grammar.specs.Cddl.{uint, bytes, Number, Initiator}
 use Rattle.grammar.specs.Stands.{Stands, StandAll, Before}
 use Rattle.grammar.proofs.Bridge.{Heading, token-heading, split, string-major, number-token, text-token, array-token}
 use Rattle.grammar.proofs.Pieces.{Some, number-at, content-bytes, text-at, number-here, number-is}
-use Rattle.message.specs.Opening.{most, isInitiator}
+use Rattle.message.specs.Opening.{mostNumber, isInitiator}
 use Rattle.message.proofs.Parts.{initiated}
 use Rattle.exact.specs.Describes.{NumberIs, InitiatorIs}
 
@@ -28,7 +28,7 @@ use Rattle.exact.specs.Describes.{NumberIs, InitiatorIs}
 -- a number within the limit of sessions, ttls and waiting times
 pub record NumberHere (s : List ℕ) (p e n : ℕ) : Type 0 where
   pub width : ℕ
-  pub low : n ≤ most
+  pub low : n ≤ mostNumber
   pub stands : Stands s p e (uint width n)
 
 -- as a number of the message
@@ -63,10 +63,10 @@ module _ {s : List ℕ} {p : ℕ} (b : Bytes s) where
   uint-at e = number-at (heading (omega arith)) e
 
   -- one within the limit
-  pub number-at-most : ltb most (upTo most (tokenAt s p)) ≡ false → NumberHere s p (tokenAt s p .next) (upTo most (tokenAt s p))
+  pub number-at-most : ltb mostNumber (upTo mostNumber (tokenAt s p)) ≡ false → NumberHere s p (tokenAt s p .next) (upTo mostNumber (tokenAt s p))
   number-at-most e =
-      let small = ltb-false most (upTo most (tokenAt s p)) e in
-      let i = number-here most (tokenAt s p) b refl small in
+      let small = ltb-false mostNumber (upTo mostNumber (tokenAt s p)) e in
+      let i = number-here mostNumber (tokenAt s p) b refl small in
       record { width = i .width; low = small; stands = i .stands }
 
   -- a byte string, or a text
@@ -109,10 +109,10 @@ module _ {s : List ℕ} {p e : ℕ} {xs : Items} where
       (ap (λ (t : Token). t .major) t, ap (λ (t : Token). t .arg) t, subst (λ (k : ℕ). StandAll s k e xs) (sym (ap (λ (t : Token). t .next) t)) (c .rest))
 
   -- one within the limit
-  pub number-passed : {x : Item} {n : ℕ} → StandAll s p e (Items.more x xs) → Number x n → (ltb most (upTo most (tokenAt s p)) ≡ false) × StandAll s (tokenAt s p .next) e xs
+  pub number-passed : {x : Item} {n : ℕ} → StandAll s p e (Items.more x xs) → Number x n → (ltb mostNumber (upTo mostNumber (tokenAt s p)) ≡ false) × StandAll s (tokenAt s p .next) e xs
   number-passed a (Number.number small) =
       let (zero, arg, rest) = uint-passed a in
-      (le-ltb most (upTo most (tokenAt s p)) (rw (number-is most (tokenAt s p) zero (rw arg small), arg) small), rest)
+      (le-ltb mostNumber (upTo mostNumber (tokenAt s p)) (rw (number-is mostNumber (tokenAt s p) zero (rw arg small), arg) small), rest)
 
   -- a byte string, or a text
   pub string-passed : {text : Bool} {w : ℕ} {content : List ℕ} → StandAll s p e (Items.more (Item.string text w content) xs)

@@ -14,7 +14,7 @@ use Rattle.options.specs.Text.{contentOf}
 use Rattle.message.specs.declared.opening.Opening.{Opening}
 use Rattle.message.specs.declared.opening.OpeningRead.{OpeningRead}
 use Rattle.message.specs.declared.opening.OpeningRead.the-variants.{Bad, Got}
-use Rattle.message.specs.Opening.{most, openingAt}
+use Rattle.message.specs.Opening.{mostNumber, openingAt}
 use Rattle.exact.proofs.Heads.{NumberHere, InitiatorHere, number-at-most, initiator-at, number-passed, initiator-passed}
 
 -- the three stand one after the other
@@ -53,4 +53,4 @@ opening-complete {s} {at} a i j k =
     let (e′, c) = initiator-passed b j in
     let (e″, d) = number-passed c k in
     let t = tokenAt s (tokenAt s (tokenAt s at .next) .next) in
-    (record { session = upTo most (tokenAt s at); initiator = contentOf (tokenAt s (tokenAt s at .next)); ttl = upTo most t }, t .next, rw (e, e′, e″), d)
+    (record { session = upTo mostNumber (tokenAt s at); initiator = contentOf (tokenAt s (tokenAt s at .next)); ttl = upTo mostNumber t }, t .next, rw (e, e′, e″), d)

@@ -39,7 +39,7 @@ use Rattle.message.specs.declared.shape.Shape.{Shape}
 use Rattle.message.specs.declared.shape.Shape.the-variants as S
 use Rattle.message.specs.declared.Examined.{Examined}
 use Rattle.message.specs.declared.Examined.the-variants as E
-use Rattle.message.specs.Opening.{most, objectiveLevels, isInitiator, openingAt}
+use Rattle.message.specs.Opening.{mostNumber, objectiveLevels, isInitiator, openingAt}
 use Rattle.message.specs.Sequence.{locatorThen, locatorsFrom, pairThen, pairsFrom}
 use Rattle.message.specs.Shape.{noopAt, discovered, discoveryAt, exchanged, exchangeAt, waitAt, invalidAt, optionAt, endAt}
 use Rattle.message.specs.Response.{restOf, restAt, divertOf, divertAt, locatedOf, locatedAt, targetsAt, responseBy, responseAt}
@@ -68,8 +68,8 @@ module _ (s : List ℕ) where
   number-passes {p = p} limit low = leaf-passes s p (inl (omega (arith, is-number limit (tokenAt s p) low .0)))
 
   -- one of sessions, ttls and waiting times
-  most-passes : {left p : ℕ} → ltb most (upTo most (tokenAt s p)) ≡ false → Passes left 1 s p (tokenAt s p .next)
-  most-passes {p = p} e = number-passes most (ltb-false most (upTo most (tokenAt s p)) e)
+  most-passes : {left p : ℕ} → ltb mostNumber (upTo mostNumber (tokenAt s p)) ≡ false → Passes left 1 s p (tokenAt s p .next)
+  most-passes {p = p} e = number-passes mostNumber (ltb-false mostNumber (upTo mostNumber (tokenAt s p)) e)
 
   -- an initiator
   initiator-passes : {left p : ℕ} → isInitiator (tokenAt s p) ≡ true → Passes left 1 s p (tokenAt s p .next)

@@ -4,7 +4,7 @@ use mathlib.Core.List.{List, [], _∷_}
 use lib.ListN.{getD}
 use lib.Dec.{ltb, eqb}
 use Rattle.base.specs.Pick.{pick}
-use Rattle.message.specs.Opening.{most}
+use Rattle.message.specs.Opening.{mostNumber}
 use Rattle.negotiation.specs.declared.Side.{Side}
 use Rattle.negotiation.specs.declared.Side.the-variants.{Us, Them}
 use Rattle.negotiation.specs.declared.State.{State}
@@ -23,7 +23,7 @@ sideNumber Them = 1
 unfoldable pub stateOf : List ℕ → ℕ → State
 stateOf f side =
     pick (ltb 1 side) Closed
-    (pick (ltb most (getD f 1 0)) Closed
+    (pick (ltb mostNumber (getD f 1 0)) Closed
     (pick (ltb 255 (getD f 2 0)) Closed
     (pick (ltb 1 (getD f 3 0)) Closed
     (pick (eqb (getD f 0 0) 0) Fresh

@@ -36,7 +36,7 @@ use Rattle.message.specs.declared.sequence.PairsRead.{PairsRead}
 use Rattle.message.specs.declared.shape.Shape.{Shape}
 use Rattle.message.specs.declared.Examined.{Examined}
 use Rattle.message.specs.declared.Reading.{Reading}
-use Rattle.message.specs.Opening.{most, objectiveLevels, isInitiator, openingAt}
+use Rattle.message.specs.Opening.{mostNumber, objectiveLevels, isInitiator, openingAt}
 use Rattle.message.specs.Shape.{noopAt, discovered, discoveryAt, exchangeOf, exchanged, exchangeAt, waitAt, invalidAt, optionAt, endAt}
 use Rattle.message.specs.Response.{restOf, restAt, divertOf, divertAt, locatedOf, locatedAt, targetsAt, responseBy, responseAt}
 use Rattle.message.specs.Flood.{floodedBy, floodedOf, floodedAt, floodBy, floodAt}
@@ -45,7 +45,7 @@ use Rattle.message.specs.Read.{mostBytes, byKind, judgedShape, examined,
 
 -- a session of 32 bits, an initiator of 4 or 16 bytes in the message, and an objective in it
 pub record SpreadParts (s : List ℕ) (number : ℕ) (i : Span) (o : Objective) : Type 0 where
-  pub session : number ≤ most
+  pub session : number ≤ mostNumber
   pub within : i .at + i .len ≤ length s
   pub bytes : (i .len ≡ 4) ⊎ (i .len ≡ 16)
   pub objective : ObjectiveParts (length s) o
@@ -129,10 +129,10 @@ module _ (s : List ℕ) where
       let i = tokenAt s at in
       let j = tokenAt s (i .next) in
       both (ShapeParts 1) (eqb n 4)
-      (pick-case (ShapeParts 1) (ltb most (upTo most i)) (λ _. tt)
+      (pick-case (ShapeParts 1) (ltb mostNumber (upTo mostNumber i)) (λ _. tt)
       (λ e. pick-case (ShapeParts 1) (isInitiator j)
       (λ f. let (within, bytes) = initiator-has (i .next) f in
-      discovered-parts _ (j .next) _ _ (λ o h. record { session = ltb-false most (upTo most i) e; within = within; bytes = bytes; objective = objective-in (token-end s (i .next)) h })
+      discovered-parts _ (j .next) _ _ (λ o h. record { session = ltb-false mostNumber (upTo mostNumber i) e; within = within; bytes = bytes; objective = objective-in (token-end s (i .next)) h })
       (objective-within objectiveLevels s (j .next) (j .next) _ _ refl refl))
       (λ _. tt)))
       tt
@@ -148,10 +148,10 @@ module _ (s : List ℕ) where
   opening-parts at =
       let i = tokenAt s at in
       let j = tokenAt s (i .next) in
-      pick-case OpeningParts (ltb most (upTo most i)) (λ _. tt)
+      pick-case OpeningParts (ltb mostNumber (upTo mostNumber i)) (λ _. tt)
       (λ e. pick-case OpeningParts (isInitiator j)
       (λ f. let (within, bytes) = initiator-has (i .next) f in
-      both OpeningParts _ tt (token-end s (j .next), λ o h. record { session = ltb-false most (upTo most i) e; within = within; bytes = bytes; objective = h }))
+      both OpeningParts _ tt (token-end s (j .next), λ o h. record { session = ltb-false mostNumber (upTo mostNumber i) e; within = within; bytes = bytes; objective = h }))
       (λ _. tt))
 
   -- Flood
@@ -222,7 +222,7 @@ module _ (s : List ℕ) where
   exchange-parts kind n at =
       let next = tokenAt s at .next in
       both (ShapeParts kind) (eqb n 3)
-      (both (ShapeParts kind) _ tt (by (upTo most (tokenAt s at)) next (token-end s at) (objectiveAt objectiveLevels s next) (objective-within objectiveLevels s next next _ _ refl refl))) tt
+      (both (ShapeParts kind) _ tt (by (upTo mostNumber (tokenAt s at)) next (token-end s at) (objectiveAt objectiveLevels s next) (objective-within objectiveLevels s next next _ _ refl refl))) tt
     where
       Parts : Message → Type 0
       Parts m = OfKind kind m × MessageParts s m
@@ -246,7 +246,7 @@ module _ (s : List ℕ) where
       (exchange-parts kind n at)))))))
     where
       session : ℕ
-      session = upTo most (tokenAt s at)
+      session = upTo mostNumber (tokenAt s at)
 
       next : ℕ
       next = tokenAt s at .next

@@ -11,8 +11,8 @@ use Rattle.message.specs.declared.opening.OpeningRead.{OpeningRead}
 use Rattle.message.specs.declared.opening.OpeningRead.the-variants.{Bad, Got}
 
 -- the greatest session, ttl and waiting time
-abbrev pub most : ℕ
-most = 4294967295
+abbrev pub mostNumber : ℕ
+mostNumber = 4294967295
 
 -- how many levels are open around the value of an objective that stands in the message: the message's and the objective's own
 abbrev pub objectiveLevels : ℕ
@@ -28,7 +28,7 @@ openingAt s at =
     let i = tokenAt s at in
     let j = tokenAt s (i .next) in
     let t = tokenAt s (j .next) in
-    pick (ltb most (upTo most i)) (Bad (i .at))
+    pick (ltb mostNumber (upTo mostNumber i)) (Bad (i .at))
     (unless (isInitiator j) (Bad (j .at))
-    (pick (ltb most (upTo most t)) (Bad (t .at))
-    (Got (record { session = upTo most i; initiator = contentOf j; ttl = upTo most t }) (t .next))))
+    (pick (ltb mostNumber (upTo mostNumber t)) (Bad (t .at))
+    (Got (record { session = upTo mostNumber i; initiator = contentOf j; ttl = upTo mostNumber t }) (t .next))))

@@ -15,7 +15,7 @@ use Rattle.message.specs.declared.Message.{Message}
 use Rattle.message.specs.declared.Message.the-variants as M
 use Rattle.message.specs.declared.shape.Shape.{Shape}
 use Rattle.message.specs.declared.shape.Shape.the-variants.{Bad, Good}
-use Rattle.message.specs.Opening.{most, objectiveLevels, isInitiator}
+use Rattle.message.specs.Opening.{mostNumber, objectiveLevels, isInitiator}
 
 -- 0: nothing
 unfoldable pub noopAt : ℕ → ℕ → Shape
@@ -32,9 +32,9 @@ discoveryAt s n at =
     let i = tokenAt s at in
     let j = tokenAt s (i .next) in
     unless (eqb n 4) (Bad 0)
-    (pick (ltb most (upTo most i)) (Bad (i .at))
+    (pick (ltb mostNumber (upTo mostNumber i)) (Bad (i .at))
     (unless (isInitiator j) (Bad (j .at))
-    (discovered (upTo most i) (contentOf j) (j .next) (objectiveAt objectiveLevels s (j .next)))))
+    (discovered (upTo mostNumber i) (contentOf j) (j .next) (objectiveAt objectiveLevels s (j .next)))))
 
 -- the message of the kind 3, 4, 5 or 8
 unfoldable pub exchangeOf : ℕ → ℕ → Objective → Message
@@ -54,8 +54,8 @@ unfoldable pub exchangeAt : List ℕ → ℕ → ℕ → ℕ → Shape
 exchangeAt s kind n at =
     let i = tokenAt s at in
     unless (eqb n 3) (Bad 0)
-    (pick (ltb most (upTo most i)) (Bad (i .at))
-    (exchanged kind (upTo most i) (i .next) (objectiveAt objectiveLevels s (i .next))))
+    (pick (ltb mostNumber (upTo mostNumber i)) (Bad (i .at))
+    (exchanged kind (upTo mostNumber i) (i .next) (objectiveAt objectiveLevels s (i .next))))
 
 -- 7: session, waiting time
 unfoldable pub waitAt : List ℕ → ℕ → ℕ → Shape
@@ -63,9 +63,9 @@ waitAt s n at =
     let i = tokenAt s at in
     let t = tokenAt s (i .next) in
     unless (eqb n 3) (Bad 0)
-    (pick (ltb most (upTo most i)) (Bad (i .at))
-    (pick (ltb most (upTo most t)) (Bad (t .at))
-    (Good (M.Wait (upTo most i) (upTo most t)) (t .next) 0 0)))
+    (pick (ltb mostNumber (upTo mostNumber i)) (Bad (i .at))
+    (pick (ltb mostNumber (upTo mostNumber t)) (Bad (t .at))
+    (Good (M.Wait (upTo mostNumber i) (upTo mostNumber t)) (t .next) 0 0)))
 
 -- how many levels are open around Invalid's item: the message's own
 abbrev pub itemLevels : ℕ
@@ -78,10 +78,10 @@ invalidAt s n at =
     let len = sizeAt itemLevels s (i .next) in
     pick (ltb n 2) (Bad 0)
     (pick (ltb 3 n) (Bad 0)
-    (pick (ltb most (upTo most i)) (Bad (i .at))
-    (pick (eqb n 2) (Good (M.Invalid (upTo most i) (spanOf (i .next) 0)) (i .next) 0 0)
+    (pick (ltb mostNumber (upTo mostNumber i)) (Bad (i .at))
+    (pick (eqb n 2) (Good (M.Invalid (upTo mostNumber i) (spanOf (i .next) 0)) (i .next) 0 0)
     (pick (eqb len 0) (Bad (i .next))
-    (Good (M.Invalid (upTo most i) (spanOf (i .next) len)) (i .next + len) 0 0)))))
+    (Good (M.Invalid (upTo mostNumber i) (spanOf (i .next) len)) (i .next + len) 0 0)))))
 
 -- accept, or decline with its text or with none
 unfoldable pub optionAt : List ℕ → ℕ → ℕ → Shape
@@ -104,5 +104,5 @@ unfoldable pub endAt : List ℕ → ℕ → ℕ → Shape
 endAt s n at =
     let i = tokenAt s at in
     unless (eqb n 3) (Bad 0)
-    (pick (ltb most (upTo most i)) (Bad (i .at))
-    (optionAt s (upTo most i) (i .next)))
+    (pick (ltb mostNumber (upTo mostNumber i)) (Bad (i .at))
+    (optionAt s (upTo mostNumber i) (i .next)))

@@ -15,7 +15,7 @@ use options::objective::Objective;
 use options::objective::ObjectiveRead;
 
 // How many levels are open around Invalid's item: the message's own.
-const LEVELS: usize = 1;
+const ITEM_LEVELS: usize = 1;
 
 // How many levels are open around the value of an objective that stands in the message: the message's and the objective's own.
 pub(crate) const OBJECTIVE_LEVELS: usize = 2;
@@ -217,7 +217,7 @@ fn invalid_at(s: &[u8], n: u64, at: usize) -> Shape
             long: 0,
         };
     }
-    let len = token::size_at(LEVELS, s, end);
+    let len = token::size_at(ITEM_LEVELS, s, end);
     if len == 0 {
         return Shape::Bad(end);
     }

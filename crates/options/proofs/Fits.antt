@@ -28,39 +28,39 @@ use Rattle.options.specs.Pair.{isEmpty, pairLevels, pairTagged, pairTail
 
 -- ---- locators
 -- null is a leaf
-null-leaf : (w : Token) → isNull w ≡ true → Leaf w
+null-leaf : (t : Token) → isNull t ≡ true → Leaf t
 unfolding isNull
-null-leaf w q = inr (eqb-true (w .major) 7 (both-hold (eqb (w .major) 7) q .0))
+null-leaf t q = inr (eqb-true (t .major) 7 (both-hold (eqb (t .major) 7) q .0))
 
 -- an address that fits its kind is a leaf
-address-leaf : (kind : ℕ) (w : Token) → addressFits kind w ≡ true → Leaf w
+address-leaf : (kind : ℕ) (t : Token) → addressFits kind t ≡ true → Leaf t
 unfolding addressFits
-address-leaf kind w =
-    pick-case P (leb 105 kind) (λ _ q. inl (omega (arith, eqb-true (w .major) 3 q)))
-    (λ _ q. inl (omega (arith, eqb-true (w .major) 2 (both-hold (eqb (w .major) 2) q .0))))
+address-leaf kind t =
+    pick-case P (leb 105 kind) (λ _ q. inl (omega (arith, eqb-true (t .major) 3 q)))
+    (λ _ q. inl (omega (arith, eqb-true (t .major) 2 (both-hold (eqb (t .major) 2) q .0))))
   where
     P : Bool → Type 0
-    P t = t ≡ true → Leaf w
+    P b = b ≡ true → Leaf t
 
 -- what is read as a protocol is a leaf
-protocol-leaf : (kind : ℕ) (w : Token) → (protocolOf kind w ≡ noProtocol → ⊥) → Leaf w
+protocol-leaf : (kind : ℕ) (t : Token) → (protocolOf kind t ≡ noProtocol → ⊥) → Leaf t
 unfolding protocolOf
-protocol-leaf kind w =
-    pick-case P (eqb (w .major) 0) (λ e _. inl (omega (arith, eqb-true (w .major) 0 e)))
-    (λ _. both P (eqb kind 106) (pick-case P (isNull w) (λ e _. null-leaf w e) (λ _ n. absurd (n refl))) (λ n. absurd (n refl)))
+protocol-leaf kind t =
+    pick-case P (eqb (t .major) 0) (λ e _. inl (omega (arith, eqb-true (t .major) 0 e)))
+    (λ _. both P (eqb kind 106) (pick-case P (isNull t) (λ e _. null-leaf t e) (λ _ n. absurd (n refl))) (λ n. absurd (n refl)))
   where
     P : ℕ → Type 0
-    P p = (p ≡ noProtocol → ⊥) → Leaf w
+    P p = (p ≡ noProtocol → ⊥) → Leaf t
 
 -- what is read as a port is a leaf
-port-leaf : (kind : ℕ) (w : Token) → portOf kind w ≤ nullPort → Leaf w
+port-leaf : (kind : ℕ) (t : Token) → portOf kind t ≤ nullPort → Leaf t
 unfolding portOf
-port-leaf kind w =
-    pick-case P (eqb (w .major) 0) (λ e _. inl (omega (arith, eqb-true (w .major) 0 e)))
-    (λ _. both P (eqb kind 106) (pick-case P (isNull w) (λ e _. null-leaf w e) (λ _ h. absurd (omega arith))) (λ h. absurd (omega arith)))
+port-leaf kind t =
+    pick-case P (eqb (t .major) 0) (λ e _. inl (omega (arith, eqb-true (t .major) 0 e)))
+    (λ _. both P (eqb kind 106) (pick-case P (isNull t) (λ e _. null-leaf t e) (λ _ h. absurd (omega arith))) (λ h. absurd (omega arith)))
   where
     P : ℕ → Type 0
-    P p = p ≤ nullPort → Leaf w
+    P p = p ≤ nullPort → Leaf t
 
 -- a locator has six bytes at least, and lies within so many
 abbrev pub LocatorOk : ℕ → LocatorRead → Type 0
@@ -244,11 +244,11 @@ objective-fits levels s base at r x e q =
     rw (length-drop at s) at (subst (ObjectiveOk base (length (drop at s))) (ap (objectiveIn levels base) (sym (rest-is at s)) ∙ sym e ∙ q) (objective-ok levels base (drop at s)))
 
 -- what a `match` has found
-pub tail-found : (base : ℕ) (s : List ℕ) (at : ℕ) (o : Objective) (bad long : ℕ) (w : Token) (b : Bool) (r x : LocatorRead)
-    → w ≡ tokenAt s at → b ≡ isEmpty w → b ≡ false → r ≡ locatorIn (base + at) (take (length s - at) (drop at s)) → r ≡ x
+pub tail-found : (base : ℕ) (s : List ℕ) (at : ℕ) (o : Objective) (bad long : ℕ) (t : Token) (b : Bool) (r x : LocatorRead)
+    → t ≡ tokenAt s at → b ≡ isEmpty t → b ≡ false → r ≡ locatorIn (base + at) (take (length s - at) (drop at s)) → r ≡ x
     → pairTagged at o bad long x ≡ pairTail base s at o bad long
 unfolding pairTail pick
-tail-found base s at o bad long w b r x e f g h q = rw (← e, ← f, g, ← rest-is at s, ← h, q)
+tail-found base s at o bad long t b r x e f g h q = rw (← e, ← f, g, ← rest-is at s, ← h, q)
 
 pub pair-found : (base : ℕ) (s : List ℕ) (a : Token) (n : ℕ) (r x : ObjectiveRead)
     → a ≡ tokenAt s 0 → n ≡ itemsIn a → (n ≡ 0 → ⊥) → r ≡ objectiveIn 3 (base + a .next) (take (length s - a .next) (drop (a .next) s)) → r ≡ x
@@ -264,11 +264,11 @@ pub objective-within : (levels : ℕ) (s : List ℕ) (base at : ℕ) (r x : Obje
 objective-within levels s base at r x e q = rw (length-drop at s) at (subst (ObjectiveOk base (length (drop at s))) (sym e ∙ q) (objective-ok levels base (drop at s)))
 
 -- what the test of an empty array says
-pub empty-is : (w : Token) → isEmpty w ≡ true → (w .major ≡ 4) × (w .arg ≡ 0)
+pub empty-is : (t : Token) → isEmpty t ≡ true → (t .major ≡ 4) × (t .arg ≡ 0)
 unfolding isEmpty
-empty-is w q =
-    let (e, f) = both-hold (eqb (w .major) 4) q in
-    (eqb-true (w .major) 4 e, eqb-true (w .arg) 0 f)
+empty-is t q =
+    let (e, f) = both-hold (eqb (t .major) 4) q in
+    (eqb-true (t .major) 4 e, eqb-true (t .arg) 0 f)
 
 -- the walk passes over a pair, of its own level and those of its objective
 abbrev pub PairWalked : List ℕ → PairRead → Type 0
@@ -305,9 +305,9 @@ module _ (base : ℕ) (s : List ℕ) where
       let second : Second (at + size) = λ e tag. array-passes s 0 array (rw (eqb-true n 2 two) (passes-then (passes-within walked) tag)) in
       pick-case Told _
       (λ e.
-      let (four, none) = empty-is w e in
-      let w₁ : at + size + 1 ≤ w .next = token-has s (at + size) .some (omega arith) in
-      ((parts, omega arith, token-end s (at + size), omega (arith, h .3)), second (w .next) (array-passes s (at + size) four (rw none passes-none))))
+      let (four, none) = empty-is t e in
+      let t₁ : at + size + 1 ≤ t .next = token-has s (at + size) .some (omega arith) in
+      ((parts, omega arith, token-end s (at + size), omega (arith, h .3)), second (t .next) (array-passes s (at + size) four (rw none passes-none))))
       (λ _. tagged-told (at + size) o bad long _ parts (omega (arith, h .3)) (locator-within s (base + (at + size)) (at + size) _ _ refl refl) (locator-walked (base + (at + size)) (drop (at + size) s)) second))
       (λ _. (tt, tt))
     where
@@ -317,8 +317,8 @@ module _ (base : ℕ) (s : List ℕ) where
       at : ℕ
       at = tokenAt s 0 .next
 
-      w : Token
-      w = tokenAt s (at + size)
+      t : Token
+      t = tokenAt s (at + size)
 
   -- four bytes are its objective's, and one its own head's and its tag's
   pair-told : Told (pairIn base s)

@@ -146,17 +146,17 @@ led-moves : (base base′ : ℕ) (s : List ℕ) (n at : ℕ) (x y : ObjectiveRea
 unfolding pairLed pairTail
 led-moves base base′ s n at (ObjectiveRead.Bad place) y h = tt
 led-moves base base′ s n at (ObjectiveRead.Got o size bad long) y h =
-    both None (eqb n 2) (both None (isEmpty w) (λ f z z′. f z z′ z z′) (tagged-none (at + size) o bad long (locatorIn (base + (at + size)) (drop (at + size) s)) _)) (λ _. tt)
+    both None (eqb n 2) (both None (isEmpty t) (λ f z z′. f z z′ z z′) (tagged-none (at + size) o bad long (locatorIn (base + (at + size)) (drop (at + size) s)) _)) (λ _. tt)
     (λ z z′.
     let (o′, e) = h z z′ in
     rw e
     (one-test PairMoves (eqb n 2)
-    (one-test PairMoves (isEmpty w) (λ _ _. (o′, Tag.Empty, refl))
+    (one-test PairMoves (isEmpty t) (λ _ _. (o′, Tag.Empty, refl))
     (tagged-moves (at + size) o o′ bad long _ _ (locator-moves (base + (at + size)) (base′ + (at + size)) (drop (at + size) s))))
     tt))
   where
-    w : Token
-    w = tokenAt s (at + size)
+    t : Token
+    t = tokenAt s (at + size)
 
     None : PairRead → Type 0
     None x = (bad ≡ 0 → long ≡ 0 → PairMoves x (pairLed base′ s n at y)) → PairMoves x (pairLed base′ s n at y)

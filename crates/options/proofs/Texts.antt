@@ -27,6 +27,6 @@ unfolding badText
 bad-text-moves text place place′ some = one-test NoneMoves (isUtf8 text) (λ _. refl) (λ z. absurd (omega arith))
 
 -- a name that isn't long at some place is long at none
-pub long-name-moves : (w : Token) (place place′ : ℕ) → 1 ≤ place → NoneMoves (longName w place) (longName w place′)
+pub long-name-moves : (t : Token) (place place′ : ℕ) → 1 ≤ place → NoneMoves (longName t place) (longName t place′)
 unfolding longName
-long-name-moves w place place′ some = one-test NoneMoves (ltb mostName (w .arg)) (λ z. absurd (omega arith)) (λ _. refl)
+long-name-moves t place place′ some = one-test NoneMoves (ltb mostName (t .arg)) (λ z. absurd (omega arith)) (λ _. refl)

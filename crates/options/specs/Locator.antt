@@ -16,11 +16,11 @@ use Rattle.options.specs.Text.{spanOf, contentIn, badText}
 
 -- null: simple value 22, which has a head of one byte (a float has a longer one)
 unfoldable pub isNull : Token → Bool
-isNull w = pick (eqb (w .major) 7) (pick (eqb (w .arg) 22) (pick (ltb (w .at) (w .body)) (eqb (w .body - w .at) 1) false) false) false
+isNull t = pick (eqb (t .major) 7) (pick (eqb (t .arg) 22) (pick (ltb (t .at) (t .body)) (eqb (t .body - t .at) 1) false) false) false
 
 -- 16 bytes for 103, 4 for 104, a text for 105 and 106
 unfoldable pub addressFits : ℕ → Token → Bool
-addressFits kind w = pick (leb 105 kind) (eqb (w .major) 3) (pick (eqb (w .major) 2) (pick (eqb kind 103) (eqb (w .arg) 16) (eqb (w .arg) 4)) false)
+addressFits kind t = pick (leb 105 kind) (eqb (t .major) 3) (pick (eqb (t .major) 2) (pick (eqb kind 103) (eqb (t .arg) 16) (eqb (t .arg) 4)) false)
 
 -- what a locator has for a protocol that is null, and what is read of anything else that is no protocol
 abbrev pub nullProtocol : ℕ
@@ -41,17 +41,17 @@ noPort = 65537
 
 -- 6 or 17, and null, which 106 may have
 unfoldable pub protocolOf : ℕ → Token → ℕ
-protocolOf kind w =
-    pick (eqb (w .major) 0)
-    (pick (eqb (w .arg) 6) 6 (pick (eqb (w .arg) 17) 17 noProtocol))
-    (pick (eqb kind 106) (pick (isNull w) nullProtocol noProtocol) noProtocol)
+protocolOf kind t =
+    pick (eqb (t .major) 0)
+    (pick (eqb (t .arg) 6) 6 (pick (eqb (t .arg) 17) 17 noProtocol))
+    (pick (eqb kind 106) (pick (isNull t) nullProtocol noProtocol) noProtocol)
 
 -- up to 65,535, and null, which 106 may have
 unfoldable pub portOf : ℕ → Token → ℕ
-portOf kind w =
-    pick (eqb (w .major) 0)
-    (pick (leb (w .arg) mostPort) (w .arg) noPort)
-    (pick (eqb kind 106) (pick (isNull w) nullPort noPort) noPort)
+portOf kind t =
+    pick (eqb (t .major) 0)
+    (pick (leb (t .arg) mostPort) (t .arg) noPort)
+    (pick (eqb kind 106) (pick (isNull t) nullPort noPort) noPort)
 
 unfoldable pub locatorOf : ℕ → ℕ → ℕ → ℕ → ℕ → Locator
 locatorOf kind at len protocol port =

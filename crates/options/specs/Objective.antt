@@ -17,7 +17,7 @@ mostName = 64
 
 -- `place` where a name is longer than that, else 0
 unfoldable pub longName : Token → ℕ → ℕ
-longName w place = pick (ltb mostName (w .arg)) place 0
+longName t place = pick (ltb mostName (t .arg)) place 0
 
 -- the objective whose name and count these tokens head, with a value of so many bytes after the count
 unfoldable pub objectiveFrom : ℕ → Token → ℕ → Token → ℕ → ℕ → Objective

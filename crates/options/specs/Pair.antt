@@ -21,7 +21,7 @@ use Rattle.options.specs.Objective.{objectiveIn}
 
 -- an empty array
 unfoldable pub isEmpty : Token → Bool
-isEmpty w = pick (eqb (w .major) 4) (eqb (w .arg) 0) false
+isEmpty t = pick (eqb (t .major) 4) (eqb (t .arg) 0) false
 
 -- a pair whose second item was read as a locator
 unfoldable pub pairTagged : ℕ → Objective → ℕ → ℕ → LocatorRead → PairRead
@@ -30,8 +30,8 @@ pairTagged at o bad long (LR.Got l size bad′) = PR.Got o (Tag.At l) (at + size
 
 unfoldable pub pairTail : ℕ → List ℕ → ℕ → Objective → ℕ → ℕ → PairRead
 pairTail base s at o bad long =
-    let w = tokenAt s at in
-    pick (isEmpty w) (PR.Got o Tag.Empty (w .next) bad long) (pairTagged at o bad long (locatorIn (base + at) (drop at s)))
+    let t = tokenAt s at in
+    pick (isEmpty t) (PR.Got o Tag.Empty (t .next) bad long) (pairTagged at o bad long (locatorIn (base + at) (drop at s)))
 
 unfoldable pub pairLed : ℕ → List ℕ → ℕ → ℕ → ObjectiveRead → PairRead
 pairLed base s n at (OR.Bad place) = PR.Bad place

@@ -13,7 +13,7 @@ use cbor::token;
 use cbor::token::Token;
 
 // A pair stands in a message and an objective in a pair: so many levels are open around the objective's value.
-const LEVELS: usize = 3;
+const PAIR_LEVELS: usize = 3;
 
 // What a flooded objective is tagged with.
 pub enum Tag {
@@ -60,7 +60,7 @@ pub(crate) fn read_in(s: &[u8], base: usize) -> PairRead
         return PairRead::Bad(base);
     }
     let at = a.next;
-    let read = objective::read_in(LEVELS, &s[at..], base + at);
+    let read = objective::read_in(PAIR_LEVELS, &s[at..], base + at);
     match read {
         ObjectiveRead::Bad(place) => PairRead::Bad(place),
         ObjectiveRead::Got {

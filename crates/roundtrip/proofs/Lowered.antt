@@ -33,7 +33,7 @@ use Rattle.message.specs.declared.shape.Shape.{Shape}
 use Rattle.message.specs.declared.shape.Shape.the-variants as S
 use Rattle.message.specs.declared.Examined.{Examined}
 use Rattle.message.specs.declared.Examined.the-variants as E
-use Rattle.message.specs.Opening.{most, objectiveLevels, isInitiator, openingAt}
+use Rattle.message.specs.Opening.{mostNumber, objectiveLevels, isInitiator, openingAt}
 use Rattle.message.specs.Shape.{discovered, discoveryAt}
 use Rattle.message.specs.Sequence.{pairsFrom}
 use Rattle.message.specs.Flood.{floodedBy, floodedOf, floodedAt, floodBy, floodAt}
@@ -114,7 +114,7 @@ module _ (u h r : List ℕ) (n : ℕ) where
   unfolding discoveryAt discovered pick
   discovery-recounted few m at session i o end place =
       pick-case P (eqb m 4)
-      (λ t₁. pick-case P (ltb most (upTo most k)) (λ _ q. absurd (no-shape q))
+      (λ t₁. pick-case P (ltb mostNumber (upTo mostNumber k)) (λ _ q. absurd (no-shape q))
       (λ t₂. pick-case P (isInitiator j) (λ t₃. by t₁ t₂ t₃ (objectiveAt objectiveLevels old (j .next)) refl) (λ _ q. absurd (no-shape q))))
       (λ _ q. absurd (no-shape q))
     where
@@ -127,11 +127,11 @@ module _ (u h r : List ℕ) (n : ℕ) where
       P : Shape → Type 0
       P x = x ≡ S.Good (M.Discovery session i o) end 0 0 → ShapeRecounted at i (discoveryAt new m at) (M.Discovery session i) end
 
-      made : eqb m 4 ≡ true → ltb most (upTo most k) ≡ false → isInitiator j ≡ true → {size : ℕ} → j .next + size ≡ end → upTo most k ≡ session → contentOf j ≡ i
+      made : eqb m 4 ≡ true → ltb mostNumber (upTo mostNumber k) ≡ false → isInitiator j ≡ true → {size : ℕ} → j .next + size ≡ end → upTo mostNumber k ≡ session → contentOf j ≡ i
           → (j .next ≤ length u) × Recounted (drop (j .next) u) h n (objectiveAt objectiveLevels new (j .next)) (λ o e. ObjectiveRead.Got o e 0 0) size
           → ShapeRecounted at i (discoveryAt new m at) (M.Discovery session i) end
       made t₁ t₂ t₃ all same same′ (low, x) =
-          let (number, _) = is-number most k (ltb-false most (upTo most k) t₂) in
+          let (number, _) = is-number mostNumber k (ltb-false mostNumber (upTo mostNumber k) t₂) in
           let (two, _) = initiated j t₃ in
           let k₁ : at + 1 ≤ k .next = token-has old at .some (omega arith) in
           let j₁ : k .next + 1 ≤ j .next = token-has old (k .next) .some (omega arith) in
@@ -144,8 +144,8 @@ module _ (u h r : List ℕ) (n : ℕ) where
                 (λ o e got. rw (front-token h r n u at (omega arith) (omega arith), front-token h r n u (k .next) (omega arith) low, t₁, t₂, t₃, got, ← same, ← same′)) x);
           }
 
-      by : eqb m 4 ≡ true → ltb most (upTo most k) ≡ false → isInitiator j ≡ true → (x : ObjectiveRead) → objectiveAt objectiveLevels old (j .next) ≡ x
-          → P (discovered (upTo most k) (contentOf j) (j .next) x)
+      by : eqb m 4 ≡ true → ltb mostNumber (upTo mostNumber k) ≡ false → isInitiator j ≡ true → (x : ObjectiveRead) → objectiveAt objectiveLevels old (j .next) ≡ x
+          → P (discovered (upTo mostNumber k) (contentOf j) (j .next) x)
       by t₁ t₂ t₃ (ObjectiveRead.Bad place) e = λ q. absurd (no-shape q)
       by t₁ t₂ t₃ (ObjectiveRead.Got o₁ size bad long) e =
           λ q.
@@ -159,13 +159,13 @@ module _ (u h r : List ℕ) (n : ℕ) where
       → (at ≤ length u) × (o .initiator .at + o .initiator .len ≤ length u) × (openingAt new at ≡ OpeningRead.Got o next)
   unfolding openingAt pick
   opening-kept at o next low =
-      pick-case P (ltb most (upTo most k)) (λ _ q. absurd (never q))
+      pick-case P (ltb mostNumber (upTo mostNumber k)) (λ _ q. absurd (never q))
       (λ t₁. pick-case P (isInitiator j)
-      (λ t₂. pick-case P (ltb most (upTo most t)) (λ _ q. absurd (never q))
+      (λ t₂. pick-case P (ltb mostNumber (upTo mostNumber t)) (λ _ q. absurd (never q))
       (λ t₃ q.
-      let (number, _) = is-number most k (ltb-false most (upTo most k) t₁) in
+      let (number, _) = is-number mostNumber k (ltb-false mostNumber (upTo mostNumber k) t₁) in
       let (two, _) = initiated j t₂ in
-      let (time, _) = is-number most t (ltb-false most (upTo most t) t₃) in
+      let (time, _) = is-number mostNumber t (ltb-false mostNumber (upTo mostNumber t) t₃) in
       let k₁ : at + 1 ≤ k .next = token-has old at .some (omega arith) in
       let j₁ : k .next + 1 ≤ j .next = token-has old (k .next) .some (omega arith) in
       let t₄ : j .next + 1 ≤ t .next = token-has old (j .next) .some (omega arith) in
