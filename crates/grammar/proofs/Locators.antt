@@ -1,11 +1,12 @@
 -- A locator that is read stands in the message as an item that the CDDL calls this locator (`locator-sound`), and every such item is read, wherever it
--- stands, and as this locator (`locator-read`).
+-- stands, and as this locator (`locator-read`): it is read exactly there (`locator-exactly`).
 -- Assumes nothing.
 use mathlib.Core.Path.{_≡_, refl, sym, ap, subst}
 use mathlib.Core.Logic.{_↔_}
 use mathlib.Core.List.{List}
 use mathlib.Core.Bool.{true, cond}
 use Prim.Native.Nat.{ℕ, _+_, _-_, _≤_}
+use native.Mathlib.Nat.{add-sub-cancel-left}
 use native.Mathlib.Omega.{arith}
 use lib.ListN.{length, take, drop}
 use lib.Seq.{drop-drop}
@@ -27,20 +28,11 @@ use Rattle.options.specs.Locator.{addressFits, protocolOf, portOf, locatorOf, t
 use Rattle.syntax.specs.Message.{Loc}
 use Rattle.grammar.specs.Cddl.{LocatorItem}
 use Rattle.grammar.specs.Limits.{Utf8, locTexts}
-use Rattle.grammar.specs.Stands.{Stands, locOf}
+use Rattle.grammar.specs.Stands.{Stands, locOf, LocatorStands}
 use Rattle.grammar.proofs.Bridge.{split, join, last, only, lift-first, sink-first, advances, string-major, token-heading, number-token, text-token, array-token}
 use Rattle.grammar.proofs.Pieces.{array-items, number-is, number-here, content-bytes, text-at, array-at, content-there}
 use Rattle.grammar.proofs.One.{locator-one}
 use Rattle.grammar.proofs.LocatorParts.{AddressIs, Shape, shape-of, shape-item, shape-texts, protocol-here, port-here, address-here, protocol-reads, port-reads, address-reads}
-
--- the locator l, read from p to e of the message m with a bad text at `bad`: the item that stands there, and the locator that it is
-pub record LocatorStands (m : List ℕ) (p e : ℕ) (l : Locator) (bad : ℕ) : Type 0 where
-  pub item : Item
-  pub loc : Loc
-  pub stands : Stands m p e item
-  pub is : LocatorItem item loc
-  pub described : locOf m l ≡ loc
-  pub texts : bad ≡ 0 ↔ Every Utf8 (locTexts loc)
 
 -- ---- sound
 abbrev Sound : List ℕ → ℕ → LocatorRead → Type 0
@@ -152,11 +144,20 @@ reads {m} {base} {e} st (Shape.shape {kind = kind} {t} {a} {pn = pn} {qn} addres
       rw inside (shape-texts m (base + b .body) (b .next - b .body) pn qn a (base + b .at) (sym content) far address),
     )
 
--- for readers
 -- an item that is a locator is read, and as the locator that it is
 pub locator-read : {m : List ℕ} {base e : ℕ} {x : Item} {loc : Loc} → Stands m base e x → LocatorItem x loc
-    → (l : Locator) × (bad : ℕ) × (locatorAt m base ≡ LocatorRead.Got l (e - base) bad) × (locOf m l ≡ loc) × (bad ≡ 0 ↔ Every Utf8 (locTexts loc))
-locator-read {loc = loc} st is =
+    → (l : Locator) × (bad : ℕ) × (locatorAt m base ≡ LocatorRead.Got l (e - base) bad)
+    × (i : LocatorStands m base e l bad) × (i .item ≡ x) × (i .loc ≡ loc)
+locator-read {x = x} st is =
     let (l, bad, read, described, texts) = reads st (shape-of is) in
-    let same : locOf _ l ≡ loc = locator-one described is in
-    (l, bad, read, same, rw same at texts)
+    (l, bad, read, record { item = x; loc = locOf _ l; stands = st; is = described; described = refl; texts = texts }, refl, locator-one described is)
+
+-- for readers
+
+-- A locator is read exactly where an item that is one stands, up to its end.
+pub locator-exactly : (m : List ℕ) (base size : ℕ) → Bytes m
+    → ((l : Locator) × (bad : ℕ) × (locatorAt m base ≡ LocatorRead.Got l size bad)) ↔ ((x : Item) × (loc : Loc) × Stands m base (base + size) x × LocatorItem x loc)
+locator-exactly m base size by = (
+  λ (l, bad, q). let i = locator-sound m base l size bad by q in (i .item, i .loc, i .stands, i .is),
+  λ (x, loc, st, is). let (l, bad, read, _, _, _) = locator-read st is in (l, bad, rw (add-sub-cancel-left base size) at read),
+)
