@@ -136,7 +136,7 @@ unfolding count depth pairsFrom
 pairs-complete {p = p} a d PairItems.empty bad long = (p, bad, long, refl)
 pairs-complete {s} {p} a d (PairItems.more {xs = xs} i is) bad long =
     let c = split a in
-    let (o, t, bad′, long′, same, _, _, _) = pair-read (c .first) (omega arith) i in
+    let (o, t, bad′, long′, same, _, _, _, _) = pair-read (c .first) (omega arith) i in
     passed s p (count xs) bad long same (omega (arith, c .first .end)) (pairs-complete (c .rest) (omega arith) is (firstOf bad bad′) (firstOf long long′))
 
 -- the first pair, and then others
@@ -151,7 +151,7 @@ flooded-complete : {s : List ℕ} {p e parts : ℕ} {xs : Items} {pair : Pair Va
 unfolding count depth
 flooded-complete {s} {p} {parts = parts} opening a d counted (PairItems.more {xs = xs} i is) =
     let c = split a in
-    let (o, t, bad, long, same, _, _, _) = pair-read (c .first) (omega arith) i in
+    let (o, t, bad, long, same, _, _, _, _) = pair-read (c .first) (omega arith) i in
     first-passed s p parts opening {n = count xs} {m = c .mid} (omega arith) (omega (arith, c .first .end)) same (pairs-complete (c .rest) (omega arith) is bad long)
 
 -- there is a pair

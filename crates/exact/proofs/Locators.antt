@@ -127,7 +127,7 @@ unfolding count
 locators-complete {s} a LocatorItems.empty r bad = (bad, ap₂ (λ (n k : ℕ). locatorsFrom s n k bad) (zero-add r) (sym (none-end a)))
 locators-complete {s} {p} a (LocatorItems.more {xs = xs} i is) r bad =
     let c = split a in
-    let (l′, bad′, same, _, _, _) = locator-read (c .first) i in
+    let (l′, bad′, same, _) = locator-read (c .first) i in
     let (bad″, rest) = locators-complete (c .rest) is r (firstOf bad bad′) in
     let step : p + (c .mid - p) ≡ c .mid = omega (arith, c .first .end) in
     let more : suc (count xs) + r ≡ suc (count xs + r) = omega arith in (

@@ -20,7 +20,6 @@ use Rattle.cbor.specs.declared.token.Token.{Token}
 use Rattle.cbor.specs.Item.{leftUnder}
 use Rattle.cbor.specs.Tree.{Item, Items, count, depth, depths, encode}
 use Rattle.cbor.specs.Token.{tokenAt, sizeAt, itemsIn, upTo}
-use Rattle.cbor.proofs.HeadExact.{length-head}
 use Rattle.cbor.proofs.Tokens.{token-is, token-end, is-array}
 use Rattle.options.specs.declared.objective.Objective.{Objective}
 use Rattle.options.specs.declared.objective.ObjectiveRead.{ObjectiveRead}
@@ -28,7 +27,6 @@ use Rattle.options.specs.Text.{spanOf, contentIn, badText}
 use Rattle.options.specs.Objective.{longName, objectiveFrom, objectiveIn, objectiveNamed, objectiveAt}
 use Rattle.syntax.specs.Message.{Obj}
 use Rattle.grammar.specs.Cddl.{uint, text, ObjectiveItem, Value}
-use Rattle.grammar.specs.Limits.{Utf8, Short}
 use Rattle.grammar.specs.Stands.{Stands, StandAll, ArrayHead, ValueIs, itemsWith, ObjectiveIs, ObjectiveStands}
 use Rattle.grammar.proofs.Bridge.{split, join, none as no-more, none-end, only, last, stands-once, lift, lift-first, sink-first, advances, token-heading, number-token, text-token, array-token}
 use Rattle.grammar.proofs.Pieces.{array-items, number-is, number-here, text-size, content-bytes, text-at, array-at, array-head, lift-head, content-there}
@@ -185,8 +183,6 @@ record Begun (levels : ℕ) (m : List ℕ) (base e : ℕ) (name : List ℕ) (fla
   left : StandAll (drop base m) (c .next) (e - base) rest
   described : (len : ℕ) (v : Value) → suc (suc (suc (count rest))) ≡ itemsWith v → ValueIs m (spanOf (base + c .next) len) v
       → ObjectiveIs m base e (objectiveFrom base n (upTo 15 f) c (upTo 255 c) len) (record { name = name; flags = flags; count = number; value = v })
-  texts : badText (contentIn (drop base m) n) (base + n .at) ≡ 0 ↔ Utf8 name
-  names : longName n (base + n .at) ≡ 0 ↔ Short name
 
 begun : (levels : ℕ) {m : List ℕ} {base e w u i j flags number : ℕ} {name : List ℕ} {rest : Items}
     → Stands m base e (Item.array w (Items.more (text u name) (Items.more (uint i flags) (Items.more (uint j number) rest))))
@@ -202,8 +198,7 @@ begun levels {m} {base} {e} {u = u} {i} {j} {flags} {number} {name} {rest} st fe
     let n : Token = record { at = top .body; major = 3; arg = length name; body = string .body; next = c₁ .mid } in
     let f : Token = record { at = c₁ .mid; major = 0; arg = flags; body = c₂ .mid; next = c₂ .mid } in
     let c : Token = record { at = c₂ .mid; major = 0; arg = number; body = c₃ .mid; next = c₃ .mid } in
-    let (size, inside, _) = content-there m base (string .body) (c₁ .mid) name (string .end) (string .content) in
-    let far : base + top .body ≡ 0 → ⊥ = (λ z. omega (arith, top .head .end, length-head 4 (top .head .width) (suc (suc (suc (count rest)))))) in
+    let (size, _, _) = content-there m base (string .body) (c₁ .mid) name (string .end) (string .content) in
     record {
       n = n;
       f = f;
@@ -230,8 +225,6 @@ begun levels {m} {base} {e} {u = u} {i} {j} {flags} {number} {name} {rest} st fe
             value = value;
             ends = omega (arith, advances st, value-ends base rest counted (c₃ .rest) value);
           };
-      texts = rw inside (bad-text name (base + top .body) far);
-      names = long-name n (base + top .body) name far refl;
     }
 
 ends-bare : (levels base : ℕ) (s : List ℕ) (n f c : Token) {size : ℕ} → size ≡ c .next → ending levels base s 3 n f c ≡ answer base s n f c 0 size
@@ -243,21 +236,19 @@ ends-valued : (levels base : ℕ) (s : List ℕ) (n f c : Token) {size : ℕ} �
 unfolding ending pick
 ends-valued levels base s n f c has-value e = rw (ne-eqb _ _ has-value, e)
 
--- an item that is an objective is read
-reads : (levels : ℕ) {m : List ℕ} {base e : ℕ} {x : Item} {obj : Obj Value} → Stands m base e x → depth x ≤ suc (leftUnder levels) → ObjectiveItem x obj
-    → (o : Objective) × (bad : ℕ) × (long : ℕ) × (objectiveAt levels m base ≡ ObjectiveRead.Got o (e - base) bad long) × ObjectiveIs m base e o obj × (bad ≡ 0 ↔ Utf8 (obj .name)) × (long ≡ 0 ↔ Short (obj .name))
+-- an item that is an objective is read, and as the objective that it is
+pub objective-read : (levels : ℕ) {m : List ℕ} {base e : ℕ} {x : Item} {obj : Obj Value} → Stands m base e x → depth x ≤ suc (leftUnder levels) → ObjectiveItem x obj
+    → (o : Objective) × (bad : ℕ) × (long : ℕ) × (objectiveAt levels m base ≡ ObjectiveRead.Got o (e - base) bad long) × ObjectiveIs m base e o obj
 unfolding count depth
-reads levels {m} {base} {e} st d (ObjectiveItem.bare few byte) =
+objective-read levels {m} {base} {e} st d (ObjectiveItem.bare few byte) =
     let b = begun levels st few byte (omega arith) in (
       _,
       _,
       _,
       b .read ∙ ends-bare levels base (drop base m) (b .n) (b .f) (b .c) (none-end (b .left)),
       b .described 0 none refl (ValueIs.absent refl),
-      b .texts,
-      b .names,
     )
-reads levels {m} {base} {e} st d (ObjectiveItem.valued {x = x} few byte) =
+objective-read levels {m} {base} {e} st d (ObjectiveItem.valued {x = x} few byte) =
     let b = begun levels st few byte (omega arith) in
     let value = only (b .left) in
     let (size, has-value) = item-sized levels value (omega arith) in
@@ -268,16 +259,7 @@ reads levels {m} {base} {e} st d (ObjectiveItem.valued {x = x} few byte) =
       b .read ∙ ends-valued levels base (drop base m) (b .n) (b .f) (b .c) has-value (omega (arith, advances value)),
       b .described (sizeAt levels (drop base m) (b .c .next)) (some x) refl
           (ValueIs.present (subst (λ (k : ℕ). Stands m (base + b .c .next) k x) sum (lift base value))),
-      b .texts,
-      b .names,
     )
-
--- an item that is an objective is read, and as the objective that it is
-pub objective-read : (levels : ℕ) {m : List ℕ} {base e : ℕ} {x : Item} {obj : Obj Value} → Stands m base e x → depth x ≤ suc (leftUnder levels) → ObjectiveItem x obj
-    → (o : Objective) × (bad : ℕ) × (long : ℕ) × (objectiveAt levels m base ≡ ObjectiveRead.Got o (e - base) bad long)
-    × (i : ObjectiveStands levels m base e o bad long) × (i .item ≡ x) × (i .obj ≡ obj)
-objective-read levels st d is = let (o, bad, long, read, described, texts, names) = reads levels st d is in
-    (o, bad, long, read, record { item = _; obj = _; stands = st; shallow = d; is = is; described = described; texts = texts; names = names }, refl, refl)
 
 -- for readers
 
@@ -287,5 +269,5 @@ pub objective-exactly : (levels : ℕ) (m : List ℕ) (base size : ℕ) → Byte
     ↔ ((x : Item) × (obj : Obj Value) × Stands m base (base + size) x × (depth x ≤ suc (leftUnder levels)) × ObjectiveItem x obj)
 objective-exactly levels m base size by = (
   λ (o, bad, long, q). let i = objective-sound levels m base o size bad long by q in (i .item, i .obj, i .stands, i .shallow, i .is),
-  λ (x, obj, st, d, is). let (o, bad, long, read, _, _, _) = objective-read levels st d is in (o, bad, long, rw (add-sub-cancel-left base size) at read),
+  λ (x, obj, st, d, is). let (o, bad, long, read, _) = objective-read levels st d is in (o, bad, long, rw (add-sub-cancel-left base size) at read),
 )

@@ -36,7 +36,7 @@ use Rattle.options.specs.Pair.{isEmpty, pairTagged, pairTail, pairLed, pairIn, 
 use Rattle.options.proofs.Fits.{empty-is}
 use Rattle.syntax.specs.Message.{Loc, Obj, Pair}
 use Rattle.grammar.specs.Cddl.{array, LocatorItem, ObjectiveItem, PairItem, Value}
-use Rattle.grammar.specs.Limits.{Utf8, Short, tagTexts, pairTexts}
+use Rattle.grammar.specs.Limits.{Utf8, tagTexts, pairTexts}
 use Rattle.grammar.specs.Stands.{Stands, ArrayHead, tagLoc, ObjectiveIs, ObjectiveStands, PairStands}
 use Rattle.grammar.proofs.Bridge.{split, join, none as no-more, none-end, only, last, lift, lift-first, sink-sized, sink-first, advances, Heading, token-heading, array-token}
 use Rattle.grammar.proofs.Pieces.{array-items, array-at, array-head, lift-head}
@@ -166,10 +166,7 @@ record Begun (m : List ℕ) (base e : ℕ) (obj : Obj Value) (y : Item) : Type 0
   bad : ℕ
   long : ℕ
   read : (r : PairRead) → pairTail base (drop base m) mid objective bad long ≡ r → pairAt m base ≡ r
-  opened : ArrayHead m base at 2
   described : ObjectiveIs m at (base + mid) objective obj
-  texts : bad ≡ 0 ↔ Utf8 (obj .name)
-  names : long ≡ 0 ↔ Short (obj .name)
   second : Stands (drop base m) mid (e - base) y
 
 begun : {m : List ℕ} {base e w : ℕ} {x y : Item} {obj : Obj Value} → Stands m base e (array w (x ∷ y ∷ [])) → depth x ≤ suc (leftUnder 3) → ObjectiveItem x obj → Begun m base e obj y
@@ -178,7 +175,7 @@ begun {m} {base} {e} st d is =
     let s : List ℕ = drop base m in
     let top = array-token (sink-first st) in
     let c = split (top .items) in
-    let (o, bad, long, got, i, _, same) = objective-read 3 (lift base (c .first)) d is in
+    let (o, bad, long, got, described) = objective-read 3 (lift base (c .first)) d is in
     let size : ℕ = base + c .mid - (base + top .body) in
     let sum : top .body + size ≡ c .mid = omega (arith, advances (c .first)) in
     record {
@@ -190,10 +187,7 @@ begun {m} {base} {e} st d is =
       read =
           λ r tail. accept base s _ r o size bad long (sym (top .token)) (array-items _ 1 refl refl) refl (ap (objectiveIn 3 (base + top .body)) (drop-drop (top .body) base m) ∙ got)
           (ap (λ (k : ℕ). pairTail base s k o bad long) sum ∙ tail);
-      opened = lift-head (top .head);
-      described = rw same at (i .described);
-      texts = rw same at (i .texts);
-      names = rw same at (i .names);
+      described = described;
       second = only (c .rest);
     }
 
@@ -201,61 +195,32 @@ begun {m} {base} {e} st d is =
 abbrev Read : List ℕ → ℕ → ℕ → Pair Value → Type 0
 Read m base e pair =
     (o : Objective) × (t : Tag) × (bad : ℕ) × (long : ℕ) × (pairAt m base ≡ PairRead.Got o t (e - base) bad long)
-    × (at : ℕ) × (mid : ℕ) × ArrayHead m base at 2 × ObjectiveIs m at mid o (pair .0) × (tagLoc m t ≡ pair .1)
-    × (bad ≡ 0 ↔ Every Utf8 (pairTexts pair)) × (long ≡ 0 ↔ Short (pair .0 .name))
+    × (at : ℕ) × (mid : ℕ) × ObjectiveIs m at mid o (pair .0) × (tagLoc m t ≡ pair .1)
 
 untagged-read : {m : List ℕ} {base e v : ℕ} {obj : Obj Value} → Begun m base e obj (array v []) → Read m base e (obj, none)
-unfolding count tagLoc tagTexts pairTexts
+unfolding count tagLoc
 untagged-read {m} {base} b =
     let empty = array-token (b .second) in
-    let (there, back) = b .texts in
     let read = b .read _ (empty-tail base (drop base m) (b .mid) (b .objective) (b .bad) (b .long) _ (sym (empty .token)) refl refl (none-end (empty .items))) in
-    (b .objective, Tag.Empty, b .bad, b .long, read, b .at, base + b .mid, b .opened, b .described, refl, (λ z. (there z, tt), λ h. back (h .0)), b .names)
+    (b .objective, Tag.Empty, b .bad, b .long, read, b .at, base + b .mid, b .described, refl)
 
 tagged-read : {m : List ℕ} {base e : ℕ} {y : Item} {obj : Obj Value} {loc : Loc} → Begun m base e obj y → LocatorItem y loc → Read m base e (obj, some loc)
-unfolding tagLoc tagTexts pairTexts
+unfolding tagLoc
 tagged-read {m} {base} {e} b is =
-    let (l, bad′, got, i, _, same) = locator-read (lift base (b .second)) is in
+    let (l, bad′, got, located) = locator-read (lift base (b .second)) is in
     let n : ℕ = base + (e - base) - (base + b .mid) in
     let sum : e - base ≡ b .mid + n = omega (arith, advances (b .second)) in
     let tail = tagged-tail base (drop base m) (b .mid) (b .objective) (b .bad) (b .long) l n bad′
     (ap (locatorIn (base + b .mid)) (drop-drop (b .mid) base m) ∙ got) sum in
-    let texts = rw same at (i .texts) in
-    let (there, back) = first-zero (b .bad) bad′ in (
-      b .objective,
-      Tag.At l,
-      firstOf (b .bad) bad′,
-      b .long,
-      b .read _ tail,
-      b .at,
-      base + b .mid,
-      b .opened,
-      b .described,
-      ap some (i .described ∙ same),
-      (λ z. let (x, y) = there z in (b .texts .0 x, texts .0 y), λ h. back (b .texts .1 (h .0), texts .1 (h .1))),
-      b .names,
-    )
-
-reads : {m : List ℕ} {base e : ℕ} {x : Item} {pair : Pair Value} → Stands m base e x → depth x ≤ leftUnder 1 → PairItem x pair → Read m base e pair
-unfolding depth
-reads st d (PairItem.untagged is) = untagged-read (begun st (omega arith) is)
-reads st d (PairItem.tagged is loc) = tagged-read (begun st (omega arith) is) loc
+    (b .objective, Tag.At l, firstOf (b .bad) bad′, b .long, b .read _ tail, b .at, base + b .mid, b .described, ap some located)
 
 -- an item that is a pair is read, and as the pair that it is
 pub pair-read : {m : List ℕ} {base e : ℕ} {x : Item} {pair : Pair Value} → Stands m base e x → depth x ≤ leftUnder 1 → PairItem x pair
     → (o : Objective) × (t : Tag) × (bad : ℕ) × (long : ℕ) × (pairAt m base ≡ PairRead.Got o t (e - base) bad long)
-    × (i : PairStands m base e o t bad long) × (i .item ≡ x) × (i .pair ≡ pair)
-pair-read st d is =
-    let (o, t, bad, long, read, at, mid, opened, objective, tag, texts, names) = reads st d is in (
-      o,
-      t,
-      bad,
-      long,
-      read,
-      record { item = _; pair = _; stands = st; shallow = d; is = is; at = at; mid = mid; opened = opened; objective = objective; tag = tag; texts = texts; names = names },
-      refl,
-      refl,
-    )
+    × (at : ℕ) × (mid : ℕ) × ObjectiveIs m at mid o (pair .0) × (tagLoc m t ≡ pair .1)
+unfolding depth
+pair-read st d (PairItem.untagged is) = untagged-read (begun st (omega arith) is)
+pair-read st d (PairItem.tagged is loc) = tagged-read (begun st (omega arith) is) loc
 
 -- for readers
 
@@ -265,5 +230,5 @@ pub pair-exactly : (m : List ℕ) (base size : ℕ) → Bytes m
     ↔ ((x : Item) × (pair : Pair Value) × Stands m base (base + size) x × (depth x ≤ leftUnder 1) × PairItem x pair)
 pair-exactly m base size by = (
   λ (o, t, bad, long, q). let i = pair-sound m base o t size bad long by q in (i .item, i .pair, i .stands, i .shallow, i .is),
-  λ (x, pair, st, d, is). let (o, t, bad, long, read, _, _, _) = pair-read st d is in (o, t, bad, long, rw (add-sub-cancel-left base size) at read),
+  λ (x, pair, st, d, is). let (o, t, bad, long, read, _, _, _, _) = pair-read st d is in (o, t, bad, long, rw (add-sub-cancel-left base size) at read),
 )

@@ -198,10 +198,10 @@ module _ (s : List ℕ) where
   pairs-rows d a PairItems.empty = ([], Chain.end)
   pairs-rows {p} d a (PairItems.more {ps = ps} i is) =
       let c = split a in
-      let (o, tag, bad, long, read, there, _, same) = pair-read (c .first) (omega (arith, d)) i in
+      let (o, tag, bad, long, read, at, mid, objective, described) = pair-read (c .first) (omega (arith, d)) i in
       let text : TagIn s tag = subst (TagOk s) read (tag-ok s p (drop p s) (omega (arith, length-drop p s, c .first .within, advances (c .first)))) in
       let (rows, more) = pairs-rows (omega (arith, d)) (c .rest) is in (
         R.pairCells o tag ∷ rows,
-        Chain.step (pair-twelve o tag) (λ i list. pair-row p i list read) (rw same at (pair-tells o tag (objective-goals (there .objective)) (tag-tells tag text (there .is) (there .tag))))
+        Chain.step (pair-twelve o tag) (λ i list. pair-row p i list read) (pair-tells o tag (objective-goals objective) (tag-tells tag text i described))
             (subst (λ (k : ℕ). Pairs k rows (map (valuedPair valueBytes) ps)) (sym (pair-next p read)) more),
       )
