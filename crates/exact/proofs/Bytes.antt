@@ -1,6 +1,6 @@
 -- The encoding of an item without fault is made of bytes, and so is UTF-8.
 -- Assumes nothing.
-use mathlib.Core.Path.{_≡_, subst}
+use mathlib.Core.Path.{subst}
 use mathlib.Core.Logic.{inl, inr}
 use mathlib.Core.Bool.{Bool, true, false, cond}
 use mathlib.Core.List.{List, [], _∷_, _++_}
@@ -12,8 +12,7 @@ use borrow.Author.Tests.{ltb-true}
 use Rattle.base.specs.BigEndian.{Bytes, bytesOf}
 use Rattle.base.specs.Lists.{Every}
 use Rattle.base.proofs.Picks.{pick-case}
-use Rattle.utf8.specs.Utf8.{isUtf8, Scalar, scalarBytes, textBytes}
-use Rattle.utf8.proofs.Utf8Exact.{utf8-exactly}
+use Rattle.utf8.specs.Utf8.{Scalar, scalarBytes, textBytes, Utf8}
 use Rattle.cbor.specs.Tree.{Item, Items, Sized, infoOf, headBytes, count, encode, encodes, Good, Goods}
 use Rattle.cbor.proofs.HeadExact.{info-lt}
 
@@ -79,8 +78,8 @@ bytes-text [] g = bytes-none
 bytes-text (c ∷ cs) g = bytes-append (scalarBytes c) (textBytes cs) (bytes-scalar c (g .0)) (bytes-text cs (g .1))
 
 -- UTF-8 is made of bytes.
-pub bytes-utf8 : (s : List ℕ) → isUtf8 s ≡ true → Bytes s
-bytes-utf8 s e = let (cs, g, is) = utf8-exactly s .0 e in subst Bytes is (bytes-text cs g)
+pub bytes-utf8 : {s : List ℕ} → Utf8 s → Bytes s
+bytes-utf8 (cs, g, is) = subst Bytes is (bytes-text cs g)
 
 -- ---- items
 mutual

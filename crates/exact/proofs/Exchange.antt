@@ -53,7 +53,7 @@ discovery-sound {s} {n} {at} k =
 pub objective-reads : {s : List ℕ} {p e : ℕ} {x : Item} {obj : Obj Value} → StandAll s p e (list (x ∷ [])) → depth x ≤ partLevels → ObjectiveItem x obj
     → (f : ObjectiveRead → Shape) → ((o : Objective) (size bad long : ℕ) → Reads (f (ObjectiveRead.Got o size bad long))) → Reads (f (objectiveAt objectiveLevels s p))
 objective-reads {s} a d i f reads =
-    let (o, bad, long, same, _, _, _) = objective-read objectiveLevels (only a) d i in
+    let (o, bad, long, same, _) = objective-read objectiveLevels (only a) d i in
     subst (λ (r : ObjectiveRead). Reads (f r)) (sym same) (reads o _ bad long)
 
 -- a Discovery is read

@@ -19,9 +19,9 @@ use Rattle.options.specs.Pair.{pairAt}
 use Rattle.syntax.specs.Message.{Pair, Msg}
 use Rattle.grammar.specs.Cddl.{Number, Initiator, PairItems, MessageItem, Value}
 use Rattle.grammar.specs.Limits.{Utf8, Short, pairTexts, pairName, textsOf, namesOf}
-use Rattle.grammar.specs.Stands.{StandAll}
+use Rattle.grammar.specs.Stands.{StandAll, PairStands}
 use Rattle.grammar.proofs.Bridge.{join, none, split}
-use Rattle.grammar.proofs.Pairs.{PairStands, pair-sound, pair-read}
+use Rattle.grammar.proofs.Pairs.{pair-sound, pair-read}
 use Rattle.message.specs.declared.opening.Opening.{Opening}
 use Rattle.message.specs.declared.opening.OpeningRead.{OpeningRead}
 use Rattle.message.specs.declared.sequence.PairsRead.{PairsRead}
@@ -137,7 +137,7 @@ unfolding count depth pairsFrom
 pairs-complete {p = p} a d PairItems.empty bad long = (p, bad, long, refl)
 pairs-complete {s} {p} a d (PairItems.more {xs = xs} i is) bad long =
     let c = split a in
-    let (o, t, bad′, long′, same, _, _, _, _, _, _, _) = pair-read (c .first) (omega arith) i in
+    let (o, t, bad′, long′, same, _, _, _, _) = pair-read (c .first) (omega arith) i in
     passed s p (count xs) bad long same (omega (arith, c .first .end)) (pairs-complete (c .rest) (omega arith) is (firstOf bad bad′) (firstOf long long′))
 
 -- the first pair, and then others
@@ -152,7 +152,7 @@ flooded-complete : {s : List ℕ} {p e parts : ℕ} {xs : Items} {pair : Pair Va
 unfolding count depth
 flooded-complete {s} {p} {parts = parts} opening a d counted (PairItems.more {xs = xs} i is) =
     let c = split a in
-    let (o, t, bad, long, same, _, _, _, _, _, _, _) = pair-read (c .first) (omega arith) i in
+    let (o, t, bad, long, same, _, _, _, _) = pair-read (c .first) (omega arith) i in
     first-passed s p parts opening {n = count xs} {m = c .mid} (omega arith) (omega (arith, c .first .end)) same (pairs-complete (c .rest) (omega arith) is bad long)
 
 -- there is a pair

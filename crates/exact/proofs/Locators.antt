@@ -23,10 +23,10 @@ use Rattle.options.specs.Locator.{locatorAt}
 use Rattle.syntax.specs.Message.{Loc, Obj}
 use Rattle.grammar.specs.Cddl.{uint, LocatorItem, LocatorItems, ObjectiveItem, Value}
 use Rattle.grammar.specs.Limits.{Utf8, locTexts}
-use Rattle.grammar.specs.Stands.{StandAll}
+use Rattle.grammar.specs.Stands.{StandAll, LocatorStands}
 use Rattle.grammar.proofs.Bridge.{join, none, none-end, split}
 use Rattle.grammar.proofs.Pieces.{array-items}
-use Rattle.grammar.proofs.Locators.{LocatorStands, locator-sound, locator-read}
+use Rattle.grammar.proofs.Locators.{locator-sound, locator-read}
 use Rattle.message.specs.declared.sequence.LocatorsRead.{LocatorsRead}
 use Rattle.message.specs.Sequence.{textLed, locatorThen, locatorsFrom}
 use Rattle.message.proofs.Led.{never-led}
@@ -127,7 +127,7 @@ unfolding count
 locators-complete {s} a LocatorItems.empty r bad = (bad, ap₂ (λ (n k : ℕ). locatorsFrom s n k bad) (zero-add r) (sym (none-end a)))
 locators-complete {s} {p} a (LocatorItems.more {xs = xs} i is) r bad =
     let c = split a in
-    let (l′, bad′, same, _, _) = locator-read (c .first) i in
+    let (l′, bad′, same, _) = locator-read (c .first) i in
     let (bad″, rest) = locators-complete (c .rest) is r (firstOf bad bad′) in
     let step : p + (c .mid - p) ≡ c .mid = omega (arith, c .first .end) in
     let more : suc (count xs) + r ≡ suc (count xs + r) = omega arith in (

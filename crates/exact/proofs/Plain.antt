@@ -86,7 +86,7 @@ invalid-sound {s} {n} {at} k =
     (λ full. Describes.invalid (kind-is k) (number-is-here i) (ValueIs.absent refl) (omega arith)) (clean tt) (clean tt))
     (λ more. past-case _
     (λ some-len.
-    let (item, there) = sized-item 1 s p (k .bytes) (eqb-false (sizeAt 1 s p) 0 some-len) in
+    let (item, there, _) = sized-item 1 s p (k .bytes) (eqb-false (sizeAt 1 s p) 0 some-len) in
     built k _ _ (Msg.invalid _ (some item)) (omega (arith, eqb-false n 2 more)) (join (i .stands) (last there))
     (λ w v. MessageItem.invalid-with (Number.number (i .low))) (λ full. Describes.invalid (kind-is k) (number-is-here i) (ValueIs.present there) full) (clean tt) (clean tt))))))
 

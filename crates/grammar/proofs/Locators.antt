@@ -1,11 +1,12 @@
 -- A locator that is read stands in the message as an item that the CDDL calls this locator (`locator-sound`), and every such item is read, wherever it
--- stands, and as this locator (`locator-read`).
+-- stands, and as this locator (`locator-read`): it is read exactly there (`locator-exactly`).
 -- Assumes nothing.
 use mathlib.Core.Path.{_≡_, refl, sym, ap, _∙_, subst}
 use mathlib.Core.Logic.{_↔_}
 use mathlib.Core.List.{List}
 use mathlib.Core.Bool.{true, cond}
 use Prim.Native.Nat.{ℕ, _+_, _-_, _≤_}
+use native.Mathlib.Nat.{add-sub-cancel-left}
 use native.Mathlib.Omega.{arith}
 use lib.ListN.{length, take, drop}
 use lib.Seq.{drop-drop}
@@ -13,7 +14,6 @@ use lib.Dec.{ltb, eqb}
 use borrow.Author.Tests.{le-ltb, ltb-false, eqb-true, eqb-false, eq-eqb, ne-eqb}
 use Rattle.base.specs.Pick.{pick}
 use Rattle.base.specs.BigEndian.{Bytes}
-use Rattle.base.specs.Lists.{Every}
 use Rattle.base.proofs.Picks.{pick-case}
 use Rattle.base.proofs.Parts.{bytes-drop}
 use Rattle.cbor.specs.declared.token.Token.{Token}
@@ -26,21 +26,11 @@ use Rattle.options.specs.Text.{contentIn}
 use Rattle.options.specs.Locator.{addressFits, protocolOf, portOf, locatorOf, textOf, locatorIn, locatorReached, locatorAt}
 use Rattle.syntax.specs.Message.{Loc}
 use Rattle.grammar.specs.Cddl.{LocatorItem}
-use Rattle.grammar.specs.Limits.{Utf8, locTexts}
-use Rattle.grammar.specs.Stands.{Stands, ArrayHead, locOf, LocatorIs}
+use Rattle.grammar.specs.Stands.{Stands, ArrayHead, locOf, LocatorIs, LocatorStands}
 use Rattle.grammar.proofs.Bridge.{split, join, last, only, lift, lift-first, sink-first, advances, string-major, token-heading, number-token, text-token, array-token}
 use Rattle.grammar.proofs.Pieces.{array-items, number-is, number-here, content-bytes, text-size, text-at, array-head, array-at, lift-head, content-there}
 use Rattle.grammar.proofs.One.{locator-one}
 use Rattle.grammar.proofs.LocatorParts.{AddressIs, Shape, shape-of, shape-item, shape-addressed, shape-texts, protocol-here, port-here, address-here, protocol-reads, port-reads, address-reads}
-
--- the locator l, read from p to e of the message m with a bad text at `bad`: the item that stands there, and the locator that it is
-pub record LocatorStands (m : List ℕ) (p e : ℕ) (l : Locator) (bad : ℕ) : Type 0 where
-  pub item : Item
-  pub loc : Loc
-  pub stands : Stands m p e item
-  pub is : LocatorItem item loc
-  pub described : LocatorIs m p l loc
-  pub texts : bad ≡ 0 ↔ Every Utf8 (locTexts loc)
 
 -- ---- sound
 abbrev Sound : List ℕ → ℕ → LocatorRead → Type 0
@@ -139,7 +129,7 @@ accept base s a k b p q kind pn qn ea ek eb ep eq e₁ e₂ e₃ t₁ t₂ t₃ 
     rw (← ea, ← ek, ← eb, ← ep, ← eq, e₁, e₂, e₃, ne-eqb _ _ t₁, le-ltb _ _ t₂, le-ltb _ _ t₃, eq-eqb _ _ t₄, t₅, ne-eqb _ _ t₆, le-ltb _ _ t₇)
 
 reads : {m : List ℕ} {base e : ℕ} {x : Item} → Stands m base e x → Shape x
-    → (l : Locator) × (bad : ℕ) × (locatorAt m base ≡ LocatorRead.Got l (e - base) bad) × LocatorItem x (locOf m l) × (bad ≡ 0 ↔ Every Utf8 (locTexts (locOf m l)))
+    → (l : Locator) × (bad : ℕ) × (locatorAt m base ≡ LocatorRead.Got l (e - base) bad) × LocatorItem x (locOf m l)
 unfolding count
 reads {m} {base} {e} st (Shape.shape {kind = kind} {t} {a} {pn = pn} {qn} address protocol port) =
     let s : List ℕ = drop base m in
@@ -155,20 +145,24 @@ reads {m} {base} {e} st (Shape.shape {kind = kind} {t} {a} {pn = pn} {qn} addres
     let read =
     accept base s _ _ b (tokenAt s (c₂ .mid)) (tokenAt s (c₃ .mid)) kind pn qn (sym (top .token)) (sym (number-token (c₁ .first))) (sym (string .token)) refl
     (ap (tokenAt s) (sym p-next)) (number-is 106 _ refl hi) is-protocol is-port (array-items _ 3 refl refl) lo hi refl fits some-protocol some-port in
-    let (_, inside, content) = content-there m base (string .body) (c₂ .mid) a (string .end) (string .content) in
-    let far : base + b .at ≡ 0 → ⊥ = (λ z. omega (arith, advances (c₁ .first))) in (
+    let (_, _, content) = content-there m base (string .body) (c₂ .mid) a (string .end) (string .content) in (
       locatorOf kind (base + b .body) (b .next - b .body) pn qn,
       textOf kind (contentIn s b) (base + b .at),
       rw q-next at read,
       shape-item m (base + b .body) (b .next - b .body) content address protocol port,
-      rw inside (shape-texts m (base + b .body) (b .next - b .body) pn qn a (base + b .at) (sym content) far address),
     )
 
--- for readers
 -- an item that is a locator is read, and as the locator that it is
 pub locator-read : {m : List ℕ} {base e : ℕ} {x : Item} {loc : Loc} → Stands m base e x → LocatorItem x loc
-    → (l : Locator) × (bad : ℕ) × (locatorAt m base ≡ LocatorRead.Got l (e - base) bad) × (locOf m l ≡ loc) × (bad ≡ 0 ↔ Every Utf8 (locTexts loc))
-locator-read {loc = loc} st is =
-    let (l, bad, read, described, texts) = reads st (shape-of is) in
-    let same : locOf _ l ≡ loc = locator-one described is in
-    (l, bad, read, same, rw same at texts)
+    → (l : Locator) × (bad : ℕ) × (locatorAt m base ≡ LocatorRead.Got l (e - base) bad) × (locOf m l ≡ loc)
+locator-read st is = let (l, bad, read, described) = reads st (shape-of is) in (l, bad, read, locator-one described is)
+
+-- for readers
+
+-- A locator is read exactly where an item that is one stands, up to its end.
+pub locator-exactly : (m : List ℕ) (base size : ℕ) → Bytes m
+    → ((l : Locator) × (bad : ℕ) × (locatorAt m base ≡ LocatorRead.Got l size bad)) ↔ ((x : Item) × (loc : Loc) × Stands m base (base + size) x × LocatorItem x loc)
+locator-exactly m base size by = (
+  λ (l, bad, q). let i = locator-sound m base l size bad by q in (i .item, i .loc, i .stands, i .is),
+  λ (x, loc, st, is). let (l, bad, read, _) = locator-read st is in (l, bad, rw (add-sub-cancel-left base size) at read),
+)

@@ -1,5 +1,5 @@
 -- An objective that is read stands in the message as an item that the CDDL calls this objective (`objective-sound`), and every such item of no more levels than
--- may open is read, wherever it stands, and as this objective (`objective-read`).
+-- may open is read, wherever it stands, and as this objective (`objective-read`): it is read exactly there (`objective-exactly`).
 -- Assumes nothing.
 use mathlib.Core.Path.{_≡_, refl, sym, ap, ap₂, _∙_, subst}
 use mathlib.Core.Logic.{_↔_, inr}
@@ -7,7 +7,7 @@ use mathlib.Core.List.{List}
 use mathlib.Core.Bool.{true}
 use mathlib.Core.Option.{none, some}
 use Prim.Native.Nat.{ℕ, suc, _+_, _-_, _≤_}
-use native.Mathlib.Nat.{add-assoc}
+use native.Mathlib.Nat.{add-assoc, add-sub-cancel-left}
 use native.Mathlib.Omega.{arith}
 use lib.ListN.{length, drop}
 use lib.Dec.{ltb, eqb}
@@ -18,9 +18,8 @@ use Rattle.base.proofs.Picks.{pick-case}
 use Rattle.base.proofs.Parts.{bytes-drop}
 use Rattle.cbor.specs.declared.token.Token.{Token}
 use Rattle.cbor.specs.Item.{leftUnder}
-use Rattle.cbor.specs.Tree.{Item, Items, count, depth, encode}
+use Rattle.cbor.specs.Tree.{Item, Items, count, depth, depths, encode}
 use Rattle.cbor.specs.Token.{tokenAt, sizeAt, itemsIn, upTo}
-use Rattle.cbor.proofs.HeadExact.{length-head}
 use Rattle.cbor.proofs.Tokens.{token-is, token-end, is-array}
 use Rattle.options.specs.declared.objective.Objective.{Objective}
 use Rattle.options.specs.declared.objective.ObjectiveRead.{ObjectiveRead}
@@ -28,23 +27,11 @@ use Rattle.options.specs.Text.{spanOf, contentIn, badText}
 use Rattle.options.specs.Objective.{longName, objectiveFrom, objectiveIn, objectiveNamed, objectiveAt}
 use Rattle.syntax.specs.Message.{Obj}
 use Rattle.grammar.specs.Cddl.{uint, text, ObjectiveItem, Value}
-use Rattle.grammar.specs.Limits.{Utf8, Short}
-use Rattle.grammar.specs.Stands.{Stands, StandAll, ArrayHead, ValueIs, itemsWith, ObjectiveIs}
+use Rattle.grammar.specs.Stands.{Stands, StandAll, ArrayHead, ValueIs, itemsWith, ObjectiveIs, ObjectiveStands}
 use Rattle.grammar.proofs.Bridge.{split, join, none as no-more, none-end, only, last, stands-once, lift, lift-first, sink-first, advances, token-heading, number-token, text-token, array-token}
 use Rattle.grammar.proofs.Pieces.{array-items, number-is, number-here, text-size, content-bytes, text-at, array-at, array-head, lift-head, content-there}
 use Rattle.grammar.proofs.Texts.{bad-text, long-name}
 use Rattle.grammar.proofs.Sizes.{sized-item, item-sized}
-
--- the objective o, read from p to e of the message m with a name that is a bad text at `bad` or too long at `long`: the item that stands there, and the
--- objective that it is
-pub record ObjectiveStands (m : List ℕ) (p e : ℕ) (o : Objective) (bad long : ℕ) : Type 0 where
-  pub item : Item
-  pub obj : Obj Value
-  pub stands : Stands m p e item
-  pub is : ObjectiveItem item obj
-  pub described : ObjectiveIs m p e o obj
-  pub texts : bad ≡ 0 ↔ Utf8 (obj .name)
-  pub names : long ≡ 0 ↔ Short (obj .name)
 
 -- what is answered by the tokens of name, flags and count, with a value of so many bytes
 abbrev answer : ℕ → List ℕ → Token → Token → Token → ℕ → ℕ → ObjectiveRead
@@ -72,12 +59,12 @@ unfolding count
 limits (ObjectiveItem.bare few byte) = (few, byte, refl)
 limits (ObjectiveItem.valued few byte) = (few, byte, refl)
 
-abbrev Sound : List ℕ → ℕ → ObjectiveRead → Type 0
-Sound m base (ObjectiveRead.Bad place) = Unit {0}
-Sound m base (ObjectiveRead.Got o size bad long) = ObjectiveStands m base (base + size) o bad long
+abbrev Sound : ℕ → List ℕ → ℕ → ObjectiveRead → Type 0
+Sound levels m base (ObjectiveRead.Bad place) = Unit {0}
+Sound levels m base (ObjectiveRead.Got o size bad long) = ObjectiveStands levels m base (base + size) o bad long
 
-sound : (levels : ℕ) (m : List ℕ) (base : ℕ) → Bytes m → Sound m base (objectiveAt levels m base)
-unfolding objectiveIn objectiveNamed objectiveFrom count
+sound : (levels : ℕ) (m : List ℕ) (base : ℕ) → Bytes m → Sound levels m base (objectiveAt levels m base)
+unfolding objectiveIn objectiveNamed objectiveFrom count depth
 sound levels m base by =
     pick-case P (eqb (itemsIn a) 0) (λ _. tt)
     (λ t₁. pick-case P (eqb (n .major) 3)
@@ -90,11 +77,11 @@ sound levels m base by =
     let byte : upTo 255 c ≤ 255 = ltb-false 255 (upTo 255 c) t₆ in
     let made = got (is-array a (eqb-false (itemsIn a) 0 t₁)) (eqb-true (n .major) 3 t₂) in
     pick-case P (eqb (a .arg) 3)
-    (λ t₇. made 0 (c .next) none Items.done (eqb-true (a .arg) 3 t₇) (no-more (token-end s (f .next))) (ValueIs.absent refl) (λ w u v k. ObjectiveItem.bare few byte))
+    (λ t₇. made 0 (c .next) none Items.done (eqb-true (a .arg) 3 t₇) (omega arith) (no-more (token-end s (f .next))) (ValueIs.absent refl) (λ w u v k. ObjectiveItem.bare few byte))
     (λ t₇. pick-case P (eqb len 0) (λ _. tt)
     (λ t₈.
-    let (value, there) = sized-item levels s (c .next) bytes (eqb-false len 0 t₈) in
-    made len (c .next + len) (some value) (Items.more value Items.done) (omega (arith, ltb-false (a .arg) 3 t₃, ltb-false 4 (a .arg) t₄, eqb-false (a .arg) 3 t₇)) (last there)
+    let (value, there, few-levels) = sized-item levels s (c .next) bytes (eqb-false len 0 t₈) in
+    made len (c .next + len) (some value) (Items.more value Items.done) (omega (arith, ltb-false (a .arg) 3 t₃, ltb-false 4 (a .arg) t₄, eqb-false (a .arg) 3 t₇)) (omega arith) (last there)
     (ValueIs.present (subst (λ (e : ℕ). Stands m (base + c .next) e value) (sym (add-assoc base (c .next) len)) (lift base there)))
     (λ w u v k. ObjectiveItem.valued few byte))))))))
     (λ _. tt))
@@ -118,18 +105,18 @@ sound levels m base by =
     len = sizeAt levels s (c .next)
 
     P : ObjectiveRead → Type 0
-    P = Sound m base
+    P = Sound levels m base
 
     bytes : Bytes s
     bytes = bytes-drop base m by
 
     -- with a value, or with none: the item of so many items xs after the count
-    got : a .major ≡ 4 → n .major ≡ 3 → (len size : ℕ) (v : Value) (xs : Items) → a .arg ≡ suc (suc (suc (count xs))) → StandAll s (c .next) size xs → ValueIs m (spanOf (base + c .next) len) v
+    got : a .major ≡ 4 → n .major ≡ 3 → (len size : ℕ) (v : Value) (xs : Items) → a .arg ≡ suc (suc (suc (count xs))) → depths xs ≤ leftUnder levels → StandAll s (c .next) size xs → ValueIs m (spanOf (base + c .next) len) v
         → ((w u i j : ℕ)
         → ObjectiveItem (Item.array w (Items.more (text u (contentIn s n)) (Items.more (uint i (upTo 15 f)) (Items.more (uint j (upTo 255 c)) xs))))
         (record { name = contentIn s n; flags = upTo 15 f; count = upTo 255 c; value = v }))
         → P (answer base s n f c len size)
-    got array is-text len size v xs many rest value is =
+    got array is-text len size v xs many shallow rest value is =
         let (few, byte, counted) = limits (is 0 0 0 0) in
         let sum : size ≡ c .next + len = value-ends base xs counted rest value in
         let ha = token-heading s 0 a bytes refl (omega arith) in
@@ -146,6 +133,7 @@ sound levels m base by =
           item = _;
           obj = _;
           stands = lift-first (array-at ha array many (join (name .stands) (join (flags .stands) (join (number .stands) rest))));
+          shallow = omega arith;
           is = is (ha .width) (name .width) (flags .width) (number .width);
           described =
               record {
@@ -170,8 +158,8 @@ sound levels m base by =
 
 -- what is read stands there
 pub objective-sound : (levels : ℕ) (m : List ℕ) (base : ℕ) (o : Objective) (size bad long : ℕ) → Bytes m
-    → objectiveAt levels m base ≡ ObjectiveRead.Got o size bad long → ObjectiveStands m base (base + size) o bad long
-objective-sound levels m base o size bad long by q = subst (Sound m base) q (sound levels m base by)
+    → objectiveAt levels m base ≡ ObjectiveRead.Got o size bad long → ObjectiveStands levels m base (base + size) o bad long
+objective-sound levels m base o size bad long by q = subst (Sound levels m base) q (sound levels m base by)
 
 -- ---- read
 -- the reader's tests but for the value, over plain tokens
@@ -195,8 +183,6 @@ record Begun (levels : ℕ) (m : List ℕ) (base e : ℕ) (name : List ℕ) (fla
   left : StandAll (drop base m) (c .next) (e - base) rest
   described : (len : ℕ) (v : Value) → suc (suc (suc (count rest))) ≡ itemsWith v → ValueIs m (spanOf (base + c .next) len) v
       → ObjectiveIs m base e (objectiveFrom base n (upTo 15 f) c (upTo 255 c) len) (record { name = name; flags = flags; count = number; value = v })
-  texts : badText (contentIn (drop base m) n) (base + n .at) ≡ 0 ↔ Utf8 name
-  names : longName n (base + n .at) ≡ 0 ↔ Short name
 
 begun : (levels : ℕ) {m : List ℕ} {base e w u i j flags number : ℕ} {name : List ℕ} {rest : Items}
     → Stands m base e (Item.array w (Items.more (text u name) (Items.more (uint i flags) (Items.more (uint j number) rest))))
@@ -212,8 +198,7 @@ begun levels {m} {base} {e} {u = u} {i} {j} {flags} {number} {name} {rest} st fe
     let n : Token = record { at = top .body; major = 3; arg = length name; body = string .body; next = c₁ .mid } in
     let f : Token = record { at = c₁ .mid; major = 0; arg = flags; body = c₂ .mid; next = c₂ .mid } in
     let c : Token = record { at = c₂ .mid; major = 0; arg = number; body = c₃ .mid; next = c₃ .mid } in
-    let (size, inside, _) = content-there m base (string .body) (c₁ .mid) name (string .end) (string .content) in
-    let far : base + top .body ≡ 0 → ⊥ = (λ z. omega (arith, top .head .end, length-head 4 (top .head .width) (suc (suc (suc (count rest)))))) in
+    let (size, _, _) = content-there m base (string .body) (c₁ .mid) name (string .end) (string .content) in
     record {
       n = n;
       f = f;
@@ -240,8 +225,6 @@ begun levels {m} {base} {e} {u = u} {i} {j} {flags} {number} {name} {rest} st fe
             value = value;
             ends = omega (arith, advances st, value-ends base rest counted (c₃ .rest) value);
           };
-      texts = rw inside (bad-text name (base + top .body) far);
-      names = long-name n (base + top .body) name far refl;
     }
 
 ends-bare : (levels base : ℕ) (s : List ℕ) (n f c : Token) {size : ℕ} → size ≡ c .next → ending levels base s 3 n f c ≡ answer base s n f c 0 size
@@ -253,21 +236,17 @@ ends-valued : (levels base : ℕ) (s : List ℕ) (n f c : Token) {size : ℕ} �
 unfolding ending pick
 ends-valued levels base s n f c has-value e = rw (ne-eqb _ _ has-value, e)
 
--- for readers
 -- an item that is an objective is read, and as the objective that it is
 pub objective-read : (levels : ℕ) {m : List ℕ} {base e : ℕ} {x : Item} {obj : Obj Value} → Stands m base e x → depth x ≤ suc (leftUnder levels) → ObjectiveItem x obj
-    → (o : Objective) × (bad : ℕ) × (long : ℕ) × (objectiveAt levels m base ≡ ObjectiveRead.Got o (e - base) bad long) × ObjectiveIs m base e o obj × (bad ≡ 0 ↔ Utf8 (obj .name)) × (long ≡ 0 ↔ Short (obj .name))
+    → (o : Objective) × (bad : ℕ) × (long : ℕ) × (objectiveAt levels m base ≡ ObjectiveRead.Got o (e - base) bad long) × ObjectiveIs m base e o obj
 unfolding count depth
 objective-read levels {m} {base} {e} st d (ObjectiveItem.bare few byte) =
-    let b = begun levels st few byte (omega arith) in
-    let end = none-end (b .left) in (
+    let b = begun levels st few byte (omega arith) in (
       _,
       _,
       _,
-      b .read ∙ ends-bare levels base (drop base m) (b .n) (b .f) (b .c) end,
+      b .read ∙ ends-bare levels base (drop base m) (b .n) (b .f) (b .c) (none-end (b .left)),
       b .described 0 none refl (ValueIs.absent refl),
-      b .texts,
-      b .names,
     )
 objective-read levels {m} {base} {e} st d (ObjectiveItem.valued {x = x} few byte) =
     let b = begun levels st few byte (omega arith) in
@@ -280,6 +259,15 @@ objective-read levels {m} {base} {e} st d (ObjectiveItem.valued {x = x} few byte
       b .read ∙ ends-valued levels base (drop base m) (b .n) (b .f) (b .c) has-value (omega (arith, advances value)),
       b .described (sizeAt levels (drop base m) (b .c .next)) (some x) refl
           (ValueIs.present (subst (λ (k : ℕ). Stands m (base + b .c .next) k x) sum (lift base value))),
-      b .texts,
-      b .names,
     )
+
+-- for readers
+
+-- An objective is read exactly where an item that is one stands, of no more levels than may open, up to its end.
+pub objective-exactly : (levels : ℕ) (m : List ℕ) (base size : ℕ) → Bytes m
+    → ((o : Objective) × (bad : ℕ) × (long : ℕ) × (objectiveAt levels m base ≡ ObjectiveRead.Got o size bad long))
+    ↔ ((x : Item) × (obj : Obj Value) × Stands m base (base + size) x × (depth x ≤ suc (leftUnder levels)) × ObjectiveItem x obj)
+objective-exactly levels m base size by = (
+  λ (o, bad, long, q). let i = objective-sound levels m base o size bad long by q in (i .item, i .obj, i .stands, i .shallow, i .is),
+  λ (x, obj, st, d, is). let (o, bad, long, read, _) = objective-read levels st d is in (o, bad, long, rw (add-sub-cancel-left base size) at read),
+)

@@ -1,5 +1,5 @@
 -- A pair of a Flood that is read stands in the message as an item that the CDDL calls this pair (`pair-sound`), and every such item of 7 levels at most is
--- read, wherever it stands, and as this pair (`pair-read`).
+-- read, wherever it stands, and as this pair (`pair-read`): it is read exactly there (`pair-exactly`).
 -- Assumes nothing.
 use mathlib.Core.Path.{_≡_, refl, sym, ap, _∙_, subst}
 use mathlib.Core.Logic.{_↔_}
@@ -7,7 +7,7 @@ use mathlib.Core.List.{List, [], _∷_}
 use mathlib.Core.Bool.{Bool, true, false}
 use mathlib.Core.Option.{Option, none, some}
 use Prim.Native.Nat.{ℕ, suc, _+_, _-_, _≤_}
-use native.Mathlib.Nat.{add-assoc}
+use native.Mathlib.Nat.{add-assoc, add-sub-cancel-left}
 use native.Mathlib.Omega.{arith}
 use lib.ListN.{drop}
 use lib.Seq.{drop-drop}
@@ -36,33 +36,14 @@ use Rattle.options.specs.Pair.{isEmpty, pairTagged, pairTail, pairLed, pairIn, 
 use Rattle.options.proofs.Fits.{empty-is}
 use Rattle.syntax.specs.Message.{Loc, Obj, Pair}
 use Rattle.grammar.specs.Cddl.{array, LocatorItem, ObjectiveItem, PairItem, Value}
-use Rattle.grammar.specs.Limits.{Utf8, Short, tagTexts, pairTexts}
-use Rattle.grammar.specs.Stands.{Stands, ArrayHead, tagLoc, LocatorIs, TagIs, ObjectiveIs}
+use Rattle.grammar.specs.Limits.{Utf8, tagTexts, pairTexts}
+use Rattle.grammar.specs.Stands.{Stands, ArrayHead, tagLoc, LocatorIs, TagIs, ObjectiveIs, ObjectiveStands, PairStands}
 use Rattle.grammar.proofs.Bridge.{split, join, none as no-more, none-end, only, last, lift, lift-first, sink-sized, sink-first, advances, Heading, token-heading, array-token}
 use Rattle.grammar.proofs.Pieces.{array-items, array-at, array-head, lift-head}
 use Rattle.grammar.proofs.Texts.{first-zero}
+use Rattle.grammar.proofs.Levels.{locator-deep}
 use Rattle.grammar.proofs.Locators.{locator-sound, locator-read}
-use Rattle.grammar.proofs.Objectives.{ObjectiveStands, objective-sound, objective-read}
-
--- how many levels a pair may have, in a message
-abbrev pub pairDepth : ℕ
-pairDepth = leftUnder 1
-
--- the pair of o and t, read from p to e of the message m with a bad text at `bad` or a name too long at `long`: the item that stands there, and the pair
--- that it is
-pub record PairStands (m : List ℕ) (p e : ℕ) (o : Objective) (t : Tag) (bad long : ℕ) : Type 0 where
-  pub item : Item
-  pub pair : Pair Value
-  pub stands : Stands m p e item
-  pub is : PairItem item pair
-  -- where the objective begins, after the array's head, and where it ends
-  pub at : ℕ
-  pub mid : ℕ
-  pub opened : ArrayHead m p at 2
-  pub objective : ObjectiveIs m at mid o (pair .0)
-  pub tag : TagIs m mid t (pair .1)
-  pub texts : bad ≡ 0 ↔ Every Utf8 (pairTexts pair)
-  pub names : long ≡ 0 ↔ Short (pair .0 .name)
+use Rattle.grammar.proofs.Objectives.{objective-sound, objective-read}
 
 -- ---- sound
 abbrev Sound : List ℕ → ℕ → PairRead → Type 0
@@ -77,16 +58,17 @@ module _ (m : List ℕ) (base : ℕ) (a : Token) (n : ℕ) where
   abbrev at : ℕ
   at = a .next + n
 
-  module _ (ha : Heading s 0 a) (major : a .major ≡ 4) (two : a .arg ≡ 2) {o : Objective} {bad long : ℕ} (i : ObjectiveStands m (base + a .next) (base + a .next + n) o bad long) where
-    made : (size : ℕ) (y : Item) (t : Tag) (l : Option Loc) (bad′ : ℕ) → Stands s at size y → ((w : ℕ) → PairItem (array w (i .item ∷ y ∷ [])) (i .obj, l)) → TagIs m (base + a .next + n) t l
+  module _ (ha : Heading s 0 a) (major : a .major ≡ 4) (two : a .arg ≡ 2) {o : Objective} {bad long : ℕ} (i : ObjectiveStands 3 m (base + a .next) (base + a .next + n) o bad long) where
+    made : (size : ℕ) (y : Item) (t : Tag) (l : Option Loc) (bad′ : ℕ) → Stands s at size y → depth y ≤ 1 → ((w : ℕ) → PairItem (array w (i .item ∷ y ∷ [])) (i .obj, l)) → TagIs m (base + a .next + n) t l
         → bad′ ≡ 0 ↔ (bad ≡ 0) × Every Utf8 (tagTexts l) → PairStands m base (base + size) o t bad′ long
-    unfolding count pairTexts
-    made size y t l bad′ second is tag texts =
+    unfolding count depth pairTexts
+    made size y t l bad′ second flat is tag texts =
         let (there, back) = i .texts in
         record {
           item = _;
           pair = (i .obj, l);
           stands = lift-first (array-at ha major two (join (sink-sized m base (a .next) n (i .stands)) (last second)));
+          shallow = omega (arith, i .shallow);
           is = is (ha .width);
           at = base + a .next;
           mid = base + a .next + n;
@@ -103,17 +85,17 @@ module _ (m : List ℕ) (base : ℕ) (a : Token) (n : ℕ) where
     tagged by (LocatorRead.Got l size bad′) q =
         let j = locator-sound m (base + at) l size bad′ by q in
         let (there, back) = first-zero bad bad′ in
-        made (at + size) (j .item) (Tag.At l) (some (j .loc)) (firstOf bad bad′) (sink-sized m base at size (j .stands)) (λ w. PairItem.tagged (i .is) (j .is))
+        made (at + size) (j .item) (Tag.At l) (some (j .loc)) (firstOf bad bad′) (sink-sized m base at size (j .stands)) (omega (arith, locator-deep (j .is))) (λ w. PairItem.tagged (i .is) (j .is))
         (TagIs.at (subst (λ (p : ℕ). LocatorIs m p l (j .loc)) (sym (add-assoc base (a .next) n)) (j .described)))
         (λ z. let (x, y) = there z in (x, j .texts .0 y), λ h. back (h .0, j .texts .1 (h .1)))
 
     tailed : Bytes m → Sound m base (pairTail base s at o bad long)
-    unfolding pairTail tagLoc tagTexts count
+    unfolding pairTail tagLoc tagTexts count depth
     tailed by =
         pick-case (Sound m base) (isEmpty w)
         (λ e. let (four, zero) = empty-is w e in
         let h = token-heading s at w (bytes-drop base m by) refl (omega arith) in
-        made (w .next) _ Tag.Empty none bad (array-at h four zero (no-more (h .within))) (λ k. PairItem.untagged (i .is)) TagIs.empty (λ z. (z, tt), λ z. z .0))
+        made (w .next) _ Tag.Empty none bad (array-at h four zero (no-more (h .within))) (omega arith) (λ k. PairItem.untagged (i .is)) TagIs.empty (λ z. (z, tt), λ z. z .0))
         (λ _. tagged by (locatorIn (base + at) (drop at s)) (ap (locatorIn (base + at)) (sym (drop-drop at base m))))
       where
         w : Token
@@ -184,10 +166,7 @@ record Begun (m : List ℕ) (base e : ℕ) (obj : Obj Value) (y : Item) : Type 0
   bad : ℕ
   long : ℕ
   read : (r : PairRead) → pairTail base (drop base m) mid objective bad long ≡ r → pairAt m base ≡ r
-  opened : ArrayHead m base at 2
   described : ObjectiveIs m at (base + mid) objective obj
-  texts : bad ≡ 0 ↔ Utf8 (obj .name)
-  names : long ≡ 0 ↔ Short (obj .name)
   second : Stands (drop base m) mid (e - base) y
 
 begun : {m : List ℕ} {base e w : ℕ} {x y : Item} {obj : Obj Value} → Stands m base e (array w (x ∷ y ∷ [])) → depth x ≤ suc (leftUnder 3) → ObjectiveItem x obj → Begun m base e obj y
@@ -196,7 +175,7 @@ begun {m} {base} {e} st d is =
     let s : List ℕ = drop base m in
     let top = array-token (sink-first st) in
     let c = split (top .items) in
-    let (o, bad, long, got, described, texts, names) = objective-read 3 (lift base (c .first)) d is in
+    let (o, bad, long, got, described) = objective-read 3 (lift base (c .first)) d is in
     let size : ℕ = base + c .mid - (base + top .body) in
     let sum : top .body + size ≡ c .mid = omega (arith, advances (c .first)) in
     record {
@@ -208,57 +187,48 @@ begun {m} {base} {e} st d is =
       read =
           λ r tail. accept base s _ r o size bad long (sym (top .token)) (array-items _ 1 refl refl) refl (ap (objectiveIn 3 (base + top .body)) (drop-drop (top .body) base m) ∙ got)
           (ap (λ (k : ℕ). pairTail base s k o bad long) sum ∙ tail);
-      opened = lift-head (top .head);
       described = described;
-      texts = texts;
-      names = names;
       second = only (c .rest);
     }
 
--- a pair that is read
+-- a pair is read
 abbrev Read : List ℕ → ℕ → ℕ → Pair Value → Type 0
 Read m base e pair =
     (o : Objective) × (t : Tag) × (bad : ℕ) × (long : ℕ) × (pairAt m base ≡ PairRead.Got o t (e - base) bad long)
-    × (at : ℕ) × (mid : ℕ) × ArrayHead m base at 2 × ObjectiveIs m at mid o (pair .0) × (tagLoc m t ≡ pair .1)
-    × (bad ≡ 0 ↔ Every Utf8 (pairTexts pair)) × (long ≡ 0 ↔ Short (pair .0 .name))
+    × (at : ℕ) × (mid : ℕ) × ObjectiveIs m at mid o (pair .0) × (tagLoc m t ≡ pair .1)
 
 untagged-read : {m : List ℕ} {base e v : ℕ} {obj : Obj Value} → Begun m base e obj (array v []) → Read m base e (obj, none)
-unfolding count tagLoc tagTexts pairTexts
+unfolding count tagLoc
 untagged-read {m} {base} b =
     let empty = array-token (b .second) in
-    let (there, back) = b .texts in
     let read = b .read _ (empty-tail base (drop base m) (b .mid) (b .objective) (b .bad) (b .long) _ (sym (empty .token)) refl refl (none-end (empty .items))) in
-    (b .objective, Tag.Empty, b .bad, b .long, read, b .at, base + b .mid, b .opened, b .described, refl, (λ z. (there z, tt), λ h. back (h .0)), b .names)
+    (b .objective, Tag.Empty, b .bad, b .long, read, b .at, base + b .mid, b .described, refl)
 
 tagged-read : {m : List ℕ} {base e : ℕ} {y : Item} {obj : Obj Value} {loc : Loc} → Begun m base e obj y → LocatorItem y loc → Read m base e (obj, some loc)
-unfolding tagLoc tagTexts pairTexts
+unfolding tagLoc
 tagged-read {m} {base} {e} b is =
-    let (l, bad′, got, located, texts) = locator-read (lift base (b .second)) is in
+    let (l, bad′, got, located) = locator-read (lift base (b .second)) is in
     let n : ℕ = base + (e - base) - (base + b .mid) in
     let sum : e - base ≡ b .mid + n = omega (arith, advances (b .second)) in
     let tail = tagged-tail base (drop base m) (b .mid) (b .objective) (b .bad) (b .long) l n bad′
     (ap (locatorIn (base + b .mid)) (drop-drop (b .mid) base m) ∙ got) sum in
-    let (there, back) = first-zero (b .bad) bad′ in (
-      b .objective,
-      Tag.At l,
-      firstOf (b .bad) bad′,
-      b .long,
-      b .read _ tail,
-      b .at,
-      base + b .mid,
-      b .opened,
-      b .described,
-      ap some located,
-      (λ z. let (x, y) = there z in (b .texts .0 x, texts .0 y), λ h. back (b .texts .1 (h .0), texts .1 (h .1))),
-      b .names,
-    )
+    (b .objective, Tag.At l, firstOf (b .bad) bad′, b .long, b .read _ tail, b .at, base + b .mid, b .described, ap some located)
 
--- for readers
 -- an item that is a pair is read, and as the pair that it is
-pub pair-read : {m : List ℕ} {base e : ℕ} {x : Item} {pair : Pair Value} → Stands m base e x → depth x ≤ pairDepth → PairItem x pair
+pub pair-read : {m : List ℕ} {base e : ℕ} {x : Item} {pair : Pair Value} → Stands m base e x → depth x ≤ leftUnder 1 → PairItem x pair
     → (o : Objective) × (t : Tag) × (bad : ℕ) × (long : ℕ) × (pairAt m base ≡ PairRead.Got o t (e - base) bad long)
-    × (at : ℕ) × (mid : ℕ) × ArrayHead m base at 2 × ObjectiveIs m at mid o (pair .0) × (tagLoc m t ≡ pair .1)
-    × (bad ≡ 0 ↔ Every Utf8 (pairTexts pair)) × (long ≡ 0 ↔ Short (pair .0 .name))
+    × (at : ℕ) × (mid : ℕ) × ObjectiveIs m at mid o (pair .0) × (tagLoc m t ≡ pair .1)
 unfolding depth
 pair-read st d (PairItem.untagged is) = untagged-read (begun st (omega arith) is)
 pair-read st d (PairItem.tagged is loc) = tagged-read (begun st (omega arith) is) loc
+
+-- for readers
+
+-- A pair is read exactly where an item that is one stands, of 7 levels at most, up to its end.
+pub pair-exactly : (m : List ℕ) (base size : ℕ) → Bytes m
+    → ((o : Objective) × (t : Tag) × (bad : ℕ) × (long : ℕ) × (pairAt m base ≡ PairRead.Got o t size bad long))
+    ↔ ((x : Item) × (pair : Pair Value) × Stands m base (base + size) x × (depth x ≤ leftUnder 1) × PairItem x pair)
+pair-exactly m base size by = (
+  λ (o, t, bad, long, q). let i = pair-sound m base o t size bad long by q in (i .item, i .pair, i .stands, i .shallow, i .is),
+  λ (x, pair, st, d, is). let (o, t, bad, long, read, _, _, _, _) = pair-read st d is in (o, t, bad, long, rw (add-sub-cancel-left base size) at read),
+)

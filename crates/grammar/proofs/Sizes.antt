@@ -17,8 +17,9 @@ use Rattle.cbor.proofs.Passes.{size-ends}
 use Rattle.grammar.specs.Stands.{Stands}
 use Rattle.grammar.proofs.Bridge.{advances}
 
--- where a size is read, an item stands
-pub sized-item : (levels : ℕ) (s : List ℕ) (p : ℕ) → Bytes s → (sizeAt levels s p ≡ 0 → ⊥) → (x : Item) × Stands s p (p + sizeAt levels s p) x
+-- where a size is read, an item of no more levels than may open stands
+pub sized-item : (levels : ℕ) (s : List ℕ) (p : ℕ) → Bytes s → (sizeAt levels s p ≡ 0 → ⊥)
+    → (x : Item) × Stands s p (p + sizeAt levels s p) x × (depth x ≤ leftUnder levels)
 unfolding sizeAt
 sized-item levels s p b some =
     let n : ℕ = sizeFrom (firstItem levels (drop p s)) in
@@ -31,6 +32,7 @@ sized-item levels s p b some =
         end = ap (λ (k : ℕ). p + k) (sym long);
         within = omega (arith, i .within, length-drop p s);
       },
+      i .shallow,
     )
 
 -- where an item stands, its size is read

@@ -3,7 +3,7 @@
 use mathlib.Core.Path.{_≡_, refl, sym, _∙_}
 use mathlib.Core.Logic.{_↔_}
 use mathlib.Core.List.{List}
-use mathlib.Core.Bool.{Bool, true, false}
+use mathlib.Core.Bool.{false≢true}
 use Prim.Native.Nat.{ℕ}
 use native.Mathlib.Omega.{arith}
 use lib.ListN.{length}
@@ -13,6 +13,7 @@ use Rattle.base.specs.Pick.{pick}
 use Rattle.base.proofs.Picks.{pick-case}
 use Rattle.cbor.specs.declared.token.Token.{Token}
 use Rattle.utf8.specs.Utf8.{isUtf8}
+use Rattle.utf8.proofs.Utf8Exact.{utf8-exactly}
 use Rattle.options.specs.Text.{badText, firstOf}
 use Rattle.options.specs.Objective.{mostName, longName}
 use Rattle.options.proofs.Texts.{none-first}
@@ -21,10 +22,9 @@ use Rattle.grammar.specs.Limits.{Utf8, Short}
 -- a text's place isn't given exactly where the text is UTF-8
 pub bad-text : (text : List ℕ) (place : ℕ) → (place ≡ 0 → ⊥) → badText text place ≡ 0 ↔ Utf8 text
 unfolding badText
-bad-text text place some = by (isUtf8 text)
-  where
-    by : (t : Bool) → pick t 0 place ≡ 0 ↔ t ≡ true
-    by t = pick-case (λ n. n ≡ 0 ↔ t ≡ true) t (λ e. (λ _. e, λ _. refl)) (λ e. (λ z. absurd (some z), λ f. absurd (let z : _≡_ {A = Bool} false true = sym e ∙ f in let y : _≡_ {A = ℕ} 0 1 = cc in omega arith)))
+bad-text text place some =
+    let (there, back) = utf8-exactly text in
+    pick-case (λ n. n ≡ 0 ↔ Utf8 text) (isUtf8 text) (λ e. (λ _. there e, λ _. refl)) (λ e. (λ z. absurd (some z), λ is. absurd (false≢true (sym e ∙ back is))))
 
 -- a name's place isn't given exactly where the name is short
 pub long-name : (w : Token) (place : ℕ) (name : List ℕ) → (place ≡ 0 → ⊥) → length name ≡ w .arg → longName w place ≡ 0 ↔ Short name

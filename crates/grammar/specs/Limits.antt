@@ -1,18 +1,13 @@
--- The rules' limits on texts: named texts are UTF-8 (`Utf8Exact.utf8-exactly` of `utf8` says what that means), and names have at most 64 bytes.
+-- The rules' limits on texts: named texts are UTF-8, and names have at most 64 bytes.
 use Prim.Native.Nat.{ℕ, _≤_}
 use mathlib.Core.List.{List, [], _∷_, _++_, map, flatMap}
-use mathlib.Core.Bool.{true}
-use mathlib.Core.Path.{_≡_}
 use mathlib.Core.Option.{Option, none, some}
 use lib.ListN.{length}
 use Rattle.base.specs.Lists.{Every}
-use Rattle.utf8.specs.Utf8.{isUtf8}
+pub use Rattle.utf8.specs.Utf8.{Utf8}
 use Rattle.options.specs.Objective.{mostName}
 use Rattle.syntax.specs.Message.{Loc, Obj, Pair, Aim, Ending, Msg}
 use Rattle.grammar.specs.Cddl.{Value}
-
-abbrev pub Utf8 : List ℕ → Type 0
-Utf8 t = isUtf8 t ≡ true
 
 abbrev pub Short : List ℕ → Type 0
 Short name = length name ≤ mostName

@@ -1,10 +1,13 @@
 -- What the answers of the readers describe, by the message's bytes.
-use Prim.Native.Nat.{ℕ, _+_, _-_, _≤_}
+use Prim.Native.Nat.{ℕ, suc, _+_, _-_, _≤_}
 use mathlib.Core.List.{List, _++_}
 use mathlib.Core.Path.{_≡_}
+use mathlib.Core.Logic.{_↔_}
 use mathlib.Core.Option.{Option, none, some}
 use lib.ListN.{length, take, drop}
-use Rattle.cbor.specs.Tree.{Item, Items, Right, headBytes, encode, encodes, Good, Goods}
+use Rattle.base.specs.Lists.{Every}
+use Rattle.cbor.specs.Item.{leftUnder}
+use Rattle.cbor.specs.Tree.{Item, Items, Right, headBytes, encode, encodes, depth, Good, Goods}
 use Rattle.options.specs.declared.Span.{Span}
 use Rattle.options.specs.declared.locator.Locator.{Locator}
 use Rattle.options.specs.declared.locator.Locator.the-variants as L
@@ -12,8 +15,9 @@ use Rattle.options.specs.declared.objective.Objective.{Objective}
 use Rattle.options.specs.declared.pair.Tag.{Tag}
 use Rattle.options.specs.Text.{spanOf, held}
 use Rattle.options.specs.Locator.{nullProtocol, nullPort}
-use Rattle.syntax.specs.Message.{Loc, orNull, Obj}
-use Rattle.grammar.specs.Cddl.{uint, bytes, text, Value}
+use Rattle.syntax.specs.Message.{Loc, orNull, Obj, Pair}
+use Rattle.grammar.specs.Cddl.{uint, bytes, text, LocatorItem, ObjectiveItem, PairItem, Value}
+use Rattle.grammar.specs.Limits.{Utf8, Short, locTexts, pairTexts}
 
 -- the item x stands in the bytes s from p to e
 pub record Stands (s : List ℕ) (p e : ℕ) (x : Item) : Type 0 where
@@ -104,3 +108,42 @@ pub record ObjectiveIs (s : List ℕ) (p e : ℕ) (o : Objective) (obj : Obj Val
   pub count : o .count ≡ obj .count
   pub value : ValueIs s (o .value) (obj .value)
   pub ends : e ≡ o .value .at + o .value .len
+
+-- ---- what is read of a part
+-- the locator l, read from p to e with a bad text at `bad` (0 is none): the item that stands there, and the locator that it is
+pub record LocatorStands (s : List ℕ) (p e : ℕ) (l : Locator) (bad : ℕ) : Type 0 where
+  pub item : Item
+  pub loc : Loc
+  pub stands : Stands s p e item
+  pub is : LocatorItem item loc
+  pub described : LocatorIs s p l loc
+  pub texts : bad ≡ 0 ↔ Every Utf8 (locTexts loc)
+
+-- the objective o, read from p to e with a name that is a bad text at `bad` or too long at `long`: the item that stands there, and the objective that it is;
+-- so many levels are open around its value, its own among them
+pub record ObjectiveStands (levels : ℕ) (s : List ℕ) (p e : ℕ) (o : Objective) (bad long : ℕ) : Type 0 where
+  pub item : Item
+  pub obj : Obj Value
+  pub stands : Stands s p e item
+  pub shallow : depth item ≤ suc (leftUnder levels)
+  pub is : ObjectiveItem item obj
+  pub described : ObjectiveIs s p e o obj
+  pub texts : bad ≡ 0 ↔ Utf8 (obj .name)
+  pub names : long ≡ 0 ↔ Short (obj .name)
+
+-- the pair of o and t, read from p to e with a bad text at `bad` or a name too long at `long`: the item that stands there, and the pair that it is; the
+-- message's level is open around it
+pub record PairStands (s : List ℕ) (p e : ℕ) (o : Objective) (t : Tag) (bad long : ℕ) : Type 0 where
+  pub item : Item
+  pub pair : Pair Value
+  pub stands : Stands s p e item
+  pub shallow : depth item ≤ leftUnder 1
+  pub is : PairItem item pair
+  -- where the objective begins, after the array's head, and where it ends
+  pub at : ℕ
+  pub mid : ℕ
+  pub opened : ArrayHead s p at 2
+  pub objective : ObjectiveIs s at mid o (pair .0)
+  pub tag : TagIs s mid t (pair .1)
+  pub texts : bad ≡ 0 ↔ Every Utf8 (pairTexts pair)
+  pub names : long ≡ 0 ↔ Short (pair .0 .name)

@@ -17,6 +17,7 @@ use Rattle.cbor.specs.declared.token.Token.{Token}
 use Rattle.cbor.specs.Token.{tokenAt}
 use Rattle.cbor.specs.Tree.{Items, count, depth, depths}
 use Rattle.utf8.specs.Utf8.{isUtf8}
+use Rattle.utf8.proofs.Utf8Exact.{utf8-exactly}
 use Rattle.grammar.specs.Cddl.{text}
 use Rattle.grammar.specs.Limits.{Utf8, Short}
 use Rattle.grammar.specs.Stands.{Stands, StandAll}
@@ -62,12 +63,13 @@ unfolding goodName count
 name-sound {s} {p} {n} t is good others =
     let kind = eqb (t .major) 3 in
     let fits = leb (t .arg) mostName in
-    let utf8 = isUtf8 (contentIn s t) in
-    let front = and-left (kind && fits) utf8 good in
+    let tested = isUtf8 (contentIn s t) in
+    let front = and-left (kind && fits) tested good in
+    let utf8 = utf8-exactly (contentIn s t) .0 (and-right (kind && fits) tested good) in
     let text : t .major ≡ 3 = eqb-true (t .major) 3 (and-left kind fits front) in
     let few : t .arg ≤ mostName = leb-true (t .arg) mostName (and-right kind fits front) in
     let h = small-heading s p t is (omega arith) (omega arith) in
-    let (item, long) = text-at h true text (bytes-utf8 (contentIn s t) (and-right (kind && fits) utf8 good)) in
+    let (item, long) = text-at h true text (bytes-utf8 utf8) in
     let rest = others (h .within) in
     record {
       end = rest .end;
@@ -76,7 +78,7 @@ name-sound {s} {p} {n} t is good others =
       stand = join (item .stands) (rest .stand);
       are = TextItems.more (rest .are);
       many = ap suc (rest .many);
-      utf8 = (and-right (kind && fits) utf8 good, rest .utf8);
+      utf8 = (utf8, rest .utf8);
       short = (omega (arith, long), rest .short);
     }
 
@@ -113,7 +115,7 @@ name-complete {s} {p} t utf8 short =
     let w = tokenAt s p in
     and-true (eqb (w .major) 3 && leb (w .arg) mostName) (isUtf8 (contentIn s w))
     (and-true (eqb (w .major) 3) (leb (w .arg) mostName) (eq-eqb (w .major) 3 (t .major)) (le-leb (w .arg) mostName (omega (arith, t .arg))))
-    (ap isUtf8 (t .content) ∙ utf8)
+    (ap isUtf8 (t .content) ∙ utf8-exactly _ .1 utf8)
 
 pub names-complete : {s : List ℕ} {p e : ℕ} {xs : Items} {names : List (List ℕ)} → TextItems xs names → StandAll s p e xs → Every Utf8 names → Every Short names
     → goodNames s (count xs) p ≡ true

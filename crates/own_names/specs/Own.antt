@@ -26,6 +26,6 @@ pub record OwnNames (s : List ℕ) : Type 0 where
   pub are : TextArray (one .item) names
   -- 0 to 16 of them
   pub few : length names ≤ mostNames
-  -- each of them UTF-8 (`Utf8Exact.utf8-exactly` of `utf8` says what that means), and of at most 64 bytes
+  -- each of them UTF-8, and of at most 64 bytes
   pub utf8 : Every Utf8 names
   pub short : Every Short names

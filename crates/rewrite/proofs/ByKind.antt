@@ -7,12 +7,12 @@ use Prim.Native.Nat.{ℕ, _*_, _/_, _≤_}
 use native.Mathlib.Omega.{arith}
 use lib.Dec.{ltb, lit<}
 use lib.ListN.{length, take}
-use Rattle.cbor.specs.Item.{mostLevels}
+use Rattle.cbor.specs.Item.{mostLevels, leftUnder}
 use Rattle.cbor.specs.Tree.{Item, Items, headBytes, count, encode, depth, depths}
 use Rattle.syntax.specs.Message.{Loc, Obj, Pair, Aim, Ending, Msg, valuedObj, valuedPair, valued}
-use Rattle.grammar.specs.Cddl.{uint, text, array, Protocol, Port, OrNull, LocatorItem, LocatorItems, ObjectiveItem, Value, PairItem, PairItems, EndingItem, MessageItem}
+use Rattle.grammar.specs.Cddl.{uint, text, array, LocatorItems, ObjectiveItem, Value, PairItem, PairItems, EndingItem, MessageItem}
 use Rattle.grammar.specs.Stands.{StandAll}
-use Rattle.grammar.proofs.Pairs.{pairDepth}
+use Rattle.grammar.proofs.Levels.{locator-deep}
 use Rattle.message.specs.declared.Series.{Series}
 use Rattle.message.specs.declared.Targets.{Targets}
 use Rattle.message.specs.declared.Extra.{Extra}
@@ -33,31 +33,6 @@ use Rattle.rewrite.proofs.Locators.{placeOf, place-behind, Locators, lo
 use Rattle.rewrite.proofs.Pairs.{rowAt, rowOf, row-behind, pairOf, InOrder, Pairs, pairs-rows}
 
 -- ---- how many levels the items of pairs have: as many as any others of the same pairs
--- a protocol has none
-protocol-flat : {x : Item} {n : ℕ} → Protocol x n → depth x ≡ 0
-unfolding depth
-protocol-flat Protocol.tcp = refl
-protocol-flat Protocol.udp = refl
-
--- nor has a port
-port-flat : {x : Item} {n : ℕ} → Port x n → depth x ≡ 0
-unfolding depth
-port-flat (Port.port h) = refl
-
--- nor null
-or-null-flat : {P : Item → ℕ → Type 0} {x : Item} {n : Option ℕ} → ((m : ℕ) → P x m → depth x ≡ 0) → OrNull P x n → depth x ≡ 0
-unfolding depth
-or-null-flat f OrNull.is-null = refl
-or-null-flat f (OrNull.is {n = n} i) = f n i
-
--- a locator has one
-locator-deep : {x : Item} {l : Loc} → LocatorItem x l → depth x ≡ 1
-unfolding depth
-locator-deep (LocatorItem.v6 _ i j) = rw (protocol-flat i, port-flat j)
-locator-deep (LocatorItem.v4 _ i j) = rw (protocol-flat i, port-flat j)
-locator-deep (LocatorItem.domain i j) = rw (protocol-flat i, port-flat j)
-locator-deep (LocatorItem.uri i j) = rw (or-null-flat (λ n. protocol-flat) i, or-null-flat (λ n. port-flat) j)
-
 -- an objective's are those of its value
 objective-deep : {x y : Item} {obj : Obj Value} → ObjectiveItem x obj → ObjectiveItem y obj → depth x ≡ depth y
 unfolding depth
@@ -113,7 +88,7 @@ module _ (s : List ℕ) where
       subst (λ (l : List ℕ). Placed l ls) (sym (lent chain (series .many) list (ltb (length list / placeRow) (series .many)) many room)) (placed-rows chain)
 
   -- of a series of pairs
-  pairs-lent : {e : ℕ} {series : Series} {xs : Items} {ps : List (Pair Value)} (list : List ℕ) → depths xs ≤ pairDepth → StandAll s (series .at) e xs → PairItems xs ps
+  pairs-lent : {e : ℕ} {series : Series} {xs : Items} {ps : List (Pair Value)} (list : List ℕ) → depths xs ≤ leftUnder 1 → StandAll s (series .at) e xs → PairItems xs ps
       → series .many ≡ length ps → R.seriesEnd pairRow series list ≤ length list → Paired (take (R.seriesEnd pairRow series list) (R.seriesFilled pairRow (R.pairNext s) (R.pairStored s) series list)) (map (valuedPair valueBytes) ps)
   unfolding R.seriesEnd R.seriesFilled
   pairs-lent {series = series} {ps = ps} list d a i many room =

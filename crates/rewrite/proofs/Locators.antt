@@ -128,7 +128,7 @@ module _ (s : List ℕ) where
   locators-rows a LocatorItems.empty = ([], Chain.end)
   locators-rows {p} a (LocatorItems.more {x = x} {ls = ls} i is) =
       let c = split a in
-      let (l, bad, read, described, _) = locator-read (c .first) i in
+      let (l, bad, read, described) = locator-read (c .first) i in
       let text : TextIn s l = subst (TextOk s) read (text-ok s p (drop p s) (omega (arith, length-drop p s, c .first .within, advances (c .first)))) in
       let told = placed l text (subst (LocatorItem x) (sym described) i) in
       let (rows, more) = locators-rows (c .rest) is in (

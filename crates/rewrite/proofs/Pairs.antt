@@ -14,6 +14,7 @@ use lib.Seq.{sets, getD-append-add}
 use Rattle.base.specs.Pick.{pick}
 use Rattle.base.proofs.Parts.{drop-past}
 use Rattle.base.proofs.Picks.{both}
+use Rattle.cbor.specs.Item.{leftUnder}
 use Rattle.cbor.specs.Tree.{Item, Items, depth, depths}
 use Rattle.cbor.specs.Head.{headAt}
 use Rattle.cbor.specs.Token.{nothingAt, tokenFrom, tokenAt, itemsIn}
@@ -33,7 +34,7 @@ use Rattle.grammar.specs.Cddl.{LocatorItem, Value, PairItem, PairItems}
 use Rattle.grammar.specs.Stands as S
 use Rattle.grammar.specs.Stands.{StandAll, tagLoc}
 use Rattle.grammar.proofs.Bridge.{split, advances}
-use Rattle.grammar.proofs.Pairs.{pairDepth, pair-read}
+use Rattle.grammar.proofs.Pairs.{pair-read}
 use Rattle.description.specs.declared.rows.Entry.{Entry}
 use Rattle.description.specs.declared.rows.Place.{Place}
 use Rattle.description.specs.Describe.{pairRow, entryRow, entryOf, objOf, entryAt, placeLoc, placeAt, locOrNone}
@@ -192,12 +193,12 @@ module _ (s : List ℕ) where
       (ap₂ (λ (x : Obj (List ℕ)) (y : Option Loc). (x, y)) (goal .is) (tag-is .is), record { kept = refl; objective = goal .says; locator = tag-is .says })
 
   -- the pairs that stand in a message
-  pub pairs-rows : {p e : ℕ} {xs : Items} {ps : List (Pair Value)} → depths xs ≤ pairDepth → StandAll s p e xs → PairItems xs ps → (rows : List (List ℕ)) × Pairs p rows (map (valuedPair valueBytes) ps)
+  pub pairs-rows : {p e : ℕ} {xs : Items} {ps : List (Pair Value)} → depths xs ≤ leftUnder 1 → StandAll s p e xs → PairItems xs ps → (rows : List (List ℕ)) × Pairs p rows (map (valuedPair valueBytes) ps)
   unfolding depth
   pairs-rows d a PairItems.empty = ([], Chain.end)
   pairs-rows {p} d a (PairItems.more {ps = ps} i is) =
       let c = split a in
-      let (o, tag, bad, long, read, at, mid, opened, objective, described, _, _) = pair-read (c .first) (omega (arith, d)) i in
+      let (o, tag, bad, long, read, at, mid, objective, described) = pair-read (c .first) (omega (arith, d)) i in
       let text : TagIn s tag = subst (TagOk s) read (tag-ok s p (drop p s) (omega (arith, length-drop p s, c .first .within, advances (c .first)))) in
       let (rows, more) = pairs-rows (omega (arith, d)) (c .rest) is in (
         R.pairCells o tag ∷ rows,

@@ -1,10 +1,12 @@
 -- UTF-8 (RFC 3629).
 use Prim.Native.Nat.{ℕ, zero, suc, _+_, _/_, _%_, _^_, _<_, _≤_}
 use mathlib.Core.Bool.{Bool, false}
+use mathlib.Core.Path.{_≡_}
 use mathlib.Core.Logic.{_⊎_}
 use mathlib.Core.List.{List, [], _∷_, _++_}
 use lib.Dec.{ltb, eqb}
 use Rattle.base.specs.Pick.{pick}
+use Rattle.base.specs.Lists.{Every}
 
 -- How many tails follow the lead byte b (RFC 3629, section 4): none where b is no lead byte.
 unfoldable pub tailsOf : ℕ → ℕ
@@ -26,7 +28,7 @@ goesOn zero low high (b ∷ s) =
     (pick (eqb (tailsOf b) 0) false (goesOn (tailsOf b) (leastTail b) (greatestTail b) s))
 goesOn (suc due) low high (b ∷ s) = pick (ltb b low) false (pick (ltb high b) false (goesOn due 0x80 0xBF s))
 
--- Whether s is UTF-8 (RFC 3629, section 4).
+-- Whether s is UTF-8, by the bytes that section 4 of RFC 3629 lists; `Utf8Exact.utf8-exactly` holds it against `Utf8`.
 unfoldable pub isUtf8 : List ℕ → Bool
 isUtf8 s = goesOn 0 0x80 0xBF s
 
@@ -46,3 +48,7 @@ scalarBytes c =
 unfoldable pub textBytes : List ℕ → List ℕ
 textBytes [] = []
 textBytes (c ∷ cs) = scalarBytes c ++ textBytes cs
+
+-- UTF-8, as RFC 3629 has it: s is the octets of some text.
+abbrev pub Utf8 : List ℕ → Type 0
+Utf8 s = (cs : List ℕ) × Every Scalar cs × (textBytes cs ≡ s)
