@@ -101,7 +101,7 @@ arrival-test r c = (λ e. there (or-true (leb (r .interfaces) i) (not (hasBit (r
 pub fails : {test : Bool} {P : Type 0} → test ≡ true ↔ P → test ≡ false → P → ⊥
 fails {test} e f p = not-both test (e .1 p) f
 
-failing : {test : Bool} {P : Type 0} → test ≡ true ↔ P → (P → ⊥) → test ≡ false
+pub failing : {test : Bool} {P : Type 0} → test ≡ true ↔ P → (P → ⊥) → test ≡ false
 failing {test} {P} e none = go (true-or-false test)
   where
     go : (test ≡ true) ⊎ (test ≡ false) → test ≡ false

@@ -4,7 +4,7 @@ use mathlib.Core.Path.{_≡_, refl, sym, ap, _∙_}
 use mathlib.Core.Logic.{_≢_, _⊎_, inl, inr, _↔_}
 use mathlib.Core.Bool.{true, false}
 use mathlib.Core.List.{List}
-use Prim.Native.Nat.{ℕ, _≤_, _<_, zero-le}
+use Prim.Native.Nat.{ℕ, zero, suc, _≤_, _<_, zero-le}
 use native.Mathlib.Decide.{decLt}
 use native.Mathlib.Omega.{arith}
 use lib.ListN.{length}
@@ -17,6 +17,14 @@ use Rattle.verdicts.specs.Rows.{Free, Used, Live, Dead, HasKey, SameRow}
 use Rattle.verdicts.specs.Bars.{GoodTable}
 use Rattle.verdicts.specs.Due.{Known, Full}
 use Rattle.verdicts.proofs.Lives.{free-is, free-misses, used-is, row-passes, dead-test, row-is, test-cleared, free-stays, live-stays, live-used}
+
+-- free rows have the same numbers
+free-same : {t u : List ℕ} {i : ℕ} → Free u i → Free t i → SameRow u t i
+free-same f g zero l = f .first ∙ sym (g .first)
+free-same f g (suc zero) l = f .second ∙ sym (g .second)
+free-same f g (suc (suc zero)) l = f .third ∙ sym (g .third)
+free-same f g (suc (suc (suc zero))) l = f .fourth ∙ sym (g .fourth)
+free-same f g (suc (suc (suc (suc j)))) l = absurd (omega arith)
 
 -- for readers
 
@@ -54,14 +62,14 @@ freed-zeros now t good i = (λ f. there f (row-is now t good i), back)
     back (inl z) = free-stays now t i z
     back (inr d) = test-cleared now t good i (dead-test now t i d)
 
--- Else each of its four numbers is as it was.
-pub freed-same : (now : ℕ) (t : List ℕ) → tableBad now t ≡ false → (i : ℕ) → (Free t i ⊎ Dead now t i → ⊥) → SameRow (freed now t) t i
+-- If it wasn't dead, each of its four numbers is as it was.
+pub freed-same : (now : ℕ) (t : List ℕ) → tableBad now t ≡ false → (i : ℕ) → (Dead now t i → ⊥) → SameRow (freed now t) t i
 freed-same now t good i other = go (row-is now t good i)
   where
     go : Free t i ⊎ (Live now t i ⊎ Dead now t i) → SameRow (freed now t) t i
-    go (inl z) = absurd (other (inl z))
+    go (inl z) = free-same (free-stays now t i z) z
     go (inr (inl live)) = live-stays now t i live
-    go (inr (inr d)) = absurd (other (inr d))
+    go (inr (inr d)) = absurd (other d)
 
 -- Freeing leaves the table's length.
 pub freed-length : (now : ℕ) (t : List ℕ) → length (freed now t) ≡ length t
