@@ -24,7 +24,7 @@ use Rattle.host.specs.Table.{tableBytes, loaded, saved}
 use Rattle.host.specs.Call.{answerFrom, tableIn, afterCall, callAnswer, callTable, callOutput, answerNumbers, replyNumbers, leftOf, callLeft}
 
 -- a call over the bytes of a table is one over its numbers
-same-call : (r : Record) (bytes : List ℕ) (c : Call) (numbers : List ℕ) → length bytes ≡ tableBytes → numbers ≡ loaded bytes → nodeCall r numbers c ≡ afterCall r bytes c
+pub same-call : (r : Record) (bytes : List ℕ) (c : Call) (numbers : List ℕ) → length bytes ≡ tableBytes → numbers ≡ loaded bytes → nodeCall r numbers c ≡ afterCall r bytes c
 unfolding afterCall tableIn pick
 same-call r bytes c numbers sized are = rw (eq-eqb (length bytes) tableBytes sized, ← are)
 
@@ -79,30 +79,30 @@ module _ (c : Call) where
   taken-answers r t Role.Upward = refl
   taken-answers r t (Role.Spreads s) = carried-answers r t s (verdictOn r t c s)
 
-  abbrev Still : After → Type 0
-  Still z = (answerFrom (z .called) .refusal ≡ 0 → ⊥) → z .output ≡ c .output
+  abbrev pub Still : Record → List ℕ → After → Type 0
+  Still r t z = (answerFrom (z .called) .refusal ≡ 0 → ⊥) → (z .called .node ≡ r) × (z .table ≡ t) × (z .output ≡ c .output)
 
-  received-still : (r : Record) (t : List ℕ) (reading : Reading) → Still (received r t c reading)
+  received-still : (r : Record) (t : List ℕ) (reading : Reading) → Still r t (received r t c reading)
   unfolding received refuse
-  received-still r t (Reading.Refused number) ne = refl
+  received-still r t (Reading.Refused number) ne = (refl, refl, refl)
   received-still r t (Reading.Read m) ne = absurd (ne (taken-answers (clocked r (c .clock)) (freed (c .clock) t) (roleOf m)))
 
-  refuse-still : (r : Record) (t : List ℕ) (n : ℕ) → Still (refuse n r t c)
+  refuse-still : (r : Record) (t : List ℕ) (n : ℕ) → Still r t (refuse n r t c)
   unfolding refuse
-  refuse-still r t n ne = refl
+  refuse-still r t n ne = (refl, refl, refl)
 
-  call-still : (r : Record) (t : List ℕ) → Still (nodeCall r t c)
+  pub call-still : (r : Record) (t : List ℕ) → Still r t (nodeCall r t c)
   unfolding nodeCall
-  call-still r t = both Still _ (received-still r t (readOf (c .message))) (refuse-still r t _)
+  call-still r t = both (Still r t) _ (received-still r t (readOf (c .message))) (refuse-still r t _)
 
 module _ (r : Record) (bytes : List ℕ) (c : Call) (ne : callAnswer r bytes c .refusal ≡ 0 → ⊥) where
-  table-still : callTable r bytes c ≡ bytes
+  pub table-still : callTable r bytes c ≡ bytes
   unfolding callTable
   table-still = both (λ (z : List ℕ). z ≡ bytes) _ (pick-case (λ (z : List ℕ). z ≡ bytes) _ (λ e. absurd (ne (eqb-true _ _ e))) (λ e. refl)) refl
 
   output-still : callOutput r bytes c ≡ c .output
   unfolding callOutput callAnswer afterCall
-  output-still = call-still c r (tableIn bytes) ne
+  output-still = call-still c r (tableIn bytes) ne .2
 
 module _ (r : Record) (bytes : List ℕ) (c : Call) (answer : List ℕ) (a : A.Answer) (table out : List ℕ)
     (answered : a ≡ callAnswer r bytes c) (left : table ≡ callTable r bytes c) (written : out ≡ callOutput r bytes c) where

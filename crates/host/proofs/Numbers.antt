@@ -22,7 +22,7 @@ use Rattle.host.specs.Table.{tableBytes, numbersIn, loaded, saved}
 sets-all : (l vs : List ℕ) → length vs ≡ length l → sets l 0 vs ≡ vs
 sets-all l vs e = sets-eq vs l 0 (omega arith) ∙ rw (drop-past l (0 + length vs) (omega arith)) (append-nil vs)
 
-length-numbers : (n : ℕ) (s : List ℕ) → length (numbersIn n s) ≡ n
+pub length-numbers : (n : ℕ) (s : List ℕ) → length (numbersIn n s) ≡ n
 unfolding numbersIn
 length-numbers zero s = refl
 length-numbers (suc n) s = ap suc (length-numbers n (drop 8 s))

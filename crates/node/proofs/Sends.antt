@@ -6,7 +6,7 @@ use mathlib.Core.Logic.{_⊎_, inl, inr}
 use mathlib.Core.List.{List, flatMap}
 use Prim.Native.Nat.{ℕ, _+_, _-_, _≤_}
 use native.Mathlib.Omega.{arith}
-use lib.ListN.{length, take, drop, length-append, length-drop}
+use lib.ListN.{length, take, drop, length-append, length-take, length-drop}
 use lib.Seq.{length-take-le}
 use borrow.Author.Tests.{le-ltb}
 use Rattle.options.specs.Text.{held}
@@ -65,18 +65,18 @@ answer-most session initiator ttl address port i a =
     simp length-append
     (omega (arith, i, a, head-most 4 5, head-most 0 2, head-most 0 session, head-most 2 (length initiator), head-most 0 ttl, head-most 4 4, head-most 0 103, head-most 2 (length address), head-most 0 6, head-most 0 port))
 
-pub response-given : (r : Record) (message out : List ℕ) (s : Spread) → length (r .address) ≡ 16 → Within message s → mostBytes ≤ length out
+pub response-given : (r : Record) (message out : List ℕ) (s : Spread) → length (r .address) ≡ 16 → (s .initiator .len ≡ 4) ⊎ (s .initiator .len ≡ 16) → mostBytes ≤ length out
     → (passAnswer true (response r message s) out ≡ Written.Length (length (response r message s))) × (passOut true (response r message s) out ≡ written (response r message s) out)
 unfolding response passAnswer passOut passes handAnswer handOut pick
-response-given r message out s sixteen w room =
+response-given r message out s sixteen size room =
     let bytes : List ℕ = answerOf (s .session) (held message (s .initiator)) (r .ttl) (r .address) (r .port) in
-    let most : length bytes ≤ mostBytes = answer-most (s .session) (held message (s .initiator)) (r .ttl) (r .address) (r .port) (short (w .bytes)) (omega arith) in
+    let most : length bytes ≤ mostBytes = answer-most (s .session) (held message (s .initiator)) (r .ttl) (r .address) (r .port) (short size) (omega arith) in
     let fits : length bytes ≤ length out = omega arith in
     (rw (le-ltb mostBytes (length bytes) most, le-ltb (length out) (length bytes) fits) refl, rw (le-ltb mostBytes (length bytes) most, le-ltb (length out) (length bytes) fits) refl)
   where
     short : (s .initiator .len ≡ 4) ⊎ (s .initiator .len ≡ 16) → length (held message (s .initiator)) ≤ 16
-    short (inl e) = omega (arith, held-length message (s .initiator) (w .initiator))
-    short (inr e) = omega (arith, held-length message (s .initiator) (w .initiator))
+    short (inl e) = omega (arith, length-take (s .initiator .len) (drop (s .initiator .at) message))
+    short (inr e) = omega (arith, length-take (s .initiator .len) (drop (s .initiator .at) message))
 
 -- ---- a part of a message
 

@@ -30,7 +30,7 @@ use Rattle.own_names.proofs.Texts.{texts-counted, texts-flat, names-sou
 
 -- ---- own names are found good
 -- the array's token, and its texts
-pub record TextsRead (s : List ℕ) (names : List (List ℕ)) : Type 0 where
+record TextsRead (s : List ℕ) (names : List (List ℕ)) : Type 0 where
   pub items : Items
   pub are : TextItems items names
   pub major : tokenAt s 0 .major ≡ 4
@@ -49,10 +49,10 @@ texts-read {s} stand (TextArray.array {xs = xs} are) =
     }
 
 module _ {s : List ℕ} (o : OwnNames s) where
-  pub read : TextsRead s (o .names)
+  read : TextsRead s (o .names)
   read = texts-read (stands (o .one)) (o .are)
 
-  pub few-read : tokenAt s 0 .arg ≤ mostNames
+  few-read : tokenAt s 0 .arg ≤ mostNames
   few-read = omega (arith, read .arg, texts-counted (read .are), o .few)
 
   array-good : arrayBad s ≡ false

@@ -92,13 +92,13 @@ names-sound {s} (suc n) p low good =
 
 -- ---- what stands there is read
 -- a text's token
-pub record TextRead (s : List ℕ) (p e : ℕ) (bs : List ℕ) : Type 0 where
+record TextRead (s : List ℕ) (p e : ℕ) (bs : List ℕ) : Type 0 where
   pub major : tokenAt s p .major ≡ 3
   pub arg : tokenAt s p .arg ≡ length bs
   pub next : tokenAt s p .next ≡ e
   pub content : contentIn s (tokenAt s p) ≡ bs
 
-pub text-read : {s : List ℕ} {p e w : ℕ} {bs : List ℕ} → Stands s p e (text w bs) → TextRead s p e bs
+text-read : {s : List ℕ} {p e w : ℕ} {bs : List ℕ} → Stands s p e (text w bs) → TextRead s p e bs
 text-read {e = e} {bs = bs} a =
     let t = text-token a in
     let size : e - t .body ≡ length bs = omega (arith, t .end) in

@@ -17,12 +17,13 @@ use Rattle.base.specs.Bits.{hasBit}
 use Rattle.base.proofs.Picks.{pick-case}
 use Rattle.base.proofs.Bools.{true-or-false, or-true, not-both}
 use Rattle.names.specs.Names.{namesBad}
+use Rattle.own_names.proofs.Exact.{names-exactly, names-refused}
 use Rattle.node_state.specs.declared.Record.{Record}
 use Rattle.node_state.specs.Record.{linksBad, recordBad, arrivalBad}
 use Rattle.node_state.specs.Table.{tableBad}
 use Rattle.node.specs.Call.{Call, barred}
 use Rattle.node_state.proofs.Masks.{up-le}
-use Rattle.verdicts.specs.Bars.{BadRecord, no-interface, many-interfaces, high-link, high-tally, BadArrival, Earlier, GoodTable, BadNames, ShortOutput, Barred, bad-record, bad-arrival, bad-clock, bad-table, bad-names, short-output, nothing}
+use Rattle.verdicts.specs.Bars.{BadRecord, no-interface, many-interfaces, high-link, high-tally, BadArrival, Earlier, GoodTable, ShortOutput, Barred, bad-record, bad-arrival, bad-clock, bad-table, bad-names, short-output, nothing}
 use Rattle.verdicts.specs.Due.{bar}
 use Rattle.verdicts.proofs.Links.{below-power, top-off}
 use Rattle.verdicts.proofs.Rows.{table-good}
@@ -97,10 +98,10 @@ arrival-test r c = (λ e. there (or-true (leb (r .interfaces) i) (not (hasBit (r
     back (inr e) = either (leb (r .interfaces) i) (not (hasBit (r .links) i)) (inr (ap not e))
 
 -- a test that fails, and one that holds
-fails : {test : Bool} {P : Type 0} → test ≡ true ↔ P → test ≡ false → P → ⊥
+pub fails : {test : Bool} {P : Type 0} → test ≡ true ↔ P → test ≡ false → P → ⊥
 fails {test} e f p = not-both test (e .1 p) f
 
-failing : {test : Bool} {P : Type 0} → test ≡ true ↔ P → (P → ⊥) → test ≡ false
+pub failing : {test : Bool} {P : Type 0} → test ≡ true ↔ P → (P → ⊥) → test ≡ false
 failing {test} {P} e none = go (true-or-false test)
   where
     go : (test ≡ true) ⊎ (test ≡ false) → test ≡ false
@@ -111,15 +112,12 @@ module _ (r : Record) (t : List ℕ) (c : Call) where
   clock-test : ltb (c .clock) (r .clock) ≡ true ↔ Earlier r c
   clock-test = (ltb-true (c .clock) (r .clock), lt-ltb (c .clock) (r .clock))
 
-  table-test : tableBad (c .clock) t ≡ true ↔ (GoodTable t c → ⊥)
+  table-test : tableBad (c .clock) t ≡ true ↔ (GoodTable t (c .clock) → ⊥)
   table-test = (λ e good. not-both (tableBad (c .clock) t) e (table-good (c .clock) t .1 good), λ none. go none (true-or-false (tableBad (c .clock) t)))
     where
-      go : (GoodTable t c → ⊥) → (tableBad (c .clock) t ≡ true) ⊎ (tableBad (c .clock) t ≡ false) → tableBad (c .clock) t ≡ true
+      go : (GoodTable t (c .clock) → ⊥) → (tableBad (c .clock) t ≡ true) ⊎ (tableBad (c .clock) t ≡ false) → tableBad (c .clock) t ≡ true
       go none (inl e) = e
       go none (inr e) = absurd (none (table-good (c .clock) t .0 e))
-
-  names-test : namesBad (c .names) ≡ true ↔ BadNames c
-  names-test = (λ e. e, λ e. e)
 
   room-test : ltb (length (c .output)) 2048 ≡ true ↔ ShortOutput c
   room-test = (ltb-true (length (c .output)) 2048, lt-ltb (length (c .output)) 2048)
@@ -131,8 +129,8 @@ module _ (r : Record) (t : List ℕ) (c : Call) where
       (λ e. let a = fails (record-test r) e in pick-case (Barred r t c) (arrivalBad r (c .interface)) (λ e. bad-arrival a (arrival-test r c .0 e))
       (λ e. let b = fails (arrival-test r c) e in pick-case (Barred r t c) (ltb (c .clock) (r .clock)) (λ e. bad-clock a b (clock-test .0 e))
       (λ e. let d = fails clock-test e in pick-case (Barred r t c) (tableBad (c .clock) t) (λ e. bad-table a b d (table-test .0 e))
-      (λ e. let g = table-good (c .clock) t .0 e in pick-case (Barred r t c) (namesBad (c .names)) (λ e. bad-names a b d g e)
-      (λ e. let n = fails names-test e in pick-case (Barred r t c) (ltb (length (c .output)) 2048) (λ e. short-output a b d g n (room-test .0 e))
+      (λ e. let g = table-good (c .clock) t .0 e in pick-case (Barred r t c) (namesBad (c .names)) (λ e. bad-names a b d g (names-refused (c .names) .0 e))
+      (λ e. let n = names-exactly (c .names) .0 e in pick-case (Barred r t c) (ltb (length (c .output)) 2048) (λ e. short-output a b d g n (room-test .0 e))
       (λ e. nothing a b d g n (fails room-test e)))))))
 
   bars-is : {n : ℕ} → Barred r t c n → bar r t c ≡ n
@@ -141,11 +139,11 @@ module _ (r : Record) (t : List ℕ) (c : Call) where
   bars-is (bad-arrival a p) = rw (failing (record-test r) a, arrival-test r c .1 p) refl
   bars-is (bad-clock a b p) = rw (failing (record-test r) a, failing (arrival-test r c) b, clock-test .1 p) refl
   bars-is (bad-table a b d p) = rw (failing (record-test r) a, failing (arrival-test r c) b, failing clock-test d, table-test .1 p) refl
-  bars-is (bad-names a b d g p) = rw (failing (record-test r) a, failing (arrival-test r c) b, failing clock-test d, table-good (c .clock) t .1 g, p) refl
+  bars-is (bad-names a b d g p) = rw (failing (record-test r) a, failing (arrival-test r c) b, failing clock-test d, table-good (c .clock) t .1 g, names-refused (c .names) .1 p) refl
   bars-is (short-output a b d g n p) =
-      rw (failing (record-test r) a, failing (arrival-test r c) b, failing clock-test d, table-good (c .clock) t .1 g, failing names-test n, room-test .1 p) refl
+      rw (failing (record-test r) a, failing (arrival-test r c) b, failing clock-test d, table-good (c .clock) t .1 g, names-exactly (c .names) .1 n, room-test .1 p) refl
   bars-is (nothing a b d g n s) =
-      rw (failing (record-test r) a, failing (arrival-test r c) b, failing clock-test d, table-good (c .clock) t .1 g, failing names-test n, failing room-test s) refl
+      rw (failing (record-test r) a, failing (arrival-test r c) b, failing clock-test d, table-good (c .clock) t .1 g, names-exactly (c .names) .1 n, failing room-test s) refl
 
 -- for readers
 

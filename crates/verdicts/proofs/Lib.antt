@@ -1,6 +1,6 @@
 -- For readers: `Edges`, the starred cases of the rules, computed; `Verdict`, what comes of a node call; `Bars`, the refusals 12 to 17; `Handed`, what is handed up; `Sent`, what each verdict leaves and sends;
 -- `Rows`, the rows of the relay table; `Keys`, when two keys are the same; `Tally`, which never wraps; `Links`, which links are up;
--- `Names`, the own names by the list of names that they are; `Settings`, a fresh record and the setting of links.
+-- `Settings`, a fresh record and the setting of links.
 pub mod Edges
 pub mod Verdict
 pub mod Bars
@@ -10,7 +10,6 @@ pub mod Rows
 pub mod Keys
 pub mod Tally
 pub mod Links
-pub mod Names
 pub mod Settings
 -- For their proofs: the tests of a node call and of rows, held against the rules' conditions.
 mod Ways

@@ -4,7 +4,7 @@ use mathlib.Core.Path.{_≡_, refl, sym, ap, _∙_}
 use mathlib.Core.Logic.{_≢_, _⊎_, inl, inr, _↔_}
 use mathlib.Core.Bool.{true, false}
 use mathlib.Core.List.{List}
-use Prim.Native.Nat.{ℕ, _≤_, _<_, zero-le}
+use Prim.Native.Nat.{ℕ, zero, suc, _≤_, _<_, zero-le}
 use native.Mathlib.Decide.{decLt}
 use native.Mathlib.Omega.{arith}
 use lib.ListN.{length}
@@ -14,12 +14,22 @@ use Rattle.node_state.specs.declared.table.Key.{Key}
 use Rattle.node_state.specs.Table.{cell, putRow, rowFree, rowUsed, rowBad, firstFrom, someRow, tableBad, freed, lowestFree, rowMatches, isKnown}
 use Rattle.node_state.proofs.Rows.{put-other, put-holds, length-put, length-free, first-hit, first-miss, first-most, some-passes, passes-some, holds-matches, matches-holds, table-sized, row-good}
 use Rattle.verdicts.specs.Rows.{Free, Used, Live, Dead, HasKey, SameRow}
+use Rattle.verdicts.specs.Bars.{GoodTable}
+use Rattle.verdicts.specs.Due.{Known, Full}
 use Rattle.verdicts.proofs.Lives.{free-is, free-misses, used-is, row-passes, dead-test, row-is, test-cleared, free-stays, live-stays, live-used}
+
+-- free rows have the same numbers
+free-same : {t u : List ℕ} {i : ℕ} → Free u i → Free t i → SameRow u t i
+free-same f g zero l = f .first ∙ sym (g .first)
+free-same f g (suc zero) l = f .second ∙ sym (g .second)
+free-same f g (suc (suc zero)) l = f .third ∙ sym (g .third)
+free-same f g (suc (suc (suc zero))) l = f .fourth ∙ sym (g .fourth)
+free-same f g (suc (suc (suc (suc j)))) l = absurd (omega arith)
 
 -- for readers
 
 -- A table isn't refused exactly if it has 256 numbers and each row is free or used.
-pub table-good : (now : ℕ) (t : List ℕ) → tableBad now t ≡ false ↔ ((length t ≡ 256) × ((i : ℕ) → i < 64 → Free t i ⊎ Used now t i))
+pub table-good : (now : ℕ) (t : List ℕ) → tableBad now t ≡ false ↔ GoodTable t now
 unfolding tableBad rowBad
 table-good now t = (λ e. (table-sized now t e, λ i l. each e i), λ h. rw (eq-eqb (length t) 256 (h .0), none (h .1)) refl)
   where
@@ -52,14 +62,14 @@ freed-zeros now t good i = (λ f. there f (row-is now t good i), back)
     back (inl z) = free-stays now t i z
     back (inr d) = test-cleared now t good i (dead-test now t i d)
 
--- Else each of its four numbers is as it was.
-pub freed-same : (now : ℕ) (t : List ℕ) → tableBad now t ≡ false → (i : ℕ) → (Free t i ⊎ Dead now t i → ⊥) → SameRow (freed now t) t i
+-- If it wasn't dead, each of its four numbers is as it was.
+pub freed-same : (now : ℕ) (t : List ℕ) → tableBad now t ≡ false → (i : ℕ) → (Dead now t i → ⊥) → SameRow (freed now t) t i
 freed-same now t good i other = go (row-is now t good i)
   where
     go : Free t i ⊎ (Live now t i ⊎ Dead now t i) → SameRow (freed now t) t i
-    go (inl z) = absurd (other (inl z))
+    go (inl z) = free-same (free-stays now t i z) z
     go (inr (inl live)) = live-stays now t i live
-    go (inr (inr d)) = absurd (other (inr d))
+    go (inr (inr d)) = absurd (other d)
 
 -- Freeing leaves the table's length.
 pub freed-length : (now : ℕ) (t : List ℕ) → length (freed now t) ≡ length t
@@ -114,11 +124,10 @@ known-is k t = (there, λ h. passes-some (rowMatches k t) (h .0) (h .1) (back (h
     back i h = holds-matches k t i (cell t i 3) (record { first = h .first; second = h .second; third = h .third; clock = refl })
 
 -- After freeing, a key is known exactly if a live row had its three numbers; a key's first number isn't 0.
-pub known-live : (now : ℕ) (t : List ℕ) → tableBad now t ≡ false → (k : Key) → 0 < k .first
-    → isKnown k (freed now t) ≡ true ↔ ((i : ℕ) × (i < 64) × Live now t i × HasKey t i k)
+pub known-live : (now : ℕ) (t : List ℕ) → tableBad now t ≡ false → (k : Key) → 0 < k .first → isKnown k (freed now t) ≡ true ↔ Known t now k
 known-live now t good k some = (λ e. let (i, l, h) = known-is k (freed now t) .0 e in go i l h (row-is now t good i), back)
   where
-    go : (i : ℕ) → i < 64 → HasKey (freed now t) i k → Free t i ⊎ (Live now t i ⊎ Dead now t i) → (i : ℕ) × (i < 64) × Live now t i × HasKey t i k
+    go : (i : ℕ) → i < 64 → HasKey (freed now t) i k → Free t i ⊎ (Live now t i ⊎ Dead now t i) → Known t now k
     go i l h (inl f) = let z = free-stays now t i f .first in let e = h .first in absurd (omega arith)
     go i l h (inr (inr d)) = let z = test-cleared now t good i (dead-test now t i d) .first in let e = h .first in absurd (omega arith)
     go i l h (inr (inl live)) =
@@ -133,7 +142,7 @@ known-live now t good k some = (λ e. let (i, l, h) = known-is k (freed now t) .
           },
         )
 
-    back : (i : ℕ) × (i < 64) × Live now t i × HasKey t i k → isKnown k (freed now t) ≡ true
+    back : Known t now k → isKnown k (freed now t) ≡ true
     back (i, l, live, h) =
         let same = live-stays now t i live in
         known-is k (freed now t) .1 (i, l, record { first = same 0 (omega arith) ∙ h .first; second = same 1 (omega arith) ∙ h .second; third = same 2 (omega arith) ∙ h .third })
@@ -146,7 +155,7 @@ filled-row t i k clock len l =
     (record { first = h .first; second = h .second; third = h .third }, h .clock, λ n other j m. put-other t i k clock n j other m, length-put t i k clock ∙ len)
 
 -- After freeing, no row is free exactly if every row lived.
-pub full-exactly : (now : ℕ) (t : List ℕ) → tableBad now t ≡ false → lowestFree (freed now t) ≡ 64 ↔ ((i : ℕ) → i < 64 → Live now t i)
+pub full-exactly : (now : ℕ) (t : List ℕ) → tableBad now t ≡ false → lowestFree (freed now t) ≡ 64 ↔ Full t now
 full-exactly now t good = (λ e i l. there i (lowest-none (freed now t) .0 e i l) (row-is now t good i), λ h. lowest-none (freed now t) .1 (λ i l. live-used now t i (h i l)))
   where
     there : (i : ℕ) → (Free (freed now t) i → ⊥) → Free t i ⊎ (Live now t i ⊎ Dead now t i) → Live now t i

@@ -1,6 +1,6 @@
 -- A fresh record and the setting of links are answered as the rules say. For readers: each statement stands alone.
 -- Assumes nothing.
-use mathlib.Core.Path.{_≡_}
+use mathlib.Core.Path.{_≡_, refl, subst}
 use mathlib.Core.Logic.{_⊎_, inl, inr, _↔_}
 use mathlib.Core.Bool.{true}
 use mathlib.Core.List.{List}
@@ -10,14 +10,16 @@ use native.Mathlib.Omega.{arith}
 use lib.Dec.{ltb, leb}
 use lib.Pow.{pow-mono}
 use borrow.Author.Tests.{ltb-true, leb-true, le-leb}
+use Rattle.base.specs.Pick.{pick}
 use Rattle.base.proofs.Picks.{pick-case}
-use Rattle.base.proofs.Bools.{or-true, not-both}
+use Rattle.base.proofs.Bools.{or-true}
 use Rattle.node_state.specs.declared.Record.{Record}
+use Rattle.node_state.specs.declared.Kept.{Kept}
 use Rattle.node_state.specs.Record.{linksBad, recordBad, begun, fresh, setLinks}
 use Rattle.node_state.proofs.Masks.{up-le}
 use Rattle.verdicts.specs.Bars.{HighLink, BadRecord}
 use Rattle.verdicts.specs.Settings.{FreshIs, LinksSet}
-use Rattle.verdicts.proofs.Bars.{high-bit, either, record-test}
+use Rattle.verdicts.proofs.Bars.{high-bit, either, record-test, fails, failing}
 
 -- the test of a mask
 mask-test : (n mask : ℕ) → leb (2 ^ n) mask ≡ true ↔ HighLink n mask
@@ -39,21 +41,38 @@ begun-test address port ttl interfaces mask =
     by (inl e) = e
     by (inr e) = absurd (omega (arith, ltb-true (2 ^ 63) 0 e))
 
+-- what is answered
+fresh-is : (address : List ℕ) (port ttl interfaces mask : ℕ) → FreshIs address port ttl interfaces mask (fresh address port ttl interfaces mask)
+unfolding fresh
+fresh-is address port ttl interfaces mask =
+    let test = begun-test address port ttl interfaces mask in
+    pick-case (FreshIs address port ttl interfaces mask) (linksBad interfaces mask) (λ e. FreshIs.refused (test .0 e)) (λ e. FreshIs.made (fails test e))
+
+set-is : (r : Record) (mask : ℕ) → LinksSet r mask (setLinks r mask)
+unfolding setLinks
+set-is r mask =
+    pick-case (LinksSet r mask) (recordBad r) (λ e. LinksSet.bad-record (record-test r .0 e))
+    (λ e. pick-case (LinksSet r mask) (leb (2 ^ r .interfaces) mask) (λ t. LinksSet.bad-mask (fails (record-test r) e) (mask-test (r .interfaces) mask .0 t))
+    (λ t. LinksSet.set (fails (record-test r) e) (fails (mask-test (r .interfaces) mask) t)))
+
+-- and nothing else
+fresh-once : {address : List ℕ} {port ttl interfaces mask : ℕ} {k : Kept} → FreshIs address port ttl interfaces mask k → fresh address port ttl interfaces mask ≡ k
+unfolding fresh pick
+fresh-once {address} {port} {ttl} {interfaces} {mask} (FreshIs.refused b) = rw (begun-test address port ttl interfaces mask .1 b) refl
+fresh-once {address} {port} {ttl} {interfaces} {mask} (FreshIs.made good) = rw (failing (begun-test address port ttl interfaces mask) good) refl
+
+set-once : {r : Record} {mask : ℕ} {k : Kept} → LinksSet r mask k → setLinks r mask ≡ k
+unfolding setLinks pick
+set-once {r} (LinksSet.bad-record b) = rw (record-test r .1 b) refl
+set-once {r} {mask} (LinksSet.bad-mask good high) = rw (failing (record-test r) good, mask-test (r .interfaces) mask .1 high) refl
+set-once {r} {mask} (LinksSet.set good low) = rw (failing (record-test r) good, failing (mask-test (r .interfaces) mask) low) refl
+
 -- for readers
 
--- A fresh record is given, or refused.
-pub fresh-exactly : (address : List ℕ) (port ttl interfaces mask : ℕ) → FreshIs address port ttl interfaces mask (fresh address port ttl interfaces mask)
-unfolding fresh
-fresh-exactly address port ttl interfaces mask =
-    let (there, back) = begun-test address port ttl interfaces mask in
-    pick-case (FreshIs address port ttl interfaces mask) (linksBad interfaces mask) (λ e. FreshIs.refused (there e)) (λ e. FreshIs.made (λ b. not-both (linksBad interfaces mask) (back b) e))
+-- A fresh record is given, or refused, exactly as the rules say.
+pub fresh-exactly : (address : List ℕ) (port ttl interfaces mask : ℕ) (k : Kept) → fresh address port ttl interfaces mask ≡ k ↔ FreshIs address port ttl interfaces mask k
+fresh-exactly address port ttl interfaces mask k = (λ e. subst (FreshIs address port ttl interfaces mask) e (fresh-is address port ttl interfaces mask), fresh-once)
 
--- Links are set, or the setting is refused.
-pub set-exactly : (r : Record) (mask : ℕ) → LinksSet r mask (setLinks r mask)
-unfolding setLinks
-set-exactly r mask =
-    pick-case (LinksSet r mask) (recordBad r) (λ e. LinksSet.bad-record (record-test r .0 e))
-    (λ e.
-    let good : BadRecord r → ⊥ = λ b. not-both (recordBad r) (record-test r .1 b) e in
-    pick-case (LinksSet r mask) (leb (2 ^ r .interfaces) mask) (λ t. LinksSet.bad-mask good (mask-test (r .interfaces) mask .0 t))
-    (λ t. LinksSet.set good (λ h. not-both (leb (2 ^ r .interfaces) mask) (mask-test (r .interfaces) mask .1 h) t)))
+-- Links are set, or the setting is refused, exactly as the rules say.
+pub set-exactly : (r : Record) (mask : ℕ) (k : Kept) → setLinks r mask ≡ k ↔ LinksSet r mask k
+set-exactly r mask k = (λ e. subst (LinksSet r mask) e (set-is r mask), set-once)

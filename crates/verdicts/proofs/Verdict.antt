@@ -15,7 +15,7 @@ use Rattle.node.specs.declared.Reply.{Reply}
 use Rattle.node.specs.declared.Reply.the-variants.{Refused, Given}
 use Rattle.node.specs.Call.{Call, After, afterOf, replies, refuse, nodeCall}
 use Rattle.verdicts.specs.Due.{rulesOn, Due, bar, Comes, barred-by, unread, given}
-use Rattle.verdicts.proofs.Ways.{first-once, read-verdicted, passes, call-read, comes, comes-is, Says, says, says-given, says-once, no-refusal, does-say}
+use Rattle.verdicts.proofs.Ways.{first-once, read-verdicted, call-read, comes, comes-is, Says, says, says-given, says-once, no-refusal, does-say}
 
 module _ (r : Record) (t : List ℕ) (c : Call) where
   -- what is due on the message, and was said
@@ -32,7 +32,7 @@ module _ (r : Record) (t : List ℕ) (c : Call) where
 
   due-said : (v : Verdict) (up : Bool) → WasDue v up → Says (nodeCall r t c .called .reply) v up
   due-said v up (e, m, read, due) =
-      let (w, u, due′, does) = read-verdicted r t c (passes r t c e) m in
+      let (w, u, due′, does) = read-verdicted r t c e m in
       let same = first-once (rulesOn r t c m) due′ due in
       let said : Says (nodeCall r t c .called .reply) w u = subst (λ (a : After). Says (a .called .reply) w u) (sym (call-read r t c m e read)) (does-say does) in
       subst (λ (b : Bool). Says (nodeCall r t c .called .reply) v b) (same .1) (subst (λ (z : Verdict). Says (nodeCall r t c .called .reply) z u) (same .0) said)

@@ -2,18 +2,18 @@
 -- Assumes nothing.
 use mathlib.Core.Path.{_≡_, refl, sym, ap, _∙_, subst}
 use mathlib.Core.Logic.{_≢_, _⊎_, inl, inr, _↔_}
-use mathlib.Core.Bool.{Bool, true, false, _&&_, _||_}
-use mathlib.Core.List.{List, [], _∷_, List·Memᴰ, List·Memᴰ·head, List·Memᴰ·tail}
+use mathlib.Core.Bool.{Bool, true, false}
+use mathlib.Core.List.{List}
 use Prim.Native.Nat.{ℕ, zero, suc, _-_, _^_, _≤_}
 use native.Mathlib.Decide.{ℕ-discrete}
 use native.Mathlib.Omega.{arith}
-use lib.Dec.{ltb, leb, eqb}
+use lib.Dec.{leb, eqb}
 use lib.ListN.{length}
 use borrow.Author.Tests.{leb-true, eqb-true, le-leb, eq-eqb, ne-eqb}
-use Rattle.options.specs.Text.{held, contentIn}
+use Rattle.options.specs.Text.{held}
 use Rattle.base.specs.Pick.{pick}
 use Rattle.base.proofs.Picks.{pick-case}
-use Rattle.base.proofs.Bools.{and-left, and-right, and-true, not-both, or-true}
+use Rattle.base.proofs.Bools.{not-both}
 use Rattle.options.specs.declared.Span.{Span}
 use Rattle.options.specs.declared.objective.Objective.{Objective}
 use Rattle.options.specs.declared.pair.Pair.{Pair}
@@ -22,8 +22,9 @@ use Rattle.message.specs.declared.Message.the-variants as M
 use Rattle.message.specs.declared.Series.{Series}
 use Rattle.message.specs.declared.Reading.{Reading}
 use Rattle.message.specs.Read.{readOf}
-use Rattle.cbor.specs.Token.{tokenAt}
-use Rattle.names.specs.Names.{mostNames, sameBytes, ownFrom, isOwn}
+use Rattle.names.specs.Names.{sameBytes, isOwn}
+use Rattle.own_names.specs.Own.{OwnNames}
+use Rattle.own_names.proofs.Exact.{own-exactly, same-exactly}
 use Rattle.node_state.specs.declared.Record.{Record}
 use Rattle.node.specs.declared.Verdict.{Verdict}
 use Rattle.node.specs.declared.Verdict.the-variants.{Own, Answer, Duplicate, Last, Nowhere, NoRow, Relay, Noop, Hand}
@@ -37,73 +38,18 @@ use Rattle.node.specs.Call.{Call, After, refuse, quiet, answered, relayed, late
 use Rattle.node.specs.History.{isRelay}
 use Rattle.node_state.proofs.Keys.{key-used}
 use Rattle.node.proofs.Outcomes.{passed, arrives}
-use Rattle.verdicts.specs.Due.{namesFrom, namesIn, Ours, Known, Alone, Full, Rules, when, otherwise, First, discoveryRules, floodRules, rulesOn, Due, Does, sends-nothing, answers, relays-discovery, relays-flood, bar, Comes, barred-by, unread, given}
+use Rattle.verdicts.specs.Due.{Ours, Named, Known, Alone, Full, Rules, when, otherwise, First, discoveryRules, floodRules, rulesOn, Due, Does, sends-nothing, answers, relays-discovery, relays-flood, bar, Comes, barred-by, unread, given}
+use Rattle.verdicts.specs.Bars.{Barred, nothing}
+use Rattle.verdicts.proofs.Bars.{fails, barred-exactly}
 use Rattle.verdicts.proofs.Rows.{known-live, full-exactly, lowest-most}
 use Rattle.verdicts.proofs.Links.{alone-exactly}
 
 -- ---- tests and conditions
 
--- a test says whether the condition holds
-record Decides (test : Bool) (P : Type 0) : Type 0 where
-  holds : test ≡ true → P
-  fails : test ≡ false → P → ⊥
-
-decides : {test : Bool} {P : Type 0} → test ≡ true ↔ P → Decides test P
-decides {test} e = record { holds = e .0; fails = λ f p. not-both test (e .1 p) f }
-
-same-bytes : (a b : List ℕ) → sameBytes a b ≡ true ↔ a ≡ b
-unfolding sameBytes
-same-bytes [] [] = (λ e. refl, λ e. refl)
-same-bytes [] (y ∷ ys) = (λ e. absurd (not-both true refl (sym e)), λ e. absurd (let z : _≡_ {A = ℕ} 0 1 = cc in omega arith))
-same-bytes (x ∷ xs) [] = (λ e. absurd (not-both true refl (sym e)), λ e. absurd (let z : _≡_ {A = ℕ} 0 1 = cc in omega arith))
-same-bytes (x ∷ xs) (y ∷ ys) = (there (same-bytes xs ys), back (same-bytes xs ys))
-  where
-    there : sameBytes xs ys ≡ true ↔ xs ≡ ys → (eqb x y && sameBytes xs ys) ≡ true → x ∷ xs ≡ y ∷ ys
-    there ih e =
-        let heads : x ≡ y = eqb-true x y (and-left (eqb x y) (sameBytes xs ys) e) in
-        let tails : xs ≡ ys = ih .0 (and-right (eqb x y) (sameBytes xs ys) e) in
-        cc
-
-    back : sameBytes xs ys ≡ true ↔ xs ≡ ys → x ∷ xs ≡ y ∷ ys → (eqb x y && sameBytes xs ys) ≡ true
-    back ih e =
-        let heads : x ≡ y = cc in
-        let tails : xs ≡ ys = cc in
-        and-true (eqb x y) (sameBytes xs ys) (eq-eqb x y heads) (ih .1 tails)
-
-own-from : (s name : List ℕ) (n at : ℕ) → ownFrom s name n at ≡ true ↔ List·Memᴰ name (namesFrom s n at)
-unfolding ownFrom namesFrom
-own-from s name zero at = (λ e. absurd (not-both true refl (sym e)), elim [ ])
-own-from s name (suc n) at = (λ e. there (own-from s name n (tokenAt s at .next)) (or-true here rest e), back (own-from s name n (tokenAt s at .next)))
-  where
-    Rest : Type 0
-    Rest = ownFrom s name n (tokenAt s at .next) ≡ true ↔ List·Memᴰ name (namesFrom s n (tokenAt s at .next))
-
-    here : Bool
-    here = sameBytes (contentIn s (tokenAt s at)) name
-
-    rest : Bool
-    rest = ownFrom s name n (tokenAt s at .next)
-
-    there : Rest → (here ≡ true) ⊎ (rest ≡ true) → List·Memᴰ name (contentIn s (tokenAt s at) ∷ namesFrom s n (tokenAt s at .next))
-    there ih (inl e) = List·Memᴰ·head (sym (same-bytes (contentIn s (tokenAt s at)) name .0 e))
-    there ih (inr e) = List·Memᴰ·tail (ih .0 e)
-
-    back : Rest → List·Memᴰ name (contentIn s (tokenAt s at) ∷ namesFrom s n (tokenAt s at .next)) → (here || rest) ≡ true
-    back ih (List·Memᴰ·head e) = rw (same-bytes (contentIn s (tokenAt s at)) name .1 (sym e)) refl
-    back ih (List·Memᴰ·tail m) = rw (ih .1 m) (or-last here)
-      where
-        or-last : (b : Bool) → (b || true) ≡ true
-        or-last true = refl
-        or-last false = refl
-
-named-test : (s name : List ℕ) → isOwn s name ≡ true ↔ List·Memᴰ name (namesIn s)
-unfolding isOwn namesIn pick
-named-test s name = go (ltb mostNames (tokenAt s 0 .arg))
-  where
-    go : (many : Bool) → pick many false (ownFrom s name (tokenAt s 0 .arg) (tokenAt s 0 .next)) ≡ true
-        ↔ List·Memᴰ name (pick many [] (namesFrom s (tokenAt s 0 .arg) (tokenAt s 0 .next)))
-    go true = (λ e. absurd (not-both true refl (sym e)), elim [ ])
-    go false = own-from s name (tokenAt s 0 .arg) (tokenAt s 0 .next)
+named-test : (c : Call) (o : Objective) → OwnNames (c .names) → isOwn (c .names) (held (c .message) (o .name)) ≡ true ↔ Named c o
+named-test c o own =
+    let name = held (c .message) (o .name) in
+    (λ e. (own, own-exactly (c .names) name own .0 e), λ (own′, among). own-exactly (c .names) name own′ .1 among)
 
 spent-test : (n : ℕ) → leb n 1 ≡ true ↔ ((n ≡ 0) ⊎ (n ≡ 1))
 spent-test n = (λ e. there n (leb-true n 1 e), back)
@@ -117,40 +63,40 @@ spent-test n = (λ e. there n (leb-true n 1 e), back)
     back (inl e) = le-leb n 1 (omega arith)
     back (inr e) = le-leb n 1 (omega arith)
 
-ours-test : (r : Record) (c : Call) (i : Span) → Decides (sameBytes (held (c .message) i) (clocked r (c .clock) .address)) (Ours r c i)
+ours-test : (r : Record) (c : Call) (i : Span) → sameBytes (held (c .message) i) (clocked r (c .clock) .address) ≡ true ↔ Ours r c i
 unfolding clocked
-ours-test r c i = decides (same-bytes (held (c .message) i) (r .address))
+ours-test r c i = same-exactly (held (c .message) i) (r .address)
 
 module _ (r : Record) (t : List ℕ) (c : Call) (p : Passed r t (c .clock) (c .interface) (length (c .output))) where
   known-test : (flood : Bool) (session : ℕ) (i : Span) (o : Objective)
-      → Decides (isKnown (keyIn (c .message) (spreadOf flood session i o)) (freed (c .clock) t)) (Known t c (keyOf flood session (held (c .message) i)))
+      → isKnown (keyIn (c .message) (spreadOf flood session i o)) (freed (c .clock) t) ≡ true ↔ Known t (c .clock) (keyOf flood session (held (c .message) i))
   unfolding keyIn
   known-test flood session i o =
-      decides (known-live (c .clock) t (p .table) (keyOf flood session (held (c .message) i)) (key-used flood session (held (c .message) i)))
+      known-live (c .clock) t (p .table) (keyOf flood session (held (c .message) i)) (key-used flood session (held (c .message) i))
 
-  alone-test : Decides (eqb (others (clocked r (c .clock)) (c .interface)) 0) (Alone r c)
+  alone-test : eqb (others (clocked r (c .clock)) (c .interface)) 0 ≡ true ↔ Alone r c
   unfolding clocked others
   alone-test =
       let left = r .links - 2 ^ c .interface in
       let exact = alone-exactly (r .links) (c .interface) (arrives r (c .interface) (p .good) (p .arrives) .up) in
-      decides (λ e. exact .0 (eqb-true left 0 e), λ a. eq-eqb left 0 (exact .1 a))
+      (λ e. exact .0 (eqb-true left 0 e), λ a. eq-eqb left 0 (exact .1 a))
 
-  full-test : Decides (leb 64 (lowestFree (freed (c .clock) t))) (Full t c)
+  full-test : leb 64 (lowestFree (freed (c .clock) t)) ≡ true ↔ Full t (c .clock)
   full-test =
       let row = lowestFree (freed (c .clock) t) in
       let exact = full-exactly (c .clock) t (p .table) in
       let most : row ≤ 64 = lowest-most (freed (c .clock) t) in
-      decides (λ e. exact .0 (let l = leb-true 64 row e in omega arith), λ f. let is = exact .1 f in le-leb 64 row (omega arith))
+      (λ e. exact .0 (let l = leb-true 64 row e in omega arith), λ f. let is = exact .1 f in le-leb 64 row (omega arith))
 
 -- ---- the first that applies
 
 -- a verdict that is picked by a test
 module _ (up : Verdict → Bool) where
-  picked : (rules : Rules) (v w : Verdict) {P : Type 0} {test handed : Bool} → Decides test P → handed ≡ up v → First rules w (up w)
+  picked : (rules : Rules) (v w : Verdict) {P : Type 0} {test handed : Bool} → test ≡ true ↔ P → handed ≡ up v → First rules w (up w)
       → First (when P v handed rules) (pick test v w) (up (pick test v w))
   unfolding First
   picked rules v w {P} {test} {handed} d e rest =
-      pick-case (λ (x : Verdict). First (when P v handed rules) x (up x)) test (λ yes-it-is. inl (d .holds yes-it-is, refl, e)) (λ it-is-not. inr (d .fails it-is-not, rest))
+      pick-case (λ (x : Verdict). First (when P v handed rules) x (up x)) test (λ yes-it-is. inl (d .0 yes-it-is, refl, e)) (λ it-is-not. inr (fails d it-is-not, rest))
 
 first-else : (up : Verdict → Bool) (v : Verdict) → First (otherwise v (up v)) v (up v)
 unfolding First
@@ -201,13 +147,13 @@ module _ (r : Record) (t : List ℕ) (c : Call) (session : ℕ) (i : Span) (o : 
   abbrev discovery-verdict : Verdict
   discovery-verdict = verdictOn (clocked r (c .clock)) (freed (c .clock) t) c (spreadOf false session i o)
 
-  discovery-due : Passed r t (c .clock) (c .interface) (length (c .output)) → First (discoveryRules r t c session i o) discovery-verdict (handed false discovery-verdict)
+  discovery-due : Passed r t (c .clock) (c .interface) (length (c .output)) → OwnNames (c .names) → First (discoveryRules r t c session i o) discovery-verdict (handed false discovery-verdict)
   unfolding verdictOn laterVerdict pick handed
-  discovery-due p =
+  discovery-due p own =
       picked (handed false) _ _ _ (ours-test r c i) refl
-      (picked (handed false) _ _ _ (decides (named-test (c .names) (held (c .message) (o .name)))) refl
+      (picked (handed false) _ _ _ (named-test c o own) refl
       (picked (handed false) _ _ _ (known-test r t c p false session i o) refl
-      (picked (handed false) _ _ _ (decides (spent-test (o .count))) refl
+      (picked (handed false) _ _ _ (spent-test (o .count)) refl
       (picked (handed false) _ _ _ (alone-test r t c p) refl
       (picked (handed false) _ _ _ (full-test r t c p) refl
       (first-else (handed false) Relay))))))
@@ -220,7 +166,7 @@ module _ (r : Record) (t : List ℕ) (c : Call) (session : ℕ) (i : Span) (o : 
   flood-due p =
       picked (handed true) _ _ _ (ours-test r c i) refl
       (picked (handed true) _ _ _ (known-test r t c p true session i o) refl
-      (picked (handed true) _ _ _ (decides (spent-test (o .count))) refl
+      (picked (handed true) _ _ _ (spent-test (o .count)) refl
       (picked (handed true) _ _ _ (alone-test r t c p) refl
       (picked (handed true) _ _ _ (full-test r t c p) refl
       (first-else (handed true) Relay)))))
@@ -298,32 +244,38 @@ module _ (r : Record) (t : List ℕ) (c : Call) where
       → Verdicted m (quiet v up (clocked r (c .clock)) (freed (c .clock) t) c)
   plain m v up e f g = (v, up, subst (λ (rules : Rules). First rules v up) (sym e) (first-else (λ _. up) v), silent v f g)
 
-  pub read-verdicted : Passed r t (c .clock) (c .interface) (length (c .output)) → (m : Message) → Verdicted m (taken (clocked r (c .clock)) (freed (c .clock) t) c (roleOf m))
+  passes : bar r t c ≡ 0 → Passed r t (c .clock) (c .interface) (length (c .output))
+  passes = passed r t (c .clock) (c .interface) (c .names) (length (c .output))
+
+  own-names : bar r t c ≡ 0 → OwnNames (c .names)
+  own-names e = go (barred-exactly r t c 0 .0 e)
+    where
+      go : Barred r t c 0 → OwnNames (c .names)
+      go (nothing a b d g own f) = own
+
+  pub read-verdicted : bar r t c ≡ 0 → (m : Message) → Verdicted m (taken (clocked r (c .clock)) (freed (c .clock) t) c (roleOf m))
   unfolding taken roleOf isAnswer isRelay
-  read-verdicted p M.Noop = plain M.Noop Noop false refl refl refl
-  read-verdicted p (M.Discovery session i o) = (
+  read-verdicted e M.Noop = plain M.Noop Noop false refl refl refl
+  read-verdicted e (M.Discovery session i o) = (
     discovery-verdict r t c session i o,
     handed false (discovery-verdict r t c session i o),
-    discovery-due r t c session i o p,
+    discovery-due r t c session i o (passes e) (own-names e),
     discovery-does session i o (discovery-verdict r t c session i o),
   )
-  read-verdicted p (M.Response session i ttl targets extra) = plain (M.Response session i ttl targets extra) Hand true refl refl refl
-  read-verdicted p (M.RequestNegotiation session o) = plain (M.RequestNegotiation session o) Hand true refl refl refl
-  read-verdicted p (M.RequestSynchronization session o) = plain (M.RequestSynchronization session o) Hand true refl refl refl
-  read-verdicted p (M.Negotiate session o) = plain (M.Negotiate session o) Hand true refl refl refl
-  read-verdicted p (M.End session outcome) = plain (M.End session outcome) Hand true refl refl refl
-  read-verdicted p (M.Wait session time) = plain (M.Wait session time) Hand true refl refl refl
-  read-verdicted p (M.Synch session o) = plain (M.Synch session o) Hand true refl refl refl
-  read-verdicted p (M.Flood session i ttl first pairs) = (
+  read-verdicted e (M.Response session i ttl targets extra) = plain (M.Response session i ttl targets extra) Hand true refl refl refl
+  read-verdicted e (M.RequestNegotiation session o) = plain (M.RequestNegotiation session o) Hand true refl refl refl
+  read-verdicted e (M.RequestSynchronization session o) = plain (M.RequestSynchronization session o) Hand true refl refl refl
+  read-verdicted e (M.Negotiate session o) = plain (M.Negotiate session o) Hand true refl refl refl
+  read-verdicted e (M.End session outcome) = plain (M.End session outcome) Hand true refl refl refl
+  read-verdicted e (M.Wait session time) = plain (M.Wait session time) Hand true refl refl refl
+  read-verdicted e (M.Synch session o) = plain (M.Synch session o) Hand true refl refl refl
+  read-verdicted e (M.Flood session i ttl first pairs) = (
     flood-verdict r t c session i (first .objective),
     handed true (flood-verdict r t c session i (first .objective)),
-    flood-due r t c session i (first .objective) p,
+    flood-due r t c session i (first .objective) (passes e),
     flood-does session ttl i first pairs (flood-verdict r t c session i (first .objective)) (flood-unanswered r t c session i (first .objective)),
   )
-  read-verdicted p (M.Invalid session item) = plain (M.Invalid session item) Hand true refl refl refl
-
-  pub passes : bar r t c ≡ 0 → Passed r t (c .clock) (c .interface) (length (c .output))
-  passes e = passed r t (c .clock) (c .interface) (c .names) (length (c .output)) e
+  read-verdicted e (M.Invalid session item) = plain (M.Invalid session item) Hand true refl refl refl
 
   -- the call by its refusals
   call-barred : (n : ℕ) → bar r t c ≡ n → n ≢ 0 → nodeCall r t c ≡ refuse n r t c
@@ -349,13 +301,13 @@ module _ (r : Record) (t : List ℕ) (c : Call) where
       go (no some) x read = subst (Comes r t c) (sym (call-barred (bar r t c) refl some)) (barred-by (bar r t c) refl some)
       go (yes e) (Reading.Refused n) read = subst (Comes r t c) (sym (call-unread n e read)) (unread n e read)
       go (yes e) (Reading.Read m) read =
-          let (v, up, due, does) = read-verdicted (passes e) m in
+          let (v, up, due, does) = read-verdicted e m in
           subst (Comes r t c) (sym (call-read m e read)) (given m v up e read due does)
 
   pub comes-is : {a : After} → Comes r t c a → nodeCall r t c ≡ a
   comes-is (barred-by n e some) = call-barred n e some
   comes-is (unread n e read) = call-unread n e read
-  comes-is (given m v up e read due does) = call-read m e read ∙ verdicted-once m (read-verdicted (passes e) m) due does
+  comes-is (given m v up e read due does) = call-read m e read ∙ verdicted-once m (read-verdicted e m) due does
 
 -- ---- what a reply says
 

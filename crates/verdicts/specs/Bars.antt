@@ -6,7 +6,7 @@ use mathlib.Core.Logic.{_⊎_}
 use mathlib.Core.Path.{_≡_}
 use lib.ListN.{length}
 use Rattle.base.specs.Bits.{hasBit}
-use Rattle.names.specs.Names.{namesBad}
+use Rattle.own_names.specs.Own.{OwnNames}
 use Rattle.node_state.specs.declared.Record.{Record}
 use Rattle.node.specs.Call.{Call}
 use Rattle.verdicts.specs.Rows.{Free, Used}
@@ -30,13 +30,13 @@ BadArrival r c = (r .interfaces ≤ c .interface) ⊎ (hasBit (r .links) (c .int
 abbrev pub Earlier : Record → Call → Type 0
 Earlier r c = c .clock < r .clock
 
--- the table has 256 numbers, and each row is free or used
-abbrev pub GoodTable : List ℕ → Call → Type 0
-GoodTable t c = (length t ≡ 256) × ((i : ℕ) → i < 64 → Free t i ⊎ Used (c .clock) t i)
+-- the table has 256 numbers, and each row is free or used at this clock
+abbrev pub GoodTable : List ℕ → ℕ → Type 0
+GoodTable t now = (length t ≡ 256) × ((i : ℕ) → i < 64 → Free t i ⊎ Used now t i)
 
--- the own names are bad: no list of names is what these bytes are (`names-refused` of `own_names` proofs/Exact)
+-- the own names aren't an array of names (`own_names Own`)
 abbrev pub BadNames : Call → Type 0
-BadNames c = namesBad (c .names) ≡ true
+BadNames c = OwnNames (c .names) → ⊥
 
 -- the output is shorter than 2,048 bytes
 abbrev pub ShortOutput : Call → Type 0
@@ -47,7 +47,7 @@ pub data Barred (r : Record) (t : List ℕ) (c : Call) : ℕ → Type 0 where
   bad-record : BadRecord r → Barred r t c 12
   bad-arrival : (BadRecord r → ⊥) → BadArrival r c → Barred r t c 13
   bad-clock : (BadRecord r → ⊥) → (BadArrival r c → ⊥) → Earlier r c → Barred r t c 14
-  bad-table : (BadRecord r → ⊥) → (BadArrival r c → ⊥) → (Earlier r c → ⊥) → (GoodTable t c → ⊥) → Barred r t c 15
-  bad-names : (BadRecord r → ⊥) → (BadArrival r c → ⊥) → (Earlier r c → ⊥) → GoodTable t c → BadNames c → Barred r t c 16
-  short-output : (BadRecord r → ⊥) → (BadArrival r c → ⊥) → (Earlier r c → ⊥) → GoodTable t c → (BadNames c → ⊥) → ShortOutput c → Barred r t c 17
-  nothing : (BadRecord r → ⊥) → (BadArrival r c → ⊥) → (Earlier r c → ⊥) → GoodTable t c → (BadNames c → ⊥) → (ShortOutput c → ⊥) → Barred r t c 0
+  bad-table : (BadRecord r → ⊥) → (BadArrival r c → ⊥) → (Earlier r c → ⊥) → (GoodTable t (c .clock) → ⊥) → Barred r t c 15
+  bad-names : (BadRecord r → ⊥) → (BadArrival r c → ⊥) → (Earlier r c → ⊥) → GoodTable t (c .clock) → BadNames c → Barred r t c 16
+  short-output : (BadRecord r → ⊥) → (BadArrival r c → ⊥) → (Earlier r c → ⊥) → GoodTable t (c .clock) → OwnNames (c .names) → ShortOutput c → Barred r t c 17
+  nothing : (BadRecord r → ⊥) → (BadArrival r c → ⊥) → (Earlier r c → ⊥) → GoodTable t (c .clock) → OwnNames (c .names) → (ShortOutput c → ⊥) → Barred r t c 0

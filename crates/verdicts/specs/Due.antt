@@ -1,15 +1,12 @@
 -- The verdict that is due on a message (the rules, "Verdicts"), and what comes of a node call.
-use Prim.Native.Nat.{ℕ, zero, suc, _<_}
+use Prim.Native.Nat.{ℕ, _<_}
 use mathlib.Core.Bool.{Bool, true, false}
-use mathlib.Core.List.{List, [], _∷_, List·Memᴰ}
+use mathlib.Core.List.{List, List·Memᴰ}
 use mathlib.Core.Logic.{_≢_, _⊎_}
 use mathlib.Core.Path.{_≡_}
 use lib.ListN.{length}
-use lib.Dec.{ltb}
-use Rattle.options.specs.Text.{held, contentIn}
-use Rattle.base.specs.Pick.{pick}
+use Rattle.options.specs.Text.{held}
 use Rattle.base.specs.Bits.{hasBit}
-use Rattle.cbor.specs.Token.{tokenAt}
 use Rattle.options.specs.declared.Span.{Span}
 use Rattle.options.specs.declared.objective.Objective.{Objective}
 use Rattle.options.specs.declared.pair.Pair.{Pair}
@@ -18,7 +15,7 @@ use Rattle.message.specs.declared.Message.the-variants as M
 use Rattle.message.specs.declared.Series.{Series}
 use Rattle.message.specs.declared.Reading.{Reading}
 use Rattle.message.specs.Read.{readOf}
-use Rattle.names.specs.Names.{mostNames}
+use Rattle.own_names.specs.Own.{OwnNames}
 use Rattle.node_state.specs.declared.Record.{Record}
 use Rattle.node.specs.declared.Verdict.{Verdict}
 use Rattle.node.specs.declared.Verdict.the-variants.{Own, Answer, Duplicate, Last, Nowhere, NoRow, Relay, Noop, Hand}
@@ -36,22 +33,13 @@ use Rattle.verdicts.specs.Rows.{Live, HasKey}
 abbrev pub Ours : Record → Call → Span → Type 0
 Ours r c initiator = held (c .message) initiator ≡ r .address
 
--- n names, one after the other from `at` on
-unfoldable pub namesFrom : List ℕ → ℕ → ℕ → List (List ℕ)
-namesFrom s zero at = []
-namesFrom s (suc n) at = contentIn s (tokenAt s at) ∷ namesFrom s n (tokenAt s at .next)
-
--- the names in an array of at most 16: of own names, the list of names that they are (`names-are` of proofs/Names)
-unfoldable pub namesIn : List ℕ → List (List ℕ)
-namesIn s = pick (ltb mostNames (tokenAt s 0 .arg)) [] (namesFrom s (tokenAt s 0 .arg) (tokenAt s 0 .next))
-
 -- the name equals one of our own names byte for byte
 abbrev pub Named : Call → Objective → Type 0
-Named c o = List·Memᴰ (held (c .message) (o .name)) (namesIn (c .names))
+Named c o = (own : OwnNames (c .names)) × List·Memᴰ (held (c .message) (o .name)) (own .names)
 
 -- a live row has the key
-abbrev pub Known : List ℕ → Call → Key → Type 0
-Known t c k = (i : ℕ) × (i < 64) × Live (c .clock) t i × HasKey t i k
+abbrev pub Known : List ℕ → ℕ → Key → Type 0
+Known t now k = (i : ℕ) × (i < 64) × Live now t i × HasKey t i k
 
 -- the count is 0 or 1
 abbrev pub Spent : Objective → Type 0
@@ -62,8 +50,8 @@ abbrev pub Alone : Record → Call → Type 0
 Alone r c = (j : ℕ) → j ≢ c .interface → hasBit (r .links) j ≡ false
 
 -- no row is free once the dead ones are freed
-abbrev pub Full : List ℕ → Call → Type 0
-Full t c = (i : ℕ) → i < 64 → Live (c .clock) t i
+abbrev pub Full : List ℕ → ℕ → Type 0
+Full t now = (i : ℕ) → i < 64 → Live now t i
 
 -- ---- the verdicts
 
@@ -82,20 +70,20 @@ module _ (r : Record) (t : List ℕ) (c : Call) where
   discoveryRules session initiator o =
       when (Ours r c initiator) Own false
       (when (Named c o) Answer false
-      (when (Known t c (keyOf false session (held (c .message) initiator))) Duplicate false
+      (when (Known t (c .clock) (keyOf false session (held (c .message) initiator))) Duplicate false
       (when (Spent o) Last false
       (when (Alone r c) Nowhere false
-      (when (Full t c) NoRow false
+      (when (Full t (c .clock)) NoRow false
       (otherwise Relay false))))))
 
   -- the count that matters is the first objective's
   abbrev pub floodRules : ℕ → Span → Objective → Rules
   floodRules session initiator first =
       when (Ours r c initiator) Own false
-      (when (Known t c (keyOf true session (held (c .message) initiator))) Duplicate false
+      (when (Known t (c .clock) (keyOf true session (held (c .message) initiator))) Duplicate false
       (when (Spent first) Last true
       (when (Alone r c) Nowhere true
-      (when (Full t c) NoRow true
+      (when (Full t (c .clock)) NoRow true
       (otherwise Relay true)))))
 
   abbrev pub rulesOn : Message → Rules

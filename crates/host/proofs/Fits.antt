@@ -1,0 +1,188 @@
+-- Records, tables and states whose numbers have their widths: which they are, and what a node call leaves of them.
+-- Assumes nothing.
+use Prim.Native.Nat.{ℕ, zero, suc, _+_, _*_, _^_, _<_}
+use mathlib.Core.Path.{_≡_, refl, _∙_}
+use mathlib.Core.Bool.{Bool, false, true≢false}
+use mathlib.Core.List.{List, [], _∷_}
+use native.Mathlib.Omega.{arith}
+use lib.Count.{ones}
+use lib.Dec.{leb}
+use lib.ListN.{length, getD, set, drop, length-set}
+use borrow.Author.Tests.{leb-false, ltb-false}
+use Rattle.base.specs.BigEndian.{Bytes, bigEndian}
+use Rattle.base.specs.Lists.{Every}
+use Rattle.base.proofs.Picks.{pick-case, both}
+use Rattle.base.proofs.Digits.{big-endian-lt}
+use Rattle.base.proofs.Parts.{bytes-drop}
+use Rattle.message.specs.Opening.{most}
+use Rattle.message.specs.declared.Reading.{Reading}
+use Rattle.message.specs.Read.{readOf}
+use Rattle.node_state.specs.declared.Record.{Record}
+use Rattle.node_state.specs.declared.Kept.{Kept}
+use Rattle.node_state.specs.declared.table.Key.{Key}
+use Rattle.node_state.specs.Record.{linksBad, recordBad, blank, clocked, tallied, others}
+use Rattle.node_state.specs.Table.{tableNumbers, putRow, noKey, freeRows, freed, lowestFree}
+use Rattle.node_state.specs.Key.{keyOf}
+use Rattle.node_state.proofs.Keys.{tag-range}
+use Rattle.node.specs.declared.Verdict.{Verdict}
+use Rattle.node.specs.declared.Verdict.the-variants.{Own, Answer, Duplicate, Last, Nowhere, NoRow, Relay, Noop, Hand}
+use Rattle.node.specs.declared.role.Spread.{Spread}
+use Rattle.node.specs.declared.role.Role.{Role}
+use Rattle.node.specs.Role.{roleOf, RoleIn, keyIn}
+use Rattle.node.specs.Call.{Call, After, refuse, quiet, verdictOn, answered, relayed, carriedOut, taken, received, nodeCall}
+use Rattle.host.specs.Records.{nodeOf}
+use Rattle.host.specs.Table.{numbersIn, loaded}
+use Rattle.host.specs.States.{stateOf}
+use Rattle.host.specs.Widths.{RecordFits, TableFits, StateFits}
+use Rattle.host.proofs.Numbers.{length-numbers}
+
+-- ---- numbers of 64 bits in a table
+
+abbrev Wide : List ℕ → Type 0
+Wide t = Every (λ x. x < 2 ^ 64) t
+
+set-wide : (t : List ℕ) (i v : ℕ) → v < 2 ^ 64 → Wide t → Wide (set t i v)
+set-wide [] i v h w = tt
+set-wide (x ∷ t) zero v h w = (h, w .1)
+set-wide (x ∷ t) (suc i) v h w = (w .0, set-wide t i v h (w .1))
+
+set-fits : (t : List ℕ) (i v : ℕ) → v < 2 ^ 64 → TableFits t → TableFits (set t i v)
+set-fits t i v h w = record { sized = length-set t i v ∙ w .sized; wide = set-wide t i v h (w .wide) }
+
+pub record KeyFits (k : Key) : Type 0 where
+  pub first : k .first < 2 ^ 64
+  pub second : k .second < 2 ^ 64
+  pub third : k .third < 2 ^ 64
+
+pub put-fits : (t : List ℕ) (i : ℕ) (k : Key) (clock : ℕ) → KeyFits k → clock < 2 ^ 64 → TableFits t → TableFits (putRow t i k clock)
+unfolding putRow
+put-fits t i k clock f h w =
+    let t₁ = set t (4 * i) (k .first) in
+    let t₂ = set t₁ (4 * i + 1) (k .second) in
+    let t₃ = set t₂ (4 * i + 2) (k .third) in
+    set-fits t₃ (4 * i + 3) clock h
+    (set-fits t₂ (4 * i + 2) (k .third) (f .third) (set-fits t₁ (4 * i + 1) (k .second) (f .second) (set-fits t (4 * i) (k .first) (f .first) w)))
+
+pub free-fits : (now : ℕ) (t : List ℕ) (n : ℕ) → TableFits t → TableFits (freeRows now t n)
+unfolding freeRows
+free-fits now t zero w = w
+free-fits now t (suc n) w =
+    let rest = free-fits now t n w in
+    both TableFits _ (put-fits (freeRows now t n) n noKey 0 (record { first = omega arith; second = omega arith; third = omega arith }) (omega arith) rest) rest
+
+pub key-fits : (flood : Bool) (session : ℕ) (initiator : List ℕ) → session < 2 ^ 32 → Bytes initiator → KeyFits (keyOf flood session initiator)
+unfolding keyOf
+key-fits flood session initiator small bytes =
+    let tag = tag-range flood (length initiator) in
+    let four : bigEndian initiator 4 < 2 ^ 32 = big-endian-lt 4 initiator (λ i _. bytes i) in
+    both KeyFits _ (record { first = omega arith; second = omega arith; third = omega arith })
+    (record {
+      first = omega arith;
+      second = big-endian-lt 8 initiator (λ i _. bytes i);
+      third = big-endian-lt 8 (drop 8 initiator) (λ i _. bytes-drop 8 initiator bytes i);
+    })
+
+-- ---- a node call
+
+-- what holds of the record and the table that a call leaves, as it holds of those that it was given, of those at its clock, and of those that a relay leaves
+module _ (r : Record) (t : List ℕ) (c : Call) (P : Record → List ℕ → Type 0) where
+  abbrev pub AfterIs : After → Type 0
+  AfterIs a = P (a .called .node) (a .table)
+
+  abbrev pub node : Record
+  node = clocked r (c .clock)
+
+  abbrev pub table : List ℕ
+  table = freed (c .clock) t
+
+  module _ (took : P node table)
+      (relays : (s : Spread) → RoleIn (c .message) (Role.Spreads s)
+      → P (tallied node (ones (others node (c .interface)))) (putRow table (lowestFree table) (keyIn (c .message) s) (c .clock))) where
+    carried-leaves : (s : Spread) (v : Verdict) → RoleIn (c .message) (Role.Spreads s) → AfterIs (carriedOut node table c s v)
+    unfolding carriedOut quiet answered relayed clocked
+    carried-leaves s Own role = took
+    carried-leaves s Answer role = took
+    carried-leaves s Duplicate role = took
+    carried-leaves s Last role = took
+    carried-leaves s Nowhere role = took
+    carried-leaves s NoRow role = took
+    carried-leaves s Relay role = relays s role
+    carried-leaves s Noop role = took
+    carried-leaves s Hand role = took
+
+    taken-leaves : (role : Role) → RoleIn (c .message) role → AfterIs (taken node table c role)
+    unfolding taken quiet
+    taken-leaves Role.Noop role = took
+    taken-leaves Role.Upward role = took
+    taken-leaves (Role.Spreads s) role = carried-leaves s (verdictOn node table c s) role
+
+    received-leaves : P r t → (reading : Reading) → readOf (c .message) ≡ reading → AfterIs (received r t c reading)
+    unfolding received refuse
+    received-leaves given (Reading.Refused number) e = given
+    received-leaves given (Reading.Read m) e = taken-leaves (roleOf m) (record { is = m; read = e; plays = refl })
+
+    pub call-leaves : P r t → AfterIs (nodeCall r t c)
+    unfolding nodeCall refuse
+    call-leaves given = both AfterIs _ (received-leaves given (readOf (c .message)) refl) given
+
+-- ---- what numbers say
+
+pub blank-fits : RecordFits blank
+blank-fits = record { port = omega arith; ttl = omega arith; interfaces = omega arith; links = omega arith }
+
+abbrev pub KeptFits : Kept → Type 0
+KeptFits k = RecordFits (k .node)
+
+-- clock and tally have any width here
+pub counted-fits : {r : Record} (clock tally : ℕ) → RecordFits r
+    → RecordFits (record { address = r .address; port = r .port; ttl = r .ttl; interfaces = r .interfaces; links = r .links; clock = clock; tally = tally })
+counted-fits clock tally f = record { port = f .port; ttl = f .ttl; interfaces = f .interfaces; links = f .links }
+
+pub node-fits : (address f : List ℕ) → RecordFits (nodeOf address f)
+unfolding nodeOf
+node-fits address f =
+    pick-case RecordFits _ (λ _. blank-fits)
+    (λ port. pick-case RecordFits _ (λ _. blank-fits)
+    (λ ttl. pick-case RecordFits _ (λ _. blank-fits)
+    (λ interfaces. pick-case RecordFits (leb (2 ^ 8) (getD f 3 0)) {y = said} (λ _. blank-fits)
+    (λ links. record { port = leb-false _ _ port; ttl = leb-false _ _ ttl; interfaces = leb-false _ _ interfaces; links = leb-false _ _ links }))))
+  where
+    said : Record
+    said =
+        record {
+          address = address;
+          port = getD f 0 0;
+          ttl = getD f 1 0;
+          interfaces = getD f 2 0;
+          links = getD f 3 0;
+          clock = getD f 4 0;
+          tally = getD f 5 0;
+        }
+
+-- a record that isn't refused has the address that it was given
+pub node-address : (address f : List ℕ) → recordBad (nodeOf address f) ≡ false → nodeOf address f .address ≡ address
+unfolding nodeOf recordBad linksBad
+node-address address f = both Addressed _ none (both Addressed _ none (both Addressed _ none (both Addressed _ none (λ _. refl))))
+  where
+    Addressed : Record → Type 0
+    Addressed r = recordBad r ≡ false → r .address ≡ address
+
+    none : Addressed blank
+    none e = absurd (true≢false e)
+
+pub state-fits : (f : List ℕ) (side : ℕ) → StateFits (stateOf f side)
+unfolding stateOf
+state-fits f side =
+    both StateFits _ tt
+    (pick-case StateFits _ (λ _. tt)
+    (λ session. pick-case StateFits _ (λ _. tt)
+    (λ count. both StateFits _ tt (both StateFits _ tt (both StateFits _ (omega (arith, ltb-false most (getD f 1 0) session), omega (arith, ltb-false 255 (getD f 2 0) count)) tt)))))
+
+numbers-wide : (n : ℕ) (b : List ℕ) → Bytes b → Wide (numbersIn n b)
+unfolding numbersIn
+numbers-wide zero b h = tt
+numbers-wide (suc n) b h = (big-endian-lt 8 b (λ i _. h i), numbers-wide n (drop 8 b) (bytes-drop 8 b h))
+
+pub loaded-fits : (b : List ℕ) → Bytes b → TableFits (loaded b)
+unfolding loaded
+loaded-fits b h = record { sized = length-numbers tableNumbers b; wide = numbers-wide tableNumbers b h }

@@ -1,0 +1,221 @@
+-- What a call hands back to C is what the next call takes: no number is lost between them. For readers: each statement at the end stands alone.
+-- Assumes nothing.
+use Prim.Native.Nat.{ℕ, _^_, _≤_, _<_}
+use mathlib.Core.Path.{_≡_, refl, sym, ap, _∙_, subst}
+use mathlib.Core.List.{List}
+use mathlib.Core.Bool.{false}
+use native.Mathlib.Nat.{le-trans}
+use native.Mathlib.Omega.{arith}
+use lib.Pow.{pow-mono}
+use lib.Dec.{leb, eqb}
+use lib.ListN.{length, drop}
+use borrow.Author.Tests.{lt-leb, le-ltb, leb-false, eqb-true, eqb-false, eq-eqb}
+use Rattle.base.specs.Pick.{pick}
+use Rattle.base.specs.BigEndian.{Bytes}
+use Rattle.base.proofs.Picks.{pick-case}
+use Rattle.base.proofs.Parts.{bytes-drop, bytes-take}
+use Rattle.cbor.specs.Tree.{Item}
+use Rattle.options.specs.Text.{held}
+use Rattle.options.specs.declared.objective.Objective.{Objective}
+use Rattle.syntax.specs.Message.{Msg}
+use Rattle.grammar.specs.Cddl.{Value, Number, MessageItem}
+use Rattle.exact.specs.Describes.{Describes}
+use Rattle.exact.proofs.Exact.{accepted-exactly, accepted-described}
+use Rattle.message.specs.Opening.{most}
+use Rattle.message.specs.declared.Message.{Message}
+use Rattle.message.specs.declared.Message.the-variants as M
+use Rattle.message.specs.declared.Reading.{Reading}
+use Rattle.message.specs.Read.{readOf}
+use Rattle.contents.specs.Fields.{sessionOf}
+use Rattle.negotiation.specs.declared.Side.{Side}
+use Rattle.negotiation.specs.declared.Side.the-variants.{Us, Them}
+use Rattle.negotiation.specs.declared.State.{State}
+use Rattle.negotiation.specs.declared.State.the-variants.{Fresh, Open, Closed}
+use Rattle.negotiation.specs.declared.Stepped.the-variants.{Moved}
+use Rattle.negotiation.specs.Step.{step}
+use Rattle.negotiation.specs.Allowed.{Names, Allowed}
+use Rattle.negotiation.proofs.Accepted.{moved-exactly, request-opens}
+use Rattle.node_state.specs.declared.Record.{Record}
+use Rattle.node_state.specs.declared.Kept.{Kept}
+use Rattle.node_state.specs.Record.{linksBad, recordBad, keeps, fresh, linked, setLinks, clocked, tallied}
+use Rattle.node_state.specs.Table.{freed}
+use Rattle.node_state.proofs.Masks.{links-fit, fit-small, record-links}
+use Rattle.node.specs.declared.Reply.{Reply}
+use Rattle.node.specs.declared.Reply.the-variants.{Refused, Given}
+use Rattle.node.specs.declared.Called.{Called}
+use Rattle.node.specs.Role.{keyIn}
+use Rattle.node.specs.Call.{Call, After, barred, refuse, nodeCall}
+use Rattle.node.proofs.Outcomes.{passed}
+use Rattle.node.proofs.Spreads.{role-spreading}
+use Rattle.host.specs.Records.{nodeOf, nodeNumbers, numbersAfter}
+use Rattle.host.specs.Table.{tableBytes, loaded}
+use Rattle.host.specs.States.{sideOf, stateOf, stateNumbers}
+use Rattle.host.specs.Call.{answerFrom, replyNumbers, callAnswer, callTable, Left, callLeft}
+use Rattle.host.specs.Widths.{RecordFits, TableFits, StateFits}
+use Rattle.host.proofs.Numbers.{saved-loads}
+use Rattle.host.proofs.Calls.{same-call, call-still}
+use Rattle.host.proofs.Fits.{put-fits, free-fits, key-fits, call-leaves, blank-fits, KeptFits, counted-fits, node-fits, node-address, loaded-fits}
+
+-- a Request's session
+request-session : (message : List ℕ) (m : Message) {session : ℕ} → Bytes message → readOf message ≡ Reading.Read m → Names m 3 session → session < 2 ^ 32
+unfolding sessionOf
+request-session message m {session} bytes read names =
+    let a = accepted-exactly message bytes .0 (m, read) in
+    go m (accepted-described message m read a) (a .message .is) names
+  where
+    by : {o : Objective} {n : ℕ} {msg : Msg Value} {x : Item} → Describes message (M.RequestNegotiation n o) msg → MessageItem x msg → n ≤ most
+    by (Describes.request-negotiation k s o) (MessageItem.request-negotiation (Number.number l) i) = l
+
+    go : (m : Message) {msg : Msg Value} {x : Item} → Describes message m msg → MessageItem x msg → Names m 3 session → session < 2 ^ 32
+    go (M.RequestNegotiation n o) d i names =
+        let e = names .ofSession in
+        let same : n ≡ session = cc in
+        omega (arith, by d i)
+    go M.Noop d i names = absurd (omega (arith, names .ofKind))
+    go (M.Discovery n from o) d i names = absurd (omega (arith, names .ofKind))
+    go (M.Response n from ttl targets extra) d i names = absurd (omega (arith, names .ofKind))
+    go (M.RequestSynchronization n o) d i names = absurd (omega (arith, names .ofKind))
+    go (M.Negotiate n o) d i names = absurd (omega (arith, names .ofKind))
+    go (M.End n outcome) d i names = absurd (omega (arith, names .ofKind))
+    go (M.Wait n time) d i names = absurd (omega (arith, names .ofKind))
+    go (M.Synch n o) d i names = absurd (omega (arith, names .ofKind))
+    go (M.Flood n from ttl first pairs) d i names = absurd (omega (arith, names .ofKind))
+    go (M.Invalid n item) d i names = absurd (omega (arith, names .ofKind))
+
+-- the record of an answer
+answer-node : (b : Called) → answerFrom b .node ≡ b .node
+unfolding answerFrom replyNumbers
+answer-node b = go (b .reply) (b .node)
+  where
+    go : (x : Reply) (r : Record) → replyNumbers x r .node ≡ r
+    go (Refused number) r = refl
+    go (Given v up mask len) r = refl
+
+-- a node call leaves the address
+call-address : (r : Record) (t : List ℕ) (c : Call) → nodeCall r t c .called .node .address ≡ r .address
+unfolding clocked tallied
+call-address r t c = call-leaves r t c (λ r′ _. r′ .address ≡ r .address) refl (λ _ _. refl) refl
+
+-- and isn't refused only where the record is good
+call-good : (r : Record) (t : List ℕ) (c : Call) → answerFrom (nodeCall r t c .called) .refusal ≡ 0 → recordBad r ≡ false
+unfolding nodeCall refuse answerFrom replyNumbers
+call-good r t c =
+    let n = barred r t (c .clock) (c .interface) (c .names) (length (c .output)) in
+    pick-case (λ (a : After). answerFrom (a .called) .refusal ≡ 0 → recordBad r ≡ false) (eqb n 0)
+    (λ e _. passed r t (c .clock) (c .interface) (c .names) (length (c .output)) (eqb-true n 0 e) .good) (λ e none. absurd (eqb-false n 0 e none))
+
+-- for readers
+
+-- A record's numbers say that record.
+pub record-back : (r : Record) → RecordFits r → nodeOf (r .address) (nodeNumbers r) ≡ r
+unfolding nodeOf nodeNumbers pick
+record-back r f =
+    rw (lt-leb (2 ^ 16) (r .port) (f .port), lt-leb (2 ^ 32) (r .ttl) (f .ttl), lt-leb (2 ^ 8) (r .interfaces) (f .interfaces), lt-leb (2 ^ 8) (r .links) (f .links)) refl
+
+-- A state's numbers say that state, for a step by either side.
+pub state-back : (s : State) (side : ℕ) → side ≤ 1 → StateFits s → stateOf (stateNumbers s) side ≡ s
+unfolding stateOf stateNumbers sideOf pick
+state-back Fresh side l f = rw (le-ltb 1 side l) refl
+state-back (Open session count Us) side l f = rw (le-ltb 1 side l, le-ltb most session (omega (arith, f .0)), le-ltb 255 count (omega (arith, f .1))) refl
+state-back (Open session count Them) side l f = rw (le-ltb 1 side l, le-ltb most session (omega (arith, f .0)), le-ltb 255 count (omega (arith, f .1))) refl
+state-back Closed side l f = rw (le-ltb 1 side l) refl
+
+-- The record that a fresh one, a setting of links and a node call give fits.
+pub fresh-record-fits : (address : List ℕ) (port ttl interfaces mask : ℕ) → port < 2 ^ 16 → ttl < 2 ^ 32 → RecordFits (fresh address port ttl interfaces mask .node)
+unfolding fresh
+fresh-record-fits address port ttl interfaces mask p l =
+    pick-case KeptFits (linksBad interfaces mask) (λ _. blank-fits)
+    (λ good.
+    let f = links-fit interfaces mask good in
+    record { port = p; ttl = l; interfaces = omega (arith, f .most); links = fit-small interfaces mask f })
+
+pub linked-record-fits : (r : Record) (mask : ℕ) → RecordFits r → RecordFits (setLinks r mask .node)
+unfolding setLinks linked
+linked-record-fits r mask f =
+    pick-case KeptFits (recordBad r) (λ _. f)
+    (λ good. pick-case KeptFits (leb (2 ^ r .interfaces) mask) (λ _. f)
+    (λ low.
+    let small : mask < 2 ^ 8 = le-trans (leb-false (2 ^ r .interfaces) mask low) (pow-mono (record-links r good .most)) in
+    record { port = f .port; ttl = f .ttl; interfaces = f .interfaces; links = small }))
+
+pub call-record-fits : (r : Record) (t : List ℕ) (c : Call) → RecordFits r → RecordFits (nodeCall r t c .called .node)
+unfolding clocked tallied
+call-record-fits r t c f = call-leaves r t c (λ r′ _. RecordFits r′) (counted-fits _ _ f) (λ _ _. counted-fits _ _ f) f
+
+-- A table of 256 numbers of 64 bits stays one, by a node call whose clock has 64 bits and whose message is made of bytes, as C's are.
+pub call-table-fits : (r : Record) (t : List ℕ) (c : Call) → c .clock < 2 ^ 64 → Bytes (c .message) → TableFits t → TableFits (nodeCall r t c .table)
+unfolding freed keyIn
+call-table-fits r t c clock bytes w =
+    let freed-fits = free-fits (c .clock) t 64 w in
+    call-leaves r t c (λ _ t′. TableFits t′) freed-fits
+    (λ s role. put-fits _ _ _ _
+    (key-fits (s .flood) (s .session) (held (c .message) (s .initiator)) (role-spreading (c .message) s role .session)
+    (bytes-take (s .initiator .len) (drop (s .initiator .at) (c .message)) (bytes-drop (s .initiator .at) (c .message) bytes)))
+    clock freed-fits) w
+
+-- A state that a step leads to fits, where the one before it did.
+pub step-fits : (s : State) (message : List ℕ) (sender : Side) (next : State) → Bytes message → StateFits s → step s message sender ≡ Moved next → StateFits next
+step-fits s message sender next bytes fits moved =
+    let (m, read, allowed) = moved-exactly s message sender next .0 moved in
+    go read allowed fits moved
+  where
+    go : {m : Message} {s next : State} → readOf message ≡ Reading.Read m → Allowed sender m s next → StateFits s → step s message sender ≡ Moved next → StateFits next
+    go {m} {s} {next} read (Allowed.request {count = count} n c least) f moved =
+        let o = request-opens s message sender next m read (n .ofKind) moved in
+        let after = o .after in
+        let same : count ≡ o .count = cc in
+        (request-session message m bytes read n, omega (arith, o .most))
+    go read (Allowed.negotiate n c least lower) f moved = (f .0, omega (arith, f .1))
+    go read (Allowed.wait n some) f moved = f
+    go read (Allowed.end n some) f moved = tt
+
+-- The numbers that are put are those of the record that is kept.
+pub kept-back : (address f : List ℕ) (k : Kept) → (k .refusal ≡ 0 → RecordFits (k .node) × (k .node .address ≡ address)) → ((k .refusal ≡ 0 → ⊥) → k .node ≡ nodeOf address f)
+    → nodeOf address (numbersAfter k f) ≡ k .node
+unfolding numbersAfter
+kept-back address f k given refused =
+    pick-case (λ (l : List ℕ). nodeOf address l ≡ k .node) (eqb (k .refusal) 0)
+    (λ e. let (fits, same) = given (eqb-true (k .refusal) 0 e) in rw (← same) (record-back (k .node) fits)) (λ e. sym (refused (eqb-false (k .refusal) 0 e)))
+
+-- A node call leaves what the node call on the table that its bytes hold leaves: the number of the refusal and the record.
+pub left-back : (r : Record) (bytes : List ℕ) (c : Call) (answer : List ℕ) → length bytes ≡ tableBytes
+    → (callLeft r bytes c answer .refusal ≡ answerFrom (nodeCall r (loaded bytes) c .called) .refusal) × (callLeft r bytes c answer .node ≡ nodeCall r (loaded bytes) c .called .node)
+unfolding callLeft callAnswer
+left-back r bytes c answer sized =
+    rw (← same-call r bytes c (loaded bytes) sized refl)
+    (pick-case (λ (k : Left). (k .refusal ≡ answerFrom (n .called) .refusal) × (k .node ≡ n .called .node)) (eqb (answerFrom (n .called) .refusal) 0)
+    (λ e. (sym (eqb-true (answerFrom (n .called) .refusal) 0 e), answer-node (n .called)))
+    (λ e. (refl, sym (call-still c r (loaded bytes) (eqb-false (answerFrom (n .called) .refusal) 0 e) .0))))
+  where
+    n : After
+    n = nodeCall r (loaded bytes) c
+
+-- The bytes that it leaves hold the table that the node call leaves.
+pub table-back : (r : Record) (bytes : List ℕ) (c : Call) (answer : List ℕ) → length bytes ≡ tableBytes → Bytes bytes → c .clock < 2 ^ 64 → Bytes (c .message)
+    → loaded (callLeft r bytes c answer .table) ≡ nodeCall r (loaded bytes) c .table
+unfolding callLeft callTable callAnswer pick
+table-back r bytes c answer sized are clock message =
+    rw (← same-call r bytes c (loaded bytes) sized refl)
+    (pick-case (λ (k : Left). loaded (k .table) ≡ n .table) (eqb (answerFrom (n .called) .refusal) 0)
+    (λ e.
+    let w = call-table-fits r (loaded bytes) c clock message (loaded-fits bytes are) in
+    rw (eq-eqb (length bytes) tableBytes sized, e) (saved-loads (n .table) (w .sized) (w .wide)))
+    (λ e. sym (call-still c r (loaded bytes) (eqb-false (answerFrom (n .called) .refusal) 0 e) .1)))
+  where
+    n : After
+    n = nodeCall r (loaded bytes) c
+
+-- Where the record is kept as numbers, the numbers that a node call leaves say the record that the node call leaves.
+pub numbers-back : (address f bytes : List ℕ) (c : Call) (answer : List ℕ) → length bytes ≡ tableBytes
+    → nodeOf address (numbersAfter (keeps (callLeft (nodeOf address f) bytes c answer .refusal) (callLeft (nodeOf address f) bytes c answer .node)) f)
+    ≡ nodeCall (nodeOf address f) (loaded bytes) c .called .node
+numbers-back address f bytes c answer sized =
+    let r = nodeOf address f in
+    let t = loaded bytes in
+    let (number, same) = left-back r bytes c answer sized in
+    kept-back address f (keeps (callLeft r bytes c answer .refusal) (callLeft r bytes c answer .node))
+    (λ e. (
+      subst RecordFits (sym same) (call-record-fits r t c (node-fits address f)),
+      ap (λ (x : Record). x .address) same ∙ call-address r t c ∙ node-address address f (call-good r t c (sym number ∙ e)),
+    ))
+    (λ ne. same ∙ call-still c r t (λ e. ne (number ∙ e)) .0) ∙ same
