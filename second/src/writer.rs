@@ -49,7 +49,7 @@ pub fn lower(
     fitting(copy, out_len)
 }
 
-/// The Response that an ANSWER sends (01, "Verdicts"); the initiator is written as it is.
+/// The Response that an ANSWER sends (01, "Verdicts"); an initiator has 4 or 16 bytes.
 pub fn answer(
     session: u32,
     initiator: &[u8],
@@ -58,6 +58,9 @@ pub fn answer(
     port: u16,
     out_len: usize,
 ) -> Result<Vec<u8>, u8> {
+    if !matches!(initiator.len(), 4 | 16) {
+        return Err(NO_MESSAGE);
+    }
     let locator = array(&[number(V6), bytes(address), number(TCP), number(port)]);
     let start = [number(2_u8), number(session), bytes(initiator), number(ttl)];
     let response = array(&[&start[..], &[locator]].concat());

@@ -19,17 +19,22 @@ abbrev pub mostPlaces : ℕ
 mostPlaces = 19
 
 -- places 0 to 4: kind, session, initiator, ttl or waiting time
-unfoldable pub openedBlock : ℕ → ℕ → Span → ℕ → List ℕ
-openedBlock kind session initiator ttl = kind ∷ session ∷ initiator .at ∷ initiator .len ∷ ttl ∷ replicate (mostPlaces - 5) 0
+unfoldable pub frontBlock : ℕ → ℕ → Span → ℕ → List ℕ
+frontBlock kind session initiator ttl = kind ∷ session ∷ initiator .at ∷ initiator .len ∷ ttl ∷ replicate (mostPlaces - 5) 0
 
 -- places 5 to 12: an objective
 unfoldable pub withObjective : List ℕ → Objective → List ℕ
 withObjective b o = sets b 5 (1 ∷ objectiveNumbers o)
 
+-- a Discovery
+unfoldable pub discoveryBlock : ℕ → Span → Objective → List ℕ
+discoveryBlock session initiator o = withObjective (frontBlock 1 session initiator 0) o
+
 -- a session and an objective alone
 unfoldable pub exchangeBlock : ℕ → ℕ → Objective → List ℕ
-exchangeBlock kind session o = withObjective (openedBlock kind session (spanOf 0 0) 0) o
+exchangeBlock kind session o = withObjective (frontBlock kind session (spanOf 0 0) 0) o
 
+-- an objective that may be left out
 unfoldable pub withExtra : List ℕ → Extra → List ℕ
 withExtra b Extra.Without = b
 withExtra b (Extra.With o) = withObjective b o
@@ -42,6 +47,10 @@ unfoldable pub targetsBlock : List ℕ → Targets → List ℕ
 targetsBlock b (Targets.Locators series) = withSeries b 1 series
 targetsBlock b (Targets.Divert series) = withSeries b 2 series
 
+-- a Response
+unfoldable pub responseBlock : ℕ → Span → ℕ → Targets → Extra → List ℕ
+responseBlock session initiator ttl targets extra = targetsBlock (withExtra (frontBlock 2 session initiator ttl) extra) targets
+
 -- places 16 to 18: accept (1), decline (2), decline with a reason (3); the reason, or Invalid's item
 unfoldable pub withSpan : List ℕ → ℕ → Span → List ℕ
 withSpan b sort span = sets b 16 (sort ∷ span .at ∷ span .len ∷ [])
@@ -51,15 +60,24 @@ outcomeBlock b Outcome.Accept = withSpan b 1 (spanOf 0 0)
 outcomeBlock b Outcome.Decline = withSpan b 2 (spanOf 0 0)
 outcomeBlock b (Outcome.Reason reason) = withSpan b 3 reason
 
+-- an End
+unfoldable pub endBlock : ℕ → Outcome → List ℕ
+endBlock session outcome = outcomeBlock (frontBlock 6 session (spanOf 0 0) 0) outcome
+
+-- an Invalid
+unfoldable pub invalidBlock : ℕ → Span → List ℕ
+invalidBlock session item = withSpan (frontBlock 99 session (spanOf 0 0) 0) 0 item
+
+-- each of the eleven
 unfoldable pub blockOf : Message → List ℕ
-blockOf M.Noop = openedBlock 0 0 (spanOf 0 0) 0
-blockOf (M.Discovery session initiator o) = withObjective (openedBlock 1 session initiator 0) o
-blockOf (M.Response session initiator ttl targets extra) = targetsBlock (withExtra (openedBlock 2 session initiator ttl) extra) targets
+blockOf M.Noop = frontBlock 0 0 (spanOf 0 0) 0
+blockOf (M.Discovery session initiator o) = discoveryBlock session initiator o
+blockOf (M.Response session initiator ttl targets extra) = responseBlock session initiator ttl targets extra
 blockOf (M.RequestNegotiation session o) = exchangeBlock 3 session o
 blockOf (M.RequestSynchronization session o) = exchangeBlock 4 session o
 blockOf (M.Negotiate session o) = exchangeBlock 5 session o
-blockOf (M.End session outcome) = outcomeBlock (openedBlock 6 session (spanOf 0 0) 0) outcome
-blockOf (M.Wait session time) = openedBlock 7 session (spanOf 0 0) time
+blockOf (M.End session outcome) = endBlock session outcome
+blockOf (M.Wait session time) = frontBlock 7 session (spanOf 0 0) time
 blockOf (M.Synch session o) = exchangeBlock 8 session o
-blockOf (M.Flood session initiator ttl first pairs) = withSeries (withObjective (openedBlock 9 session initiator ttl) (first .objective)) 3 pairs
-blockOf (M.Invalid session item) = withSpan (openedBlock 99 session (spanOf 0 0) 0) 0 item
+blockOf (M.Flood session initiator ttl first pairs) = withSeries (withObjective (frontBlock 9 session initiator ttl) (first .objective)) 3 pairs
+blockOf (M.Invalid session item) = invalidBlock session item

@@ -1,6 +1,6 @@
 // What was read, as a block of numbers in fixed places.
 ghost use mathlib.Core.Path.{_≡_};
-ghost use Rattle.blocks.specs.Block.{openedBlock, withObjective, exchangeBlock, withExtra, withSpan, withSeries, targetsBlock, outcomeBlock, blockOf};
+ghost use Rattle.blocks.specs.Block.{frontBlock, withObjective, discoveryBlock, exchangeBlock, withExtra, withSeries, targetsBlock, responseBlock, withSpan, outcomeBlock, endBlock, invalidBlock, blockOf};
 use message::Extra;
 use message::Message;
 use message::Series;
@@ -20,36 +20,26 @@ pub fn fill(b: &mut [u64; 19], m: Message)
     ensures { λ r. ⌜ now (b .exit) ≡ blockOf m ⌝ }
 {
     match m {
-        Message::Noop => put_opening(b, 0, 0, NONE, 0),
+        Message::Noop => put_front(b, 0, 0, NONE, 0),
         Message::Discovery {
             session,
             initiator,
             objective,
-        } => {
-            put_opening(b, 1, session, initiator, 0);
-            put_objective(b, objective);
-        }
+        } => discovery(b, session, initiator, objective),
         Message::Response {
             session,
             initiator,
             ttl,
             targets,
             extra,
-        } => {
-            put_opening(b, 2, session, initiator, ttl);
-            put_extra(b, extra);
-            put_targets(b, targets);
-        }
+        } => response(b, session, initiator, ttl, targets, extra),
         Message::RequestNegotiation { session, objective } => exchange(b, 3, session, objective),
         Message::RequestSynchronization { session, objective } => {
             exchange(b, 4, session, objective)
         }
         Message::Negotiate { session, objective } => exchange(b, 5, session, objective),
-        Message::End { session, outcome } => {
-            put_opening(b, 6, session, NONE, 0);
-            put_outcome(b, outcome);
-        }
-        Message::Wait { session, time } => put_opening(b, 7, session, NONE, time),
+        Message::End { session, outcome } => end(b, session, outcome),
+        Message::Wait { session, time } => put_front(b, 7, session, NONE, time),
         Message::Synch { session, objective } => exchange(b, 8, session, objective),
         Message::Flood {
             session,
@@ -58,28 +48,61 @@ pub fn fill(b: &mut [u64; 19], m: Message)
             first,
             pairs,
         } => {
-            put_opening(b, 9, session, initiator, ttl);
+            put_front(b, 9, session, initiator, ttl);
             let objective = first.objective;
             put_objective(b, objective);
             put_series(b, 3, pairs);
         }
-        Message::Invalid { session, item } => {
-            put_opening(b, 99, session, NONE, 0);
-            put_span(b, 0, item);
-        }
+        Message::Invalid { session, item } => invalid(b, session, item),
     }
+}
+
+fn discovery(b: &mut [u64; 19], session: u32, initiator: Span, o: Objective)
+    ensures { λ r. ⌜ now (b .exit) ≡ discoveryBlock session initiator o ⌝ }
+{
+    put_front(b, 1, session, initiator, 0);
+    put_objective(b, o);
+}
+
+fn response(
+    b: &mut [u64; 19],
+    session: u32,
+    initiator: Span,
+    ttl: u32,
+    targets: Targets,
+    extra: Extra,
+)
+    ensures { λ r. ⌜ now (b .exit) ≡ responseBlock session initiator ttl targets extra ⌝ }
+{
+    put_front(b, 2, session, initiator, ttl);
+    put_extra(b, extra);
+    put_targets(b, targets);
+}
+
+fn end(b: &mut [u64; 19], session: u32, outcome: Outcome)
+    ensures { λ r. ⌜ now (b .exit) ≡ endBlock session outcome ⌝ }
+{
+    put_front(b, 6, session, NONE, 0);
+    put_outcome(b, outcome);
+}
+
+fn invalid(b: &mut [u64; 19], session: u32, item: Span)
+    ensures { λ r. ⌜ now (b .exit) ≡ invalidBlock session item ⌝ }
+{
+    put_front(b, 99, session, NONE, 0);
+    put_span(b, 0, item);
 }
 
 // The block of a kind that has a session and an objective alone.
 fn exchange(b: &mut [u64; 19], kind: u64, session: u32, o: Objective)
     ensures { λ r. ⌜ now (b .exit) ≡ exchangeBlock kind session o ⌝ }
 {
-    put_opening(b, kind, session, NONE, 0);
+    put_front(b, kind, session, NONE, 0);
     put_objective(b, o);
 }
 
-fn put_opening(b: &mut [u64; 19], kind: u64, session: u32, initiator: Span, ttl: u32)
-    ensures { λ r. ⌜ now (b .exit) ≡ openedBlock kind session initiator ttl ⌝ }
+fn put_front(b: &mut [u64; 19], kind: u64, session: u32, initiator: Span, ttl: u32)
+    ensures { λ r. ⌜ now (b .exit) ≡ frontBlock kind session initiator ttl ⌝ }
 {
     *b = [0u64; 19];
     b[0] = kind;

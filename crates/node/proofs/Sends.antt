@@ -1,25 +1,20 @@
 -- What a node sends: the message with its count one lower, and the Response of an answer; both fit an output of 2,048 bytes.
 -- Assumes nothing.
 use mathlib.Core.Path.{_≡_, refl, ap, _∙_}
-use mathlib.Core.Bool.{true}
 use mathlib.Core.Logic.{_⊎_, inl, inr}
-use mathlib.Core.List.{List, flatMap}
+use mathlib.Core.List.{List}
 use Prim.Native.Nat.{ℕ, _+_, _-_, _≤_}
 use native.Mathlib.Omega.{arith}
-use lib.ListN.{length, take, drop, length-append, length-take, length-drop}
+use lib.ListN.{length, take, drop, length-drop}
 use lib.Seq.{length-take-le}
 use borrow.Author.Tests.{le-ltb}
 use Rattle.options.specs.Text.{held}
 use Rattle.base.specs.Pick.{pick}
-use Rattle.base.proofs.Picks.{both}
-use Rattle.cbor.specs.Put.{head}
-use Rattle.cbor.specs.Tree.{shortest}
-use Rattle.cbor.proofs.HeadExact.{length-head}
 use Rattle.options.specs.declared.Span.{Span}
 use Rattle.message.specs.Read.{mostBytes}
-use Rattle.description.specs.Encoding.{string, reached, fixed, encodeLoc, targetItems, howMany, encodeTargets, maybeObj, opening, encodeMsg}
 use Rattle.writer.specs.declared.Written.{Written}
-use Rattle.writer.specs.Write.{handAnswer, handOut, passes, passAnswer, passOut, lowerAnswer, lowerOut, answerOf}
+use Rattle.writer.specs.Write.{handAnswer, handOut, passes, passAnswer, passOut, lowerAnswer, lowerOut, answerOf, answerAnswer, answerOut}
+use Rattle.writer.proofs.Lengths.{initiator-sized, sized-few, answer-few}
 use Rattle.roundtrip.proofs.Relay.{lowered-shorter, lowered-given}
 use Rattle.node_state.specs.declared.Record.{Record}
 use Rattle.node.specs.declared.role.Spread.{Spread}
@@ -45,38 +40,31 @@ onward-given message out s r some room =
 
 -- ---- an answer
 
--- a head has at most nine bytes
-head-most : (major arg : ℕ) → length (head major arg) ≤ 9
-unfolding head shortest
-head-most major arg = omega (arith, length-head major (shortest arg) arg, wide)
-  where
-    wide : shortest arg ≤ 8
-    wide =
-        both (λ (w : ℕ). w ≤ 8) _ (omega arith) (both (λ (w : ℕ). w ≤ 8) _ (omega arith) (both (λ (w : ℕ). w ≤ 8) _ (omega arith) (both (λ (w : ℕ). w ≤ 8) _ (omega arith) (omega arith))))
-
 -- bytes in a message
 pub held-length : (s : List ℕ) (i : Span) → i .at + i .len ≤ length s → length (held s i) ≡ i .len
 held-length s i h = length-take-le (i .len) (drop (i .at) s) (omega (arith, length-drop (i .at) s))
 
-answer-most : (session : ℕ) (initiator : List ℕ) (ttl : ℕ) (address : List ℕ) (port : ℕ) → length initiator ≤ 16 → length address ≤ 16
-    → length (answerOf session initiator ttl address port) ≤ mostBytes
-unfolding answerOf encodeMsg opening string targetItems howMany encodeTargets flatMap encodeLoc fixed reached maybeObj
-answer-most session initiator ttl address port i a =
-    simp length-append
-    (omega (arith, i, a, head-most 4 5, head-most 0 2, head-most 0 session, head-most 2 (length initiator), head-most 0 ttl, head-most 4 4, head-most 0 103, head-most 2 (length address), head-most 0 6, head-most 0 port))
-
-pub response-given : (r : Record) (message out : List ℕ) (s : Spread) → length (r .address) ≡ 16 → (s .initiator .len ≡ 4) ⊎ (s .initiator .len ≡ 16) → mostBytes ≤ length out
-    → (passAnswer true (response r message s) out ≡ Written.Length (length (response r message s))) × (passOut true (response r message s) out ≡ written (response r message s) out)
-unfolding response passAnswer passOut passes handAnswer handOut pick
-response-given r message out s sixteen size room =
-    let bytes : List ℕ = answerOf (s .session) (held message (s .initiator)) (r .ttl) (r .address) (r .port) in
-    let most : length bytes ≤ mostBytes = answer-most (s .session) (held message (s .initiator)) (r .ttl) (r .address) (r .port) (short size) (omega arith) in
-    let fits : length bytes ≤ length out = omega arith in
-    (rw (le-ltb mostBytes (length bytes) most, le-ltb (length out) (length bytes) fits) refl, rw (le-ltb mostBytes (length bytes) most, le-ltb (length out) (length bytes) fits) refl)
+-- an initiator has 4 or 16 bytes
+pub held-sized : {message : List ℕ} {s : Spread} → Within message s → (length (held message (s .initiator)) ≡ 4) ⊎ (length (held message (s .initiator)) ≡ 16)
+held-sized {message = message} {s = s} w = sized (w .bytes)
   where
-    short : (s .initiator .len ≡ 4) ⊎ (s .initiator .len ≡ 16) → length (held message (s .initiator)) ≤ 16
-    short (inl e) = omega (arith, length-take (s .initiator .len) (drop (s .initiator .at) message))
-    short (inr e) = omega (arith, length-take (s .initiator .len) (drop (s .initiator .at) message))
+    long : length (held message (s .initiator)) ≡ s .initiator .len
+    long = held-length message (s .initiator) (w .initiator)
+
+    sized : (s .initiator .len ≡ 4) ⊎ (s .initiator .len ≡ 16) → (length (held message (s .initiator)) ≡ 4) ⊎ (length (held message (s .initiator)) ≡ 16)
+    sized (inl q) = inl (long ∙ q)
+    sized (inr q) = inr (long ∙ q)
+
+pub response-given : (r : Record) (message out : List ℕ) (s : Spread) → length (r .address) ≡ 16 → (length (held message (s .initiator)) ≡ 4) ⊎ (length (held message (s .initiator)) ≡ 16)
+    → mostBytes ≤ length out
+    → (answerAnswer (s .session) (held message (s .initiator)) (r .ttl) (r .address) (r .port) out ≡ Written.Length (length (response r message s)))
+    × (answerOut (s .session) (held message (s .initiator)) (r .ttl) (r .address) (r .port) out ≡ written (response r message s) out)
+unfolding response answerAnswer answerOut passAnswer passOut passes handAnswer handOut pick
+response-given r message out s sixteen sized room =
+    let bytes : List ℕ = answerOf (s .session) (held message (s .initiator)) (r .ttl) (r .address) (r .port) in
+    let most : length bytes ≤ mostBytes = answer-few (s .session) (held message (s .initiator)) (r .ttl) (r .address) (r .port) (sized-few sized) (omega arith) in
+    let fits : length bytes ≤ length out = omega arith in
+    rw (initiator-sized (held message (s .initiator)) .1 sized, le-ltb mostBytes (length bytes) most, le-ltb (length out) (length bytes) fits) (refl, refl)
 
 -- ---- a part of a message
 
@@ -89,11 +77,4 @@ pub key-held : {message : List ℕ} {s : Spread} (k : Key) → Within message s
     → k ≡ keyFor (s .flood) (s .session) (take (s .initiator .at + s .initiator .len - s .initiator .at) (drop (s .initiator .at) message)) → k ≡ keyIn message s
 unfolding keyIn
 key-held {message = message} {s = s} k w e =
-    e ∙ ap (keyFor (s .flood) (s .session)) (part-held message (s .initiator)) ∙ key-sized (s .flood) (s .session) (held message (s .initiator)) (sized (w .bytes))
-  where
-    long : length (held message (s .initiator)) ≡ s .initiator .len
-    long = held-length message (s .initiator) (w .initiator)
-
-    sized : (s .initiator .len ≡ 4) ⊎ (s .initiator .len ≡ 16) → (length (held message (s .initiator)) ≡ 4) ⊎ (length (held message (s .initiator)) ≡ 16)
-    sized (inl q) = inl (long ∙ q)
-    sized (inr q) = inr (long ∙ q)
+    e ∙ ap (keyFor (s .flood) (s .session)) (part-held message (s .initiator)) ∙ key-sized (s .flood) (s .session) (held message (s .initiator)) (held-sized w)

@@ -1,8 +1,9 @@
 -- For readers: `Read`, accepted bytes are the writer's encoding of their message; `Relay`, a message with its count one lower; `Write`, what is
--- written is read back, and exactly where 18 and 19 are answered.
+-- written is read back, and exactly where 18 and 19 are answered; `Answer`, the same of a node's answer.
 pub mod Read
 pub mod Relay
 pub mod Write
+pub mod Answer
 -- For callers' proofs: items that are messages, encoded; where a message's items stand.
 pub mod Encodes
 pub mod Places

@@ -1,16 +1,13 @@
 -- Writing held against reading: what is written is read back as the message that was described, what was read is written as it was, and 18 is
 -- answered exactly where there is no message that the description says. For readers: each statement at the end stands alone.
 -- Assumes nothing.
-use mathlib.Core.Path.{_≡_, refl, sym, ap, _∙_, subst}
+use mathlib.Core.Path.{_≡_, refl, sym, _∙_, subst}
 use mathlib.Core.Logic.{_↔_}
-use mathlib.Core.Bool.{Bool, true, false}
+use mathlib.Core.Bool.{Bool, true, false, false≢true}
 use mathlib.Core.List.{List, _++_}
 use Prim.Native.Nat.{ℕ, _≤_, _<_}
 use native.Mathlib.Omega.{arith}
-use lib.Dec.{ltb}
 use lib.ListN.{length, take, drop}
-use lib.Seq.{take-at}
-use borrow.Author.Tests.{ltb-true, ltb-false}
 use Rattle.base.specs.Pick.{pick}
 use Rattle.base.specs.BigEndian.{Bytes}
 use Rattle.message.specs.declared.Message.{Message}
@@ -22,14 +19,14 @@ use Rattle.description.specs.declared.Description.{Description}
 use Rattle.writer.specs.declared.Written.{Written}
 use Rattle.description.specs.Describe.{msgOf}
 use Rattle.description.specs.Judge.{okDescribed}
-use Rattle.writer.specs.Write.{accepted, accepts, handAnswer, handOut, passes, passAnswer, passOut, draftOf, writeAnswer, writeOut}
+use Rattle.writer.specs.Write.{accepted, accepts, handAnswer, handOut, passAnswer, passOut, draftOf, writeAnswer, writeOut}
 use Rattle.roundtrip.specs.Plain.{plain}
 use Rattle.roundtrip.specs.Says.{Says, ReadsBack}
-use Rattle.roundtrip.proofs.Hand.{hand-not-18, handed, hand-length, hand-19}
+use Rattle.roundtrip.proofs.Hand.{hand-not-18, handed, hand-front, hand-19, pass-case}
 use Rattle.roundtrip.proofs.Read.{read-encoded, read-drafted}
 use Rattle.roundtrip.proofs.Once.{ValuedMsg, message-once}
 use Rattle.roundtrip.proofs.Within.{plain-small, plain-valued}
-use Rattle.roundtrip.proofs.Judged.{never, described-exactly}
+use Rattle.roundtrip.proofs.Judged.{described-exactly}
 use Rattle.roundtrip.proofs.Drafts.{draft-bytes}
 
 -- an answer that is a message
@@ -46,20 +43,18 @@ record Passes (source list : List ℕ) (d : Description) : Type 0 where
 -- what holds of the answer and the output, where the tests are passed and where they aren't
 module _ (source list : List ℕ) (d : Description) (out : List ℕ) (P : Written → List ℕ → Type 0)
     (f : Passes source list d → P (handAnswer (draftOf source list d) out) (handOut (draftOf source list d) out)) (g : (Passes source list d → ⊥) → P (Written.Refused 18) out) where
-  -- by the tests
-  by-tests : (t u v : Bool) → okDescribed source list d ≡ t → ltb mostBytes (length (draftOf source list d)) ≡ u → accepts (draftOf source list d) ≡ v
-      → P (pick t (pick (pick u false v) (handAnswer (draftOf source list d) out) (Written.Refused 18)) (Written.Refused 18))
-      (pick t (pick (pick u false v) (handOut (draftOf source list d) out) out) out)
+  -- by the description's test
+  by-test : (t : Bool) → okDescribed source list d ≡ t
+      → P (pick t (passAnswer (accepts (draftOf source list d)) (draftOf source list d) out) (Written.Refused 18)) (pick t (passOut (accepts (draftOf source list d)) (draftOf source list d) out) out)
   unfolding pick
-  by-tests true false true e e′ e″ = f (record { described = e; few = ltb-false mostBytes (length (draftOf source list d)) e′; read = e″ })
-  by-tests true false false e e′ e″ = g (λ p. never (sym e″ ∙ p .read))
-  by-tests true true v e e′ e″ = g (λ p. omega (arith, ltb-true mostBytes (length (draftOf source list d)) e′, p .few))
-  by-tests false u v e e′ e″ = g (λ p. never (sym e ∙ p .described))
+  by-test true e =
+      pass-case (accepts (draftOf source list d)) (draftOf source list d) out P (λ r few. f (record { described = e; few = few; read = r })) (λ not. g (λ p. not (p .read) (p .few)))
+  by-test false e = g (λ p. false≢true (sym e ∙ p .described))
 
   -- and so of what `write` does
   write-case : P (writeAnswer source list d out) (writeOut source list d out)
-  unfolding writeAnswer writeOut passAnswer passOut passes
-  write-case = by-tests (okDescribed source list d) (ltb mostBytes (length (draftOf source list d))) (accepts (draftOf source list d)) refl refl refl
+  unfolding writeAnswer writeOut
+  write-case = by-test (okDescribed source list d) refl
 
 module _ (source list : List ℕ) (d : Description) (b : Bytes source) where
   -- a draft that passes the tests is accepted, and is the message that was described
@@ -103,13 +98,8 @@ pub written-reads : (source list : List ℕ) (d : Description) (out : List ℕ) 
     → ReadsBack source list d (take n (writeOut source list d out))
 written-reads source list d out n b =
     write-case source list d out (λ r o. r ≡ Written.Length n → ReadsBack source list d (take n o))
-    (λ p e. subst (ReadsBack source list d) (sym (placed e)) (passes-back source list d b p))
+    (λ p e. subst (ReadsBack source list d) (sym (hand-front (draftOf source list d) out n e)) (passes-back source list d b p))
     (λ _ e. absurd (let z : _≡_ {A = ℕ} 0 1 = cc in omega arith))
-  where
-    placed : handAnswer (draftOf source list d) out ≡ Written.Length n → take n (handOut (draftOf source list d) out) ≡ draftOf source list d
-    placed e =
-        let (room, long) = hand-length (draftOf source list d) out n e in
-        ap (take n) (handed (draftOf source list d) out room .1) ∙ take-at (draftOf source list d) (drop (length (draftOf source list d)) out) n (sym long)
 
 -- A description that says a message that was read is written as the bytes that were read, where the output has room for them.
 pub read-written : (s source list : List ℕ) (d : Description) (out : List ℕ) (a : Accepted s) → Says source list d (plain (a .message .msg)) → length s ≤ length out

@@ -2,7 +2,6 @@
 -- node gives it; and the relayed Discovery and Flood.
 -- Assumes nothing.
 use mathlib.Core.Path.{_≡_, refl}
-use mathlib.Core.Bool.{true}
 use mathlib.Core.List.{[], _∷_, flatMap}
 use lib.ListN.{replicate}
 use Rattle.base.specs.Pick.{pick}
@@ -27,7 +26,7 @@ use Rattle.syntax.specs.Message.{orNull}
 use Rattle.description.specs.Encoding.{string, numberOrNull, reached, fixed, encodeLoc, oneMore, encodeObj, maybeObj, howMany, locOrEmpty, encodePair, targetItems, encodeTargets, encodeEnding, opening, exchange, encodeMsg}
 use Rattle.description.specs.Describe.{listOf, entryOf, objOf, placeLoc, placeAt, rowLoc, locsOf, targetsOf, extraOf, entryAt, locOrNone, rowPair, pairsOf, endOf, msgOf}
 use Rattle.description.specs.Judge.{alone, whole, inside, okValue, okItem, okEntry, okPlace, blankPlace, okNoneOr, allFrom, okEach, okRow, okRows, okPair, okPairs, okExtra, okOutcome, okDiscovery, okResponse, okFlood, okParts, okList, okDescribed}
-use Rattle.writer.specs.Write.{accepts, handAnswer, handOut, passes, passAnswer, passOut, draftOf, writeAnswer, writeOut, lowered, okLower, lowerAnswer, lowerOut, answerOf}
+use Rattle.writer.specs.Write.{accepts, handAnswer, handOut, passes, passAnswer, passOut, draftOf, writeAnswer, writeOut, lowered, okLower, lowerAnswer, lowerOut, answerOf, okInitiator, answerAnswer, answerOut}
 use Rattle.writer.specs.declared.Written.{Written}
 use Rattle.writer.specs.Edges.{home, initiator, discoveryBytes, floodBytes, endBytes, answerBytes, source, answerRow, answerTold, floodRow, floodTold, endTold}
 
@@ -46,13 +45,13 @@ written = (refl, refl, refl, refl, refl, refl, refl)
 -- for readers
 -- as a node answers and relays: a count of 2, of 24 in two bytes, and a Flood's
 pub sent :
-    (passAnswer true (answerOf 7 initiator 60000 home 7017) (replicate 35 0) ≡ Written.Length 35)
-    × (passOut true (answerOf 7 initiator 60000 home 7017) (replicate 35 0) ≡ answerBytes)
+    (answerAnswer 7 initiator 60000 home 7017 (replicate 35 0) ≡ Written.Length 35)
+    × (answerOut 7 initiator 60000 home 7017 (replicate 35 0) ≡ answerBytes)
     × (lowerAnswer (discoveryBytes (2 ∷ [])) 14 15 2 (replicate 15 0) ≡ Written.Length 15)
     × (lowerOut (discoveryBytes (2 ∷ [])) 14 15 2 (replicate 15 0) ≡ discoveryBytes (1 ∷ []))
     × (lowerAnswer (discoveryBytes (0x18 ∷ 0x18 ∷ [])) 14 16 24 (replicate 15 0) ≡ Written.Length 15)
     × (lowerOut (discoveryBytes (0x18 ∷ 0x18 ∷ [])) 14 16 24 (replicate 15 0) ≡ discoveryBytes (0x17 ∷ []))
     × (lowerAnswer (floodBytes 2) 18 19 2 (replicate 20 0) ≡ Written.Length 20)
     × (lowerOut (floodBytes 2) 18 19 2 (replicate 20 0) ≡ floodBytes 1)
-unfolding answerOf encodeMsg opening string head headBytes shortest infoOf bytesOf encodeTargets targetItems howMany maybeObj flatMap encodeLoc fixed reached lowered okLower lowerAnswer lowerOut passes passAnswer passOut handAnswer handOut pick
+unfolding answerAnswer answerOut okInitiator answerOf encodeMsg opening string head headBytes shortest infoOf bytesOf encodeTargets targetItems howMany maybeObj flatMap encodeLoc fixed reached lowered okLower lowerAnswer lowerOut passes passAnswer passOut handAnswer handOut pick
 sent = (refl, refl, refl, refl, refl, refl, refl, refl)

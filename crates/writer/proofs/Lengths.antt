@@ -2,17 +2,23 @@
 -- Assumes nothing.
 use Prim.Native.Nat.{ℕ, _+_, _-_, _≤_}
 use mathlib.Core.Path.{_≡_, refl}
+use mathlib.Core.Bool.{true}
+use mathlib.Core.Logic.{_⊎_, inl, inr, _↔_}
 use mathlib.Core.List.{List, _++_}
 use native.Mathlib.Omega.{arith}
+use lib.Dec.{eqb}
 use lib.ListN.{length, take, drop, length-append, length-drop}
 use lib.Seq.{length-take-le}
+use borrow.Author.Tests.{eq-eqb, eqb-true}
 use Rattle.base.specs.Pick.{pick}
+use Rattle.base.proofs.Picks.{pick-case, both}
 use Rattle.cbor.specs.Tree.{shortest}
 use Rattle.cbor.proofs.Stores.{length-shortest}
 use Rattle.cbor.specs.Put.{head}
 use Rattle.cbor.proofs.HeadExact.{shortest-case}
+use Rattle.message.specs.Read.{mostBytes}
 use Rattle.description.specs.Encoding.{string, reached, fixed, opening}
-use Rattle.writer.specs.Write.{lowered, answerOf}
+use Rattle.writer.specs.Write.{lowered, answerOf, okInitiator}
 use Rattle.writer.proofs.Home.{answer-is}
 
 -- a head is of at most nine bytes
@@ -48,3 +54,33 @@ unfolding opening fixed reached
 answer-length session initiator ttl address port a b c d e ea eb ec ed ee =
     simp (answer-is, length-append, length-shortest, ← ea, ← eb, ← ec, ← ed, ← ee)
     (omega (arith, same-heads .0, same-heads .1, same-heads .2, same-heads .3, same-heads .4))
+
+-- an initiator that passes
+pub initiator-sized : (initiator : List ℕ) → okInitiator initiator ≡ true ↔ ((length initiator ≡ 4) ⊎ (length initiator ≡ 16))
+unfolding okInitiator pick
+initiator-sized initiator = (
+  pick-case (λ t. t ≡ true → (length initiator ≡ 4) ⊎ (length initiator ≡ 16)) _ (λ q _. inl (eqb-true (length initiator) 4 q)) (λ _ q. inr (eqb-true (length initiator) 16 q)),
+  back,
+)
+  where
+    back : (length initiator ≡ 4) ⊎ (length initiator ≡ 16) → okInitiator initiator ≡ true
+    back (inl e) = rw (eq-eqb (length initiator) 4 e)
+    back (inr e) = both (λ t. t ≡ true) (eqb (length initiator) 4) refl (eq-eqb (length initiator) 16 e)
+
+pub sized-few : {n : ℕ} → (n ≡ 4) ⊎ (n ≡ 16) → n ≤ 16
+sized-few (inl e) = omega arith
+sized-few (inr e) = omega arith
+
+-- an answer is a short message
+pub answer-few : (session : ℕ) (initiator : List ℕ) (ttl : ℕ) (address : List ℕ) (port : ℕ) → length initiator ≤ 16 → length address ≤ 16
+    → length (answerOf session initiator ttl address port) ≤ mostBytes
+answer-few session initiator ttl address port few few′ =
+    omega (
+      arith,
+      answer-length session initiator ttl address port _ _ _ _ _ refl refl refl refl refl,
+      shortest-few session,
+      shortest-few ttl,
+      shortest-few port,
+      string-few initiator _ refl,
+      string-few address _ refl,
+    )

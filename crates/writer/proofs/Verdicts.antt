@@ -11,6 +11,7 @@ use lib.ListN.{length, take, drop, length-take}
 use borrow.Author.Tests.{lt-ltb, le-ltb, lt-leb, le-leb, ltb-true, ltb-false}
 use Rattle.base.specs.Pick.{pick}
 use Rattle.base.proofs.Bools.{true-or-false}
+use Rattle.base.proofs.Picks.{both}
 use Rattle.message.specs.Read.{mostBytes}
 use Rattle.description.specs.declared.Description.{Description}
 use Rattle.writer.specs.declared.Written.{Written}
@@ -53,13 +54,18 @@ pub in-length : (test : Bool) (bs : List ℕ) → length bs ≤ mostBytes → te
 unfolding passes pick
 in-length test bs h = rw (le-ltb mostBytes (length bs) h)
 
-pub by-length : (bs : List ℕ) (n : ℕ) → n ≡ length bs → leb n mostBytes ≡ passes true bs
+pub by-length : {test : Bool} (bs : List ℕ) (n : ℕ) → test ≡ true → n ≡ length bs → leb n mostBytes ≡ passes test bs
 unfolding passes pick
-by-length bs n e = rw (← e) (go (true-or-false (ltb mostBytes n)))
+by-length bs n t e = rw (← e, t) (go (true-or-false (ltb mostBytes n)))
   where
     go : (ltb mostBytes n ≡ true) ⊎ (ltb mostBytes n ≡ false) → leb n mostBytes ≡ pick (ltb mostBytes n) false true
     go (inl q) = rw (q, lt-leb n mostBytes (ltb-true mostBytes n q))
     go (inr q) = rw (q, le-leb n mostBytes (ltb-false mostBytes n q))
+
+-- bytes that the test doesn't let pass
+pub not-passed : {test : Bool} (bs out : List ℕ) → test ≡ false → (Written.Refused 18 ≡ passAnswer test bs out) × (out ≡ passOut test bs out)
+unfolding passes pick
+not-passed bs out e = pass-not _ bs out {good = false} (sym (both (λ t. t ≡ false) (ltb mostBytes (length bs)) refl e)) refl refl (λ z. omega arith)
 
 -- ---- a draft that ends in time
 module _ {l l′ bs : List ℕ} {r : ℕ} (w : Wrote l l′ 0 bs r) (h : r ≤ length l) where

@@ -70,6 +70,19 @@ unfoldable pub lowerOut : List ℕ → ℕ → ℕ → ℕ → List ℕ → List
 lowerOut message at end count out = pick (okLower message at end count) (passOut true (lowered message at end count) out) out
 
 -- ---- `answer`: a Response with one locator of kind 103, protocol 6
+abbrev pub answerMsg : {A : Type 0} → ℕ → List ℕ → ℕ → List ℕ → ℕ → Msg A
+answerMsg session initiator ttl address port = Msg.response session initiator ttl (Aim.locators (Loc.v6 address 6 port ∷ [])) none
+
+-- its bytes
 unfoldable pub answerOf : ℕ → List ℕ → ℕ → List ℕ → ℕ → List ℕ
-answerOf session initiator ttl address port =
-    encodeMsg (Msg.response session initiator ttl (Aim.locators (Loc.v6 address 6 port ∷ [])) none)
+answerOf session initiator ttl address port = encodeMsg (answerMsg session initiator ttl address port)
+
+-- an initiator has 4 or 16 bytes
+unfoldable pub okInitiator : List ℕ → Bool
+okInitiator initiator = pick (eqb (length initiator) 4) true (eqb (length initiator) 16)
+
+unfoldable pub answerAnswer : ℕ → List ℕ → ℕ → List ℕ → ℕ → List ℕ → Written
+answerAnswer session initiator ttl address port out = passAnswer (okInitiator initiator) (answerOf session initiator ttl address port) out
+
+unfoldable pub answerOut : ℕ → List ℕ → ℕ → List ℕ → ℕ → List ℕ → List ℕ
+answerOut session initiator ttl address port out = passOut (okInitiator initiator) (answerOf session initiator ttl address port) out

@@ -3,13 +3,12 @@
 ghost use mathlib.Core.Path.{_≡_};
 ghost use Rattle.encode.specs.Put.{Wrote};
 ghost use Rattle.description.specs.Encoding.{string, fixed};
-ghost use mathlib.Core.Bool.{true};
 ghost use Prim.Native.Nat.{_<_, _≤_};
 ghost use lib.ListN.{length};
 ghost use lib.Dec.{ltb};
 ghost use Rattle.base.specs.Pick.{pick};
 ghost use Rattle.message.specs.Read.{mostBytes};
-ghost use Rattle.writer.specs.Write.{accepted, accepts, writeAnswer, writeOut, lowered, lowerAnswer, lowerOut, answerOf, passAnswer, passOut};
+ghost use Rattle.writer.specs.Write.{accepted, accepts, writeAnswer, writeOut, lowered, lowerAnswer, lowerOut, passAnswer, passOut, okInitiator, answerOf, answerAnswer, answerOut};
 use description::Description;
 use description::judge;
 use encode::put;
@@ -63,7 +62,7 @@ pub fn lower(message: &[u8], at: usize, end: usize, count: u8, out: &mut [u8]) -
     Written::Length(len)
 }
 
-// A Response with one locator of kind 103 and protocol 6, as a node answers.
+// A Response with one locator of kind 103 and protocol 6, as a node answers: 18 if the initiator has neither 4 nor 16 bytes.
 pub fn answer(
     session: u32,
     initiator: &[u8],
@@ -72,9 +71,12 @@ pub fn answer(
     port: u16,
     out: &mut [u8],
 ) -> Written
-    ensures { λ r. ⌜ r ≡ passAnswer true (answerOf session (now (initiator .entry)) ttl (now (address .entry)) port) (now (out .entry)) ⌝ }
-    ensures { λ r. ⌜ now (out .exit) ≡ passOut true (answerOf session (now (initiator .entry)) ttl (now (address .entry)) port) (now (out .entry)) ⌝ }
+    ensures { λ r. ⌜ r ≡ answerAnswer session (now (initiator .entry)) ttl (now (address .entry)) port (now (out .entry)) ⌝ }
+    ensures { λ r. ⌜ now (out .exit) ≡ answerOut session (now (initiator .entry)) ttl (now (address .entry)) port (now (out .entry)) ⌝ }
 {
+    if !ok_initiator(initiator) {
+        return Written::Refused(18);
+    }
     let len = answer_len(session, initiator, ttl, address, port);
     let number = refusal(len <= MOST_BYTES, len, out.len());
     if number != 0 {
@@ -82,6 +84,16 @@ pub fn answer(
     }
     put_answer(out, session, initiator, ttl, &address[..], port);
     Written::Length(len)
+}
+
+// Whether an initiator has 4 or 16 bytes.
+fn ok_initiator(s: &[u8]) -> bool
+    ensures { λ r. ⌜ r ≡ okInitiator (now (s .entry)) ⌝ }
+{
+    if s.len() == 4 {
+        return true;
+    }
+    s.len() == 16
 }
 
 // Whether the reader accepts these bytes.

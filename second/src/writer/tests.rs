@@ -128,11 +128,8 @@ fn discoveries_are_answered() {
         |initiator: &[u8], out_len| answer(7, initiator, 60_000, &address, 7_017, out_len);
     assert_eq!(answered(&SOURCE[..4], 35), Ok(ANSWER.to_vec()));
     assert_eq!(answered(&SOURCE[..4], 34), Err(SHORT_OUTPUT));
-    assert_eq!(
-        answered(&[0; 2_015], 2_048).map(|answer| answer.len()),
-        Ok(2_048)
-    );
-    assert_eq!(answered(&[0; 2_016], 0), Err(NO_MESSAGE));
+    assert_eq!(answered(&[0; 16], 2_048).map(|answer| answer.len()), Ok(47));
+    assert_eq!(answered(&[0; 5], 0), Err(NO_MESSAGE));
 }
 
 #[test]

@@ -92,7 +92,7 @@ pub fn numbers() -> Vec<Case> {
     cases
 }
 
-/// Initiators of other lengths are written as they are.
+/// Initiators of 4 and 16 bytes, and of other lengths, which no message has.
 pub fn initiators() -> Vec<Case> {
     let mut cases = Vec::new();
     for length in [0, 1, 3, 4, 5, 15, 16, 17, 23, 24, 32, 255] {

@@ -7,17 +7,17 @@ use Rattle.blocks.proofs.block.exchange.Tie as tie
 use Rattle.blocks.proofs.block.exchange.Reads as reads
 use Rattle.blocks.proofs.block.exchange.Lts as lts
 use Rattle.blocks.proofs.block.put_objective.Reads as put-objective-reads
-use Rattle.blocks.proofs.block.put_opening.Reads as put-opening-reads
+use Rattle.blocks.proofs.block.put_front.Reads as put-front-reads
 
-put-opening-requires : tie.Need-put-opening-requires
-put-opening-requires c κs = search needs
+put-front-requires : tie.Need-put-front-requires
+put-front-requires c κs = search needs
 
 put-objective-requires : tie.Need-put-objective-requires
 put-objective-requires c κs = search needs
 
 returns : tie.Need-returns
 unfolding exchangeBlock
-returns c = rw (← c .before .before .put-opening .ensures) (c .put-objective .ensures)
+returns c = rw (← c .before .before .put-front .ensures) (c .put-objective .ensures)
 
 pub exchange-spec : {M : Type 1} → statement M
-exchange-spec = tie.close (tie.spec put-opening-requires put-objective-requires returns)
+exchange-spec = tie.close (tie.spec put-front-requires put-objective-requires returns)

@@ -6,41 +6,32 @@ use Rattle.blocks.proofs.block.fill.Statement.{statement}
 use Rattle.blocks.proofs.block.fill.Tie as tie
 use Rattle.blocks.proofs.block.fill.Reads as reads
 use Rattle.blocks.proofs.block.fill.Lts as lts
+use Rattle.blocks.proofs.block.discovery.Reads as discovery-reads
+use Rattle.blocks.proofs.block.end.Reads as end-reads
 use Rattle.blocks.proofs.block.exchange.Reads as exchange-reads
-use Rattle.blocks.proofs.block.put_extra.Reads as put-extra-reads
+use Rattle.blocks.proofs.block.invalid.Reads as invalid-reads
 use Rattle.blocks.proofs.block.put_objective.Reads as put-objective-reads
-use Rattle.blocks.proofs.block.put_opening.Reads as put-opening-reads
-use Rattle.blocks.proofs.block.put_outcome.Reads as put-outcome-reads
+use Rattle.blocks.proofs.block.put_front.Reads as put-front-reads
 use Rattle.blocks.proofs.block.put_series.Reads as put-series-reads
-use Rattle.blocks.proofs.block.put_span.Reads as put-span-reads
-use Rattle.blocks.proofs.block.put_targets.Reads as put-targets-reads
+use Rattle.blocks.proofs.block.response.Reads as response-reads
 
 enum-told : tie.Need-enum-told
 enum-told c = search needs
 
-put-opening-requires : tie.Need-put-opening-requires
-put-opening-requires c κs = search needs
+put-front-requires : tie.Need-put-front-requires
+put-front-requires c κs = search needs
 
 enum-known-m : tie.Need-enum-known-m
 enum-known-m c = search needs
 
-put-opening-requires-2 : tie.Need-put-opening-requires-2
-put-opening-requires-2 c κs = search needs
-
-put-objective-requires : tie.Need-put-objective-requires
-put-objective-requires c κs = search needs
+discovery-requires : tie.Need-discovery-requires
+discovery-requires c κs = search needs
 
 enum-known-m-2 : tie.Need-enum-known-m-2
 enum-known-m-2 c = search needs
 
-put-opening-requires-3 : tie.Need-put-opening-requires-3
-put-opening-requires-3 c κs = search needs
-
-put-extra-requires : tie.Need-put-extra-requires
-put-extra-requires c κs = search needs
-
-put-targets-requires : tie.Need-put-targets-requires
-put-targets-requires c κs = search needs
+response-requires : tie.Need-response-requires
+response-requires c κs = search needs
 
 enum-known-m-3 : tie.Need-enum-known-m-3
 enum-known-m-3 c = search needs
@@ -63,17 +54,14 @@ exchange-requires-3 c κs = search needs
 enum-known-m-6 : tie.Need-enum-known-m-6
 enum-known-m-6 c = search needs
 
-put-opening-requires-4 : tie.Need-put-opening-requires-4
-put-opening-requires-4 c κs = search needs
-
-put-outcome-requires : tie.Need-put-outcome-requires
-put-outcome-requires c κs = search needs
+end-requires : tie.Need-end-requires
+end-requires c κs = search needs
 
 enum-known-m-7 : tie.Need-enum-known-m-7
 enum-known-m-7 c = search needs
 
-put-opening-requires-5 : tie.Need-put-opening-requires-5
-put-opening-requires-5 c κs = search needs
+put-front-requires-2 : tie.Need-put-front-requires-2
+put-front-requires-2 c κs = search needs
 
 enum-known-m-8 : tie.Need-enum-known-m-8
 enum-known-m-8 c = search needs
@@ -84,11 +72,11 @@ exchange-requires-4 c κs = search needs
 enum-known-m-9 : tie.Need-enum-known-m-9
 enum-known-m-9 c = search needs
 
-put-opening-requires-6 : tie.Need-put-opening-requires-6
-put-opening-requires-6 c κs = search needs
+put-front-requires-3 : tie.Need-put-front-requires-3
+put-front-requires-3 c κs = search needs
 
-put-objective-requires-2 : tie.Need-put-objective-requires-2
-put-objective-requires-2 c κs = search needs
+put-objective-requires : tie.Need-put-objective-requires
+put-objective-requires c κs = search needs
 
 put-series-requires : tie.Need-put-series-requires
 put-series-requires c κs = search needs
@@ -96,23 +84,20 @@ put-series-requires c κs = search needs
 enum-known-m-10 : tie.Need-enum-known-m-10
 enum-known-m-10 c = search needs
 
-put-opening-requires-7 : tie.Need-put-opening-requires-7
-put-opening-requires-7 c κs = search needs
-
-put-span-requires : tie.Need-put-span-requires
-put-span-requires c κs = search needs
+invalid-requires : tie.Need-invalid-requires
+invalid-requires c κs = search needs
 
 returns : tie.Need-returns
 unfolding blockOf
-returns c = rw (c .before .before .enum-told .given .1) (c .put-opening .ensures)
+returns c = rw (c .before .before .enum-told .given .1) (c .put-front .ensures)
 
 returns-2 : tie.Need-returns-2
 unfolding blockOf
-returns-2 c = rw (c .before .before .before .before .before .m .given .1, ← c .before .before .put-opening2 .ensures) (c .put-objective .ensures)
+returns-2 c = rw (c .before .before .before .m .given .1) (c .discovery .ensures)
 
 returns-3 : tie.Need-returns-3
 unfolding blockOf
-returns-3 c = rw (c .before .before .before .before .before .before .before .m2 .given .1, ← c .before .before .before .before .put-opening3 .ensures, ← c .before .before .put-extra .ensures) (c .put-targets .ensures)
+returns-3 c = rw (c .before .before .before .m2 .given .1) (c .response .ensures)
 
 returns-4 : tie.Need-returns-4
 unfolding blockOf
@@ -128,11 +113,11 @@ returns-6 c = rw (c .before .before .before .m5 .given .1) (c .exchange3 .ensure
 
 returns-7 : tie.Need-returns-7
 unfolding blockOf
-returns-7 c = rw (c .before .before .before .before .before .m6 .given .1, ← c .before .before .put-opening4 .ensures) (c .put-outcome .ensures)
+returns-7 c = rw (c .before .before .before .m6 .given .1) (c .end .ensures)
 
 returns-8 : tie.Need-returns-8
 unfolding blockOf
-returns-8 c = rw (c .before .before .before .m7 .given .1) (c .put-opening5 .ensures)
+returns-8 c = rw (c .before .before .before .m7 .given .1) (c .put-front2 .ensures)
 
 returns-9 : tie.Need-returns-9
 unfolding blockOf
@@ -140,25 +125,22 @@ returns-9 c = rw (c .before .before .before .m8 .given .1) (c .exchange4 .ensure
 
 returns-10 : tie.Need-returns-10
 unfolding blockOf
-returns-10 c = rw (c .before .before .before .before .before .before .before .before .m9 .given .1, ← c .before .before .before .before .before .put-opening6 .ensures, ← c .before .before .put-objective2 .ensures) (c .put-series .ensures)
+returns-10 c = rw (c .before .before .before .before .before .before .before .before .m9 .given .1, ← c .before .before .before .before .before .put-front3 .ensures, ← c .before .before .put-objective .ensures) (c .put-series .ensures)
 
 returns-11 : tie.Need-returns-11
 unfolding blockOf
-returns-11 c = rw (c .before .before .before .before .before .m10 .given .1, ← c .before .before .put-opening7 .ensures) (c .put-span .ensures)
+returns-11 c = rw (c .before .before .before .m10 .given .1) (c .invalid .ensures)
 
 pub fill-spec : {M : Type 1} → statement M
 fill-spec =
     tie.close
     (tie.spec
     enum-told
-    put-opening-requires
+    put-front-requires
     enum-known-m
-    put-opening-requires-2
-    put-objective-requires
+    discovery-requires
     enum-known-m-2
-    put-opening-requires-3
-    put-extra-requires
-    put-targets-requires
+    response-requires
     enum-known-m-3
     exchange-requires
     enum-known-m-4
@@ -166,19 +148,17 @@ fill-spec =
     enum-known-m-5
     exchange-requires-3
     enum-known-m-6
-    put-opening-requires-4
-    put-outcome-requires
+    end-requires
     enum-known-m-7
-    put-opening-requires-5
+    put-front-requires-2
     enum-known-m-8
     exchange-requires-4
     enum-known-m-9
-    put-opening-requires-6
-    put-objective-requires-2
+    put-front-requires-3
+    put-objective-requires
     put-series-requires
     enum-known-m-10
-    put-opening-requires-7
-    put-span-requires
+    invalid-requires
     returns
     returns-2
     returns-3

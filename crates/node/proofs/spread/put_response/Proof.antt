@@ -2,11 +2,10 @@
 -- Assumes nothing.
 use mathlib.Core.Path.{ap, _∙_}
 use mathlib.Core.List.{List}
-use mathlib.Core.Bool.{true}
 use Prim.Native.Nat.{ℕ}
-use Rattle.writer.specs.Write.{passAnswer, passOut, answerOf}
+use Rattle.writer.specs.Write.{answerAnswer, answerOut}
 use Rattle.node.specs.Call.{response}
-use Rattle.node.proofs.Sends.{part-held, response-given}
+use Rattle.node.proofs.Sends.{held-sized, part-held, response-given}
 use Rattle.node.proofs.Outcomes.{sent-length, sent-never}
 use borrow.Author.Needs.{needs}
 use Rattle.node.proofs.spread.put_response.Statement.{statement}
@@ -41,14 +40,14 @@ same-length c = search needs
 
 returns : tie.Need-returns
 unfolding response
-returns c = sent-length _ _ (response (c .before .before .before .before .before .before .before .before .before .before .before .before .before .args .node) (c .before .before .before .before .before .before .before .before .before .before .before .before .before .args .message .now) (c .before .before .before .before .before .before .before .before .before .before .before .before .before .args .s)) (c .before .before .before .before .before .before .before .before .before .before .before .before .before .args .out .now) (c .before .before .before .before .before .answer .ensures .0 ∙ ap (λ (z : List ℕ). passAnswer true (answerOf (c .before .before .before .before .before .before .before .before .before .before .before .before .before .args .s .session) z (c .before .before .before .before .before .before .before .before .before .before .before .before .before .args .node .ttl) (c .before .before .before .before .before .before .before .before .before .before .before .before .before .args .node .address) (c .before .before .before .before .before .before .before .before .before .before .before .before .before .args .node .port)) (c .before .before .before .before .before .before .before .before .before .before .before .before .before .args .out .now)) (part-held (c .before .before .before .before .before .before .before .before .before .before .before .before .before .args .message .now) (c .before .before .before .before .before .before .before .before .before .before .before .before .before .args .s .initiator))) (c .before .before .before .before .before .answer .ensures .1 ∙ ap (λ (z : List ℕ). passOut true (answerOf (c .before .before .before .before .before .before .before .before .before .before .before .before .before .args .s .session) z (c .before .before .before .before .before .before .before .before .before .before .before .before .before .args .node .ttl) (c .before .before .before .before .before .before .before .before .before .before .before .before .before .args .node .address) (c .before .before .before .before .before .before .before .before .before .before .before .before .before .args .node .port)) (c .before .before .before .before .before .before .before .before .before .before .before .before .before .args .out .now)) (part-held (c .before .before .before .before .before .before .before .before .before .before .before .before .before .args .message .now) (c .before .before .before .before .before .before .before .before .before .before .before .before .before .args .s .initiator))) (response-given (c .before .before .before .before .before .before .before .before .before .before .before .before .before .args .node) (c .before .before .before .before .before .before .before .before .before .before .before .before .before .args .message .now) (c .before .before .before .before .before .before .before .before .before .before .before .before .before .args .out .now) (c .before .before .before .before .before .before .before .before .before .before .before .before .before .args .s) (search needs) (c .before .before .before .before .before .before .before .before .before .before .before .before .before .pre .1 .bytes) (c .before .before .before .before .before .before .before .before .before .before .before .before .before .pre .0)) _ (c .before .sent .given .1)
+returns c = sent-length _ _ (response (c .before .before .before .before .before .before .before .before .before .before .before .before .before .args .node) (c .before .before .before .before .before .before .before .before .before .before .before .before .before .args .message .now) (c .before .before .before .before .before .before .before .before .before .before .before .before .before .args .s)) (c .before .before .before .before .before .before .before .before .before .before .before .before .before .args .out .now) (c .before .before .before .before .before .answer .ensures .0 ∙ ap (λ (z : List ℕ). answerAnswer (c .before .before .before .before .before .before .before .before .before .before .before .before .before .args .s .session) z (c .before .before .before .before .before .before .before .before .before .before .before .before .before .args .node .ttl) (c .before .before .before .before .before .before .before .before .before .before .before .before .before .args .node .address) (c .before .before .before .before .before .before .before .before .before .before .before .before .before .args .node .port) (c .before .before .before .before .before .before .before .before .before .before .before .before .before .args .out .now)) (part-held (c .before .before .before .before .before .before .before .before .before .before .before .before .before .args .message .now) (c .before .before .before .before .before .before .before .before .before .before .before .before .before .args .s .initiator))) (c .before .before .before .before .before .answer .ensures .1 ∙ ap (λ (z : List ℕ). answerOut (c .before .before .before .before .before .before .before .before .before .before .before .before .before .args .s .session) z (c .before .before .before .before .before .before .before .before .before .before .before .before .before .args .node .ttl) (c .before .before .before .before .before .before .before .before .before .before .before .before .before .args .node .address) (c .before .before .before .before .before .before .before .before .before .before .before .before .before .args .node .port) (c .before .before .before .before .before .before .before .before .before .before .before .before .before .args .out .now)) (part-held (c .before .before .before .before .before .before .before .before .before .before .before .before .before .args .message .now) (c .before .before .before .before .before .before .before .before .before .before .before .before .before .args .s .initiator))) (response-given (c .before .before .before .before .before .before .before .before .before .before .before .before .before .args .node) (c .before .before .before .before .before .before .before .before .before .before .before .before .before .args .message .now) (c .before .before .before .before .before .before .before .before .before .before .before .before .before .args .out .now) (c .before .before .before .before .before .before .before .before .before .before .before .before .before .args .s) (search needs) (held-sized (c .before .before .before .before .before .before .before .before .before .before .before .before .before .pre .1)) (c .before .before .before .before .before .before .before .before .before .before .before .before .before .pre .0)) _ (c .before .sent .given .1)
 
 same-length-2 : tie.Need-same-length-2
 same-length-2 c = search needs
 
 returns-2 : tie.Need-returns-2
 unfolding response
-returns-2 c = sent-never _ _ (c .before .before .before .before .answer .ensures .0 ∙ ap (λ (z : List ℕ). passAnswer true (answerOf (c .before .before .before .before .before .before .before .before .before .before .before .before .args .s .session) z (c .before .before .before .before .before .before .before .before .before .before .before .before .args .node .ttl) (c .before .before .before .before .before .before .before .before .before .before .before .before .args .node .address) (c .before .before .before .before .before .before .before .before .before .before .before .before .args .node .port)) (c .before .before .before .before .before .before .before .before .before .before .before .before .args .out .now)) (part-held (c .before .before .before .before .before .before .before .before .before .before .before .before .args .message .now) (c .before .before .before .before .before .before .before .before .before .before .before .before .args .s .initiator))) (response-given (c .before .before .before .before .before .before .before .before .before .before .before .before .args .node) (c .before .before .before .before .before .before .before .before .before .before .before .before .args .message .now) (c .before .before .before .before .before .before .before .before .before .before .before .before .args .out .now) (c .before .before .before .before .before .before .before .before .before .before .before .before .args .s) (search needs) (c .before .before .before .before .before .before .before .before .before .before .before .before .pre .1 .bytes) (c .before .before .before .before .before .before .before .before .before .before .before .before .pre .0) .0) (c .enum-told .given .1)
+returns-2 c = sent-never _ _ (c .before .before .before .before .answer .ensures .0 ∙ ap (λ (z : List ℕ). answerAnswer (c .before .before .before .before .before .before .before .before .before .before .before .before .args .s .session) z (c .before .before .before .before .before .before .before .before .before .before .before .before .args .node .ttl) (c .before .before .before .before .before .before .before .before .before .before .before .before .args .node .address) (c .before .before .before .before .before .before .before .before .before .before .before .before .args .node .port) (c .before .before .before .before .before .before .before .before .before .before .before .before .args .out .now)) (part-held (c .before .before .before .before .before .before .before .before .before .before .before .before .args .message .now) (c .before .before .before .before .before .before .before .before .before .before .before .before .args .s .initiator))) (response-given (c .before .before .before .before .before .before .before .before .before .before .before .before .args .node) (c .before .before .before .before .before .before .before .before .before .before .before .before .args .message .now) (c .before .before .before .before .before .before .before .before .before .before .before .before .args .out .now) (c .before .before .before .before .before .before .before .before .before .before .before .before .args .s) (search needs) (held-sized (c .before .before .before .before .before .before .before .before .before .before .before .before .pre .1)) (c .before .before .before .before .before .before .before .before .before .before .before .before .pre .0) .0) (c .enum-told .given .1)
 
 pub put-response-spec : {M : Type 1} → statement M
 put-response-spec =

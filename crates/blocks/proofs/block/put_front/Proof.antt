@@ -1,12 +1,12 @@
--- `blocks::block::put_opening` meets its contract.
+-- `blocks::block::put_front` meets its contract.
 -- Assumes nothing.
 use mathlib.Core.Path.{refl}
-use Rattle.blocks.specs.Block.{openedBlock}
+use Rattle.blocks.specs.Block.{frontBlock}
 use borrow.Author.Needs.{needs}
-use Rattle.blocks.proofs.block.put_opening.Statement.{statement}
-use Rattle.blocks.proofs.block.put_opening.Tie as tie
-use Rattle.blocks.proofs.block.put_opening.Reads as reads
-use Rattle.blocks.proofs.block.put_opening.Lts as lts
+use Rattle.blocks.proofs.block.put_front.Statement.{statement}
+use Rattle.blocks.proofs.block.put_front.Tie as tie
+use Rattle.blocks.proofs.block.put_front.Reads as reads
+use Rattle.blocks.proofs.block.put_front.Lts as lts
 
 element-write-b : tie.Need-element-write-b
 element-write-b c = search needs
@@ -24,11 +24,11 @@ element-write-b-5 : tie.Need-element-write-b-5
 element-write-b-5 c = search needs
 
 returns : tie.Need-returns
-unfolding openedBlock
+unfolding frontBlock
 returns c = refl
 
-pub put-opening-spec : {M : Type 1} → statement M
-put-opening-spec =
+pub put-front-spec : {M : Type 1} → statement M
+put-front-spec =
     tie.close
     (tie.spec
     element-write-b
