@@ -35,9 +35,3 @@ pub pick-same : (t : Bool) → pick t true false ≡ t
 unfolding pick
 pick-same true = refl
 pick-same false = refl
-
--- of two tests both hold
-pub both-hold : (t : Bool) {u : Bool} → pick t u false ≡ true → (t ≡ true) × (u ≡ true)
-unfolding pick
-both-hold true q = (refl, q)
-both-hold false q = (q, cc)

@@ -9,7 +9,6 @@ use native.Mathlib.Omega.{arith}
 use lib.ListN.{length}
 use lib.Dec.{ltb}
 use borrow.Author.Tests.{ltb-false, le-ltb, eq-eqb, ne-eqb}
-use Rattle.base.specs.Pick.{pick}
 use Rattle.base.specs.BigEndian.{Bytes}
 use Rattle.cbor.specs.declared.token.Token.{Token}
 use Rattle.cbor.specs.Token.{tokenAt, upTo}
@@ -88,7 +87,7 @@ module _ {s : List ℕ} {p : ℕ} (b : Bytes s) where
 -- ---- from items to tokens: the test, and the items after it
 -- what passes the test of an initiator
 initiates : (t : Token) → t .major ≡ 2 → (t .arg ≡ 4) ⊎ (t .arg ≡ 16) → isInitiator t ≡ true
-unfolding isInitiator pick
+unfolding isInitiator
 initiates t two (inl h) = rw (eq-eqb _ _ two, eq-eqb _ _ h)
 initiates t two (inr h) = rw (eq-eqb _ _ two, ne-eqb (t .arg) 4 (omega arith), eq-eqb _ _ h)
 

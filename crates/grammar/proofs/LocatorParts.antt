@@ -3,18 +3,19 @@
 use mathlib.Core.Path.{_≡_, refl, sym, ap, ap₂, _∙_, subst}
 use mathlib.Core.Logic.{_↔_}
 use mathlib.Core.List.{List, [], _∷_}
-use mathlib.Core.Bool.{Bool, true, false, cond}
+use mathlib.Core.Bool.{Bool, true, false, cond, _&&_}
 use mathlib.Core.Option.{Option}
 use Prim.Native.Nat.{ℕ, _+_, _-_, _^_, _≤_, _<_}
 use native.Mathlib.Omega.{arith}
 use lib.ListN.{length, take, drop, length-take}
 use lib.Seq.{take-all, take-take}
-use lib.Dec.{ltb, leb, eqb, lit≤}
-use borrow.Author.Tests.{lt-ltb, le-leb, leb-true, eqb-true, eqb-false, eq-eqb, ne-eqb}
+use lib.Dec.{leb, eqb, lit≤}
+use borrow.Author.Tests.{le-leb, leb-true, eqb-true, eqb-false, eq-eqb, ne-eqb}
 use Rattle.base.specs.Pick.{pick}
 use Rattle.base.specs.BigEndian.{Bytes}
 use Rattle.base.specs.Lists.{Every}
-use Rattle.base.proofs.Picks.{both-hold, pick-case}
+use Rattle.base.proofs.Bools.{and-left, and-right}
+use Rattle.base.proofs.Picks.{pick-case}
 use Rattle.cbor.specs.declared.token.Token.{Token}
 use Rattle.cbor.specs.Tree.{Item}
 use Rattle.cbor.specs.Token.{tokenAt}
@@ -125,14 +126,13 @@ number-of {s} {p} {w} h P for-null kind n e same made =
 module _ (s : List ℕ) (p : ℕ) (w : Token) (read : w ≡ tokenAt s p) where
   null-here : isNull w ≡ true → Stands s p (w .next) null
   unfolding isNull
-  null-here q₀ =
-      let (e₁, q₁) = both-hold (eqb (w .major) 7) q₀ in
-      let (e₂, q₂) = both-hold (eqb (w .arg) 22) q₁ in
-      let (e₃, q₃) = both-hold (ltb (w .at) (w .body)) q₂ in
-      let major : w .major ≡ 7 = eqb-true (w .major) 7 e₁ in
-      let arg : w .arg ≡ 22 = eqb-true (w .arg) 22 e₂ in
+  null-here q =
+      let e = and-left (eqb (w .major) 7 && eqb (w .arg) 22) (eqb (w .body - w .at) 1) q in
+      let one = and-right (eqb (w .major) 7 && eqb (w .arg) 22) (eqb (w .body - w .at) 1) q in
+      let major : w .major ≡ 7 = eqb-true (w .major) 7 (and-left (eqb (w .major) 7) (eqb (w .arg) 22) e) in
+      let arg : w .arg ≡ 22 = eqb-true (w .arg) 22 (and-right (eqb (w .major) 7) (eqb (w .arg) 22) e) in
       let h = small-heading s p w read (omega arith) (omega arith) in
-      null-at h major arg (omega (arith, token-is s p w read .here, eqb-true (w .body - w .at) 1 q₃, h .body))
+      null-at h major arg (omega (arith, token-is s p w read .here, eqb-true (w .body - w .at) 1 one, h .body))
 
   null-of : (P : Item → ℕ → Type 0) (for-null kind : ℕ) → eqb kind 106 ≡ true → isNull w ≡ true → Here s p (w .next) P for-null kind for-null
   null-of P for-null kind e z = record { item = null; stands = null-here z; is = OfKind.missing (eqb-true kind 106 e) }
@@ -192,17 +192,21 @@ pub address-here : (w : Token) (kind : ℕ) → 103 ≤ kind → kind ≤ 106 �
 unfolding addressFits pick
 address-here w kind lo hi =
     by-kind (λ k. addressFits k w ≡ true → AddressIs k w) kind lo hi
-    (λ q. let (e, f) = both-hold (eqb (w .major) 2) {u = eqb (w .arg) 16} q in
-    record { text = false; major = eqb-true (w .major) 2 e; is = λ a long. Address.v6 (long ∙ eqb-true (w .arg) 16 f) })
-    (λ q. let (e, f) = both-hold (eqb (w .major) 2) {u = eqb (w .arg) 4} q in
-    record { text = false; major = eqb-true (w .major) 2 e; is = λ a long. Address.v4 (long ∙ eqb-true (w .arg) 4 f) })
+    (λ q. record { text = false; major = two 16 q; is = λ a long. Address.v6 (long ∙ sized 16 q) })
+    (λ q. record { text = false; major = two 4 q; is = λ a long. Address.v4 (long ∙ sized 4 q) })
     (λ e. record { text = true; major = eqb-true (w .major) 3 e; is = λ a _. Address.domain })
     (λ e. record { text = true; major = eqb-true (w .major) 3 e; is = λ a _. Address.uri })
+  where
+    two : (n : ℕ) → (eqb (w .major) 2 && eqb (w .arg) n) ≡ true → w .major ≡ 2
+    two n q = eqb-true (w .major) 2 (and-left (eqb (w .major) 2) (eqb (w .arg) n) q)
+
+    sized : (n : ℕ) → (eqb (w .major) 2 && eqb (w .arg) n) ≡ true → w .arg ≡ n
+    sized n q = eqb-true (w .arg) n (and-right (eqb (w .major) 2) (eqb (w .arg) n) q)
 
 -- ---- what stands there is read
 is-null-token : (p : ℕ) → isNull (record { at = p; major = 7; arg = 22; body = p + 1; next = p + 1 }) ≡ true
-unfolding isNull pick
-is-null-token p = rw (lt-ltb p (p + 1) (omega arith), eq-eqb (p + 1 - p) 1 (omega arith))
+unfolding isNull
+is-null-token p = eq-eqb (p + 1 - p) 1 (omega arith)
 
 -- a token's number, and where the next one stands
 abbrev Reads : (Token → ℕ) → List ℕ → ℕ → ℕ → ℕ → Type 0

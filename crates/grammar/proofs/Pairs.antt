@@ -4,7 +4,7 @@
 use mathlib.Core.Path.{_≡_, refl, sym, ap, _∙_, subst}
 use mathlib.Core.Logic.{_↔_}
 use mathlib.Core.List.{List, [], _∷_}
-use mathlib.Core.Bool.{Bool, true, false}
+use mathlib.Core.Bool.{and-false}
 use mathlib.Core.Option.{Option, none, some}
 use Prim.Native.Nat.{ℕ, suc, _+_, _-_, _≤_}
 use native.Mathlib.Nat.{add-assoc, add-sub-cancel-left}
@@ -140,11 +140,6 @@ empty-tail : (base : ℕ) (s : List ℕ) (at : ℕ) (o : Objective) (bad long : 
 unfolding pairTail isEmpty pick
 empty-tail base s at o bad long w ew t₁ t₂ e = rw (← ew, eq-eqb _ _ t₁, eq-eqb _ _ t₂, e)
 
-neither : (t : Bool) → pick t false false ≡ false
-unfolding pick
-neither true = refl
-neither false = refl
-
 -- the array of a locator that is read isn't empty
 locator-items : (base : ℕ) (s : List ℕ) {l : Locator} {size bad : ℕ} → locatorIn base s ≡ LocatorRead.Got l size bad → tokenAt s 0 .arg ≡ 0 → ⊥
 unfolding locatorIn itemsIn
@@ -156,7 +151,7 @@ tagged-tail : (base : ℕ) (s : List ℕ) (at : ℕ) (o : Objective) (bad long :
     → locatorIn (base + at) (drop at s) ≡ LocatorRead.Got l n bad′ → size ≡ at + n → pairTail base s at o bad long ≡ PairRead.Got o (Tag.At l) size (firstOf bad bad′) long
 unfolding pairTail pairTagged isEmpty pick
 tagged-tail base s at o bad long l n bad′ got e =
-    rw (ne-eqb _ _ (λ z. locator-items (base + at) (drop at s) got (sym (token-first s at .arg) ∙ z)), neither (eqb (tokenAt s at .major) 4), got, e)
+    rw (ne-eqb _ _ (λ z. locator-items (base + at) (drop at s) got (sym (token-first s at .arg) ∙ z)), and-false (eqb (tokenAt s at .major) 4), got, e)
 
 -- the objective is read, and the second item stands after it
 record Begun (m : List ℕ) (base e : ℕ) (obj : Obj Value) (y : Item) : Type 0 where

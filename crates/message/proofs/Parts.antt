@@ -3,13 +3,14 @@
 -- Assumes nothing.
 use mathlib.Core.Path.{_≡_, refl, sym, subst}
 use mathlib.Core.List.{List}
-use mathlib.Core.Bool.{Bool, true}
+use mathlib.Core.Bool.{Bool, true, _||_}
 use mathlib.Core.Logic.{_⊎_, inl, inr}
 use Prim.Native.Nat.{ℕ, _+_, _-_, _*_, _≤_}
 use native.Mathlib.Omega.{arith}
 use lib.ListN.{length}
 use lib.Dec.{ltb, leb, eqb}
 use borrow.Author.Tests.{ltb-false, eqb-true}
+use Rattle.base.proofs.Bools.{and-left, and-right, or-true}
 use Rattle.base.proofs.Picks.{pick-case, both}
 use Rattle.cbor.specs.declared.item.ItemRead.{ItemRead}
 use Rattle.cbor.specs.declared.token.Token.{Token}
@@ -88,13 +89,14 @@ OfKind kind (M.Invalid session item) = Unit {0}
 -- what the test of an initiator says
 pub initiated : (t : Token) → isInitiator t ≡ true → (t .major ≡ 2) × ((t .arg ≡ 4) ⊎ (t .arg ≡ 16))
 unfolding isInitiator
-initiated t =
-    pick-case P (eqb (t .major) 2)
-    (λ two. pick-case P (eqb (t .arg) 4) (λ e _. (eqb-true (t .major) 2 two, inl (eqb-true (t .arg) 4 e))) (λ _ e. (eqb-true (t .major) 2 two, inr (eqb-true (t .arg) 16 e))))
-    (λ _ q. absurd (let z : _≡_ {A = ℕ} 0 1 = cc in omega arith))
+initiated t q = (eqb-true (t .major) 2 (and-left (eqb (t .major) 2) size q), by (or-true (eqb (t .arg) 4) (eqb (t .arg) 16) (and-right (eqb (t .major) 2) size q)))
   where
-    P : Bool → Type 0
-    P b = b ≡ true → (t .major ≡ 2) × ((t .arg ≡ 4) ⊎ (t .arg ≡ 16))
+    size : Bool
+    size = eqb (t .arg) 4 || eqb (t .arg) 16
+
+    by : (eqb (t .arg) 4 ≡ true) ⊎ (eqb (t .arg) 16 ≡ true) → (t .arg ≡ 4) ⊎ (t .arg ≡ 16)
+    by (inl e) = inl (eqb-true (t .arg) 4 e)
+    by (inr e) = inr (eqb-true (t .arg) 16 e)
 
 module _ (s : List ℕ) where
   -- ---- the shapes

@@ -1,7 +1,7 @@
 -- What several kinds begin with (RFC 8990, section 2.8): a session, an initiator and a ttl.
 use Prim.Native.Nat.{ℕ}
 use mathlib.Core.List.{List}
-use mathlib.Core.Bool.{Bool, true, false}
+use mathlib.Core.Bool.{Bool, _&&_, _||_}
 use lib.Dec.{ltb, eqb}
 use Rattle.base.specs.Pick.{pick, unless}
 use Rattle.cbor.specs.declared.token.Token.{Token}
@@ -20,7 +20,7 @@ objectiveLevels = 2
 
 -- a byte string of 4 or 16 bytes
 unfoldable pub isInitiator : Token → Bool
-isInitiator t = pick (eqb (t .major) 2) (pick (eqb (t .arg) 4) true (eqb (t .arg) 16)) false
+isInitiator t = eqb (t .major) 2 && (eqb (t .arg) 4 || eqb (t .arg) 16)
 
 -- session, initiator and ttl, the session at `at`
 unfoldable pub openingAt : List ℕ → ℕ → OpeningRead

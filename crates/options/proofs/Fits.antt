@@ -3,14 +3,15 @@
 use mathlib.Core.Path.{_≡_, refl, sym, ap, _∙_, subst}
 use mathlib.Core.Logic.{inl, inr}
 use mathlib.Core.List.{List, []}
-use mathlib.Core.Bool.{Bool, true, false}
+use mathlib.Core.Bool.{Bool, true, false, _&&_}
 use Prim.Native.Nat.{ℕ, zero, suc, _+_, _-_, _≤_, _<_}
 use native.Mathlib.Omega.{arith}
 use lib.ListN.{length, take, drop, length-drop}
 use lib.Dec.{ltb, leb, eqb}
 use borrow.Author.Tests.{ltb-false, eqb-true, eqb-false, ne-eqb}
 use Rattle.base.specs.Pick.{pick}
-use Rattle.base.proofs.Picks.{pick-case, both, both-hold}
+use Rattle.base.proofs.Bools.{and-left, and-right}
+use Rattle.base.proofs.Picks.{pick-case, both}
 use Rattle.base.proofs.Parts.{rest-is, drop-past}
 use Rattle.cbor.specs.declared.token.Token.{Token}
 use Rattle.cbor.specs.Token.{tokenAt, tokenFrom, nothingAt, sizeAt, itemsIn, upTo}
@@ -30,14 +31,14 @@ use Rattle.options.specs.Pair.{isEmpty, pairLevels, pairTagged, pairTail
 -- null is a leaf
 null-leaf : (t : Token) → isNull t ≡ true → Leaf t
 unfolding isNull
-null-leaf t q = inr (eqb-true (t .major) 7 (both-hold (eqb (t .major) 7) q .0))
+null-leaf t q = inr (eqb-true (t .major) 7 (and-left (eqb (t .major) 7) (eqb (t .arg) 22) (and-left (eqb (t .major) 7 && eqb (t .arg) 22) (eqb (t .body - t .at) 1) q)))
 
 -- an address that fits its kind is a leaf
 address-leaf : (kind : ℕ) (t : Token) → addressFits kind t ≡ true → Leaf t
 unfolding addressFits
 address-leaf kind t =
     pick-case P (leb 105 kind) (λ _ q. inl (omega (arith, eqb-true (t .major) 3 q)))
-    (λ _ q. inl (omega (arith, eqb-true (t .major) 2 (both-hold (eqb (t .major) 2) q .0))))
+    (λ _ q. inl (omega (arith, eqb-true (t .major) 2 (and-left (eqb (t .major) 2) _ q))))
   where
     P : Bool → Type 0
     P b = b ≡ true → Leaf t
@@ -267,8 +268,7 @@ objective-within levels s base at r x e q = rw (length-drop at s) at (subst (Obj
 pub empty-is : (t : Token) → isEmpty t ≡ true → (t .major ≡ 4) × (t .arg ≡ 0)
 unfolding isEmpty
 empty-is t q =
-    let (e, f) = both-hold (eqb (t .major) 4) q in
-    (eqb-true (t .major) 4 e, eqb-true (t .arg) 0 f)
+    (eqb-true (t .major) 4 (and-left (eqb (t .major) 4) (eqb (t .arg) 0) q), eqb-true (t .arg) 0 (and-right (eqb (t .major) 4) (eqb (t .arg) 0) q))
 
 -- the walk passes over a pair, of its own level and those of its objective
 abbrev pub PairWalked : List ℕ → PairRead → Type 0

@@ -2,7 +2,7 @@
 -- is judged by its first item, then by its number of items, then by its other items from left to right; `Bad` has the place of the first departure.
 use Prim.Native.Nat.{ℕ, _+_, _-_}
 use mathlib.Core.List.{List, [], _∷_}
-use mathlib.Core.Bool.{Bool, false}
+use mathlib.Core.Bool.{Bool, _&&_}
 use lib.ListN.{drop}
 use lib.Dec.{ltb, leb, eqb}
 use Rattle.base.specs.Pick.{pick, unless}
@@ -16,11 +16,11 @@ use Rattle.options.specs.Text.{spanOf, contentIn, badText}
 
 -- null: simple value 22, which has a head of one byte (a float has a longer one)
 unfoldable pub isNull : Token → Bool
-isNull t = pick (eqb (t .major) 7) (pick (eqb (t .arg) 22) (pick (ltb (t .at) (t .body)) (eqb (t .body - t .at) 1) false) false) false
+isNull t = eqb (t .major) 7 && eqb (t .arg) 22 && eqb (t .body - t .at) 1
 
 -- 16 bytes for 103, 4 for 104, a text for 105 and 106
 unfoldable pub addressFits : ℕ → Token → Bool
-addressFits kind t = pick (leb 105 kind) (eqb (t .major) 3) (pick (eqb (t .major) 2) (pick (eqb kind 103) (eqb (t .arg) 16) (eqb (t .arg) 4)) false)
+addressFits kind t = pick (leb 105 kind) (eqb (t .major) 3) (eqb (t .major) 2 && pick (eqb kind 103) (eqb (t .arg) 16) (eqb (t .arg) 4))
 
 -- what a locator has for a protocol that is null, and what is read of anything else that is no protocol
 abbrev pub nullProtocol : ℕ

@@ -1,7 +1,7 @@
 -- The pairs of a Flood (RFC 8990, section 2.8.11): what is read of the bytes s that begin at the own head and stand at `base` of the message.
 use Prim.Native.Nat.{ℕ, _+_}
 use mathlib.Core.List.{List, [], _∷_, _++_}
-use mathlib.Core.Bool.{Bool, false}
+use mathlib.Core.Bool.{Bool, _&&_}
 use lib.ListN.{drop, getD, replicate}
 use lib.Dec.{eqb}
 use Rattle.base.specs.Pick.{pick, unless}
@@ -21,7 +21,7 @@ use Rattle.options.specs.Objective.{objectiveIn}
 
 -- an empty array
 unfoldable pub isEmpty : Token → Bool
-isEmpty t = pick (eqb (t .major) 4) (eqb (t .arg) 0) false
+isEmpty t = eqb (t .major) 4 && eqb (t .arg) 0
 
 -- a pair whose second item was read as a locator
 unfoldable pub pairTagged : ℕ → Objective → ℕ → ℕ → LocatorRead → PairRead
