@@ -1,10 +1,8 @@
 -- Tests joined by and, or and not.
 -- Assumes nothing.
-use mathlib.Core.Path.{_≡_, refl}
+use mathlib.Core.Path.{_≡_, refl, sym, _∙_}
 use mathlib.Core.Logic.{_⊎_, inl, inr}
-use mathlib.Core.Bool.{Bool, true, false, _&&_, _||_}
-use Prim.Native.Nat.{ℕ}
-use native.Mathlib.Omega.{arith}
+use mathlib.Core.Bool.{Bool, true, false, _&&_, _||_, false≢true}
 
 pub true-or-false : (t : Bool) → (t ≡ true) ⊎ (t ≡ false)
 true-or-false true = inl refl
@@ -36,4 +34,4 @@ or-true false b e = inr e
 
 -- a test says one thing
 pub not-both : (t : Bool) → t ≡ true → t ≡ false → ⊥
-not-both t p q = let z : _≡_ {A = ℕ} 0 1 = cc in omega arith
+not-both t p q = false≢true (sym q ∙ p)

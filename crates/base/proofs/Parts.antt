@@ -1,13 +1,12 @@
 -- Parts of a slice as lists, and lists stored into one.
 -- Assumes nothing.
-use mathlib.Core.Path.{_≡_, refl, sym, ap, _∙_}
+use mathlib.Core.Path.{_≡_, sym, ap, _∙_}
 use mathlib.Core.List.{List, [], _∷_, _++_}
 use Prim.Native.Nat.{ℕ, zero, suc, _+_, _-_, _≤_}
 use native.Mathlib.Nat.{add-zero, add-suc, suc-add, le-of-eq}
-use native.Mathlib.Omega.{arith}
 use lib.Dec.{lit<}
-use lib.ListN.{length, take, drop, set, length-drop}
-use lib.Seq.{sets, take-all, getD-drop, drop-append-seam}
+use lib.ListN.{length, take, drop, set, length-drop, drop-of-length-le}
+use lib.Seq.{sets, take-all, getD-drop}
 use Rattle.base.specs.BigEndian.{Bytes}
 
 -- `&s[k..]`
@@ -16,15 +15,7 @@ rest-is k s = take-all (length s - k) (drop k s) (le-of-eq (length-drop k s))
 
 -- nothing is left past the end
 pub drop-past : (s : List ℕ) (at : ℕ) → length s ≤ at → drop at s ≡ []
-drop-past s at h = none (drop at s) (omega (arith, length-drop at s))
-  where
-    none : (l : List ℕ) → length l ≡ 0 → l ≡ []
-    none [] e = refl
-    none (x ∷ l) e = absurd (omega arith)
-
--- equal fronts leave equal rests
-pub cancel : (h s t : List ℕ) → h ++ s ≡ h ++ t → s ≡ t
-cancel h s t e = sym (drop-append-seam h s) ∙ ap (drop (length h)) e ∙ drop-append-seam h t
+drop-past s at h = drop-of-length-le s h
 
 -- parts of bytes are bytes
 pub bytes-drop : (n : ℕ) (s : List ℕ) → Bytes s → Bytes (drop n s)

@@ -17,7 +17,8 @@ use Rattle.cbor.specs.declared.head.HeadRead.{HeadRead}
 use Rattle.cbor.specs.declared.item.Common.{Common}
 use Rattle.cbor.specs.declared.item.Step.{Step}
 use Rattle.cbor.specs.Head.{widthOf, leastOf, initialOf, argOf, judged, headFrom, headBy, headOf, headAt}
-use Rattle.cbor.specs.Item.{opens, stepOf, stepFrom, stepAt, CommonIs}
+use Rattle.cbor.specs.Item.{opens, stepOf, stepFrom, stepAt}
+use Rattle.cbor.specs.Turn.{CommonIs}
 
 -- ---- heads by their first byte and what follows it
 judged-short : (major arg : ℕ) → judged major arg 0 ≡ HeadRead.Head major arg 1

@@ -22,7 +22,6 @@ use Rattle.cbor.specs.Head.{headAt}
 use Rattle.cbor.specs.Item.{opens, stepOf, stepFrom, stepAt, itemsOf, leftUnder, next, run, firstItem}
 use Rattle.cbor.specs.Token.{nothingAt, tokenOf, tokenFrom, tokenAt, sizeFrom, sizeAt}
 use Rattle.cbor.proofs.Runs.{runs, runs-end, runs-close, runs-step}
-use Rattle.cbor.proofs.Within.{never}
 use Rattle.cbor.proofs.Tokens.{token-has}
 
 -- the walk passes over n items, from p to e of s, wherever s stands and whatever is open around them, where so many levels may open
@@ -164,7 +163,7 @@ module _ (left most from e k : ℕ) (s stack : List ℕ) where
       → next (run left f) p (drop p s) (above ++ c ∷ []) x ≡ ItemRead.Ends e
       → next (runs most) (from + p) (drop p s) (above ++ (c + k) ∷ stack) x ≡ runs most (from + e) (drop e s) (k ∷ stack)
   unfolding next
-  stepped f p c above (Step.Refused number place) go q = absurd (never number _ e q)
+  stepped f p c above (Step.Refused number place) go q = cc
   stepped f p c above (Step.Passed len) go q = rw (add-assoc from p len, drop-drop len p s) (go len [] (rw (drop-drop len p s) at q))
   stepped f p c above (Step.Opened len n pairs) go q = rw (add-assoc from p len, drop-drop len p s) (go len (itemsOf n pairs ∷ []) (rw (drop-drop len p s) at q))
 
@@ -172,8 +171,8 @@ module _ (left most from e k : ℕ) (s stack : List ℕ) where
     -- turn by turn
     around : (f p : ℕ) (above : List ℕ) (c : ℕ) → run left f p (drop p s) (above ++ c ∷ []) ≡ ItemRead.Ends e → Around p above c
     unfolding run
-    around zero p above c q = absurd (never 0 0 e q)
-    around (suc zero) p [] zero q = absurd (never 0 0 e q)
+    around zero p above c q = cc
+    around (suc zero) p [] zero q = cc
     around (suc (suc f)) p [] zero q =
         let same : p ≡ e = cc in
         rw (zero-add k, same)

@@ -12,7 +12,8 @@ use lib.ListN.{replicate, length, drop, set, getD, length-drop, length-set}
 use lib.Seq.{getD-set-same, getD-set-other, drop-drop}
 use Rattle.cbor.specs.declared.item.Step.{Step}
 use Rattle.cbor.specs.declared.item.ItemRead.{ItemRead}
-use Rattle.cbor.specs.Item.{stepAt, itemsOf, Counts, leftUnder, next, firstItem}
+use Rattle.cbor.specs.Item.{stepAt, itemsOf, leftUnder, next, firstItem}
+use Rattle.cbor.specs.Turn.{Counts}
 use Rattle.cbor.proofs.Bounds.{StepOk, step-ok}
 use Rattle.cbor.proofs.Runs.{runs, runs-end, runs-close, runs-step, runs-many}
 

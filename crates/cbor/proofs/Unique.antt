@@ -1,11 +1,10 @@
 -- Different items have different encodings, and none is the start of another's.
 -- Assumes nothing.
 use mathlib.Core.Path.{_≡_, refl, sym, ap, ap₂, _∙_, subst₃}
-use mathlib.Core.List.{List, _++_, append-assoc}
+use mathlib.Core.List.{List, _++_, append-assoc, append-cancel-left}
 use mathlib.Core.Bool.{true, false}
 use Prim.Native.Nat.{ℕ, _+_, _*_, _/_}
 use native.Mathlib.Omega.{arith}
-use Rattle.base.proofs.Parts.{cancel}
 use lib.ListN.{length, take, drop}
 use lib.Seq.{take-at, drop-at}
 use Rattle.cbor.specs.declared.head.HeadRead.{HeadRead}
@@ -133,5 +132,5 @@ mutual
       sym (append-assoc (encode x) (encodes xs) r) ∙ e ∙ append-assoc (encode y) (encodes ys) r′ in
       let p : x ≡ y = unique x y (encodes xs ++ r) (encodes ys ++ r′) (g .0) (g′ .0) q in
       let rest : encodes xs ++ r ≡ encodes ys ++ r′ =
-      cancel (encode x) (encodes xs ++ r) (encodes ys ++ r′) (q ∙ ap (λ (z : Item). encode z ++ (encodes ys ++ r′)) (sym p)) in
+      append-cancel-left (encode x) (encodes xs ++ r) (encodes ys ++ r′) (q ∙ ap (λ (z : Item). encode z ++ (encodes ys ++ r′)) (sym p)) in
       ap₂ Items.more p (uniques xs ys r r′ (g .1) (g′ .1) (omega arith) rest)

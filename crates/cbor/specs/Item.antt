@@ -1,17 +1,13 @@
 -- The first whole item at the start of some bytes. The heads are read from left to right. A stack has, for each array, map and
 -- tag that is open, how many items it still lacks, the innermost first; under them all stands the one item that is looked for.
-use Prim.Native.Nat.{ℕ, zero, suc, _+_, _-_, _*_, _^_, _≤_}
+use Prim.Native.Nat.{ℕ, zero, suc, _+_, _-_, _*_}
 use mathlib.Core.List.{List, [], _∷_}
 use mathlib.Core.Bool.{Bool, true, false}
-use mathlib.Core.Path.{_≡_}
-use mathlib.Core.Logic.{_⊎_}
 use lib.ListN.{length, drop}
 use lib.Dec.{leb, eqb}
 use Rattle.base.specs.Pick.{pick}
 use Rattle.cbor.specs.declared.head.HeadRead.{HeadRead}
-use Rattle.cbor.specs.declared.item.Common.{Common}
 use Rattle.cbor.specs.declared.item.Step.{Step}
-use Rattle.cbor.specs.declared.item.Turn.{Turn}
 use Rattle.cbor.specs.declared.item.ItemRead.{ItemRead}
 use Rattle.cbor.specs.Head.{headAt}
 
@@ -46,22 +42,6 @@ stepAt left s = stepFrom left (length s) (headAt s)
 -- n items, or n pairs of items
 unfoldable pub itemsOf : ℕ → Bool → ℕ
 itemsOf n pairs = pick pairs (2 * n) n
-
--- m is how many items they are, or both are at least 2^63, which is more than any slice has bytes
-unfoldable pub Counts : ℕ → Bool → ℕ → Type 0
-Counts n pairs m = (m ≡ itemsOf n pairs) ⊎ ((2 ^ 63 ≤ m) × (2 ^ 63 ≤ itemsOf n pairs))
-
--- a step with its items counted
-unfoldable pub TurnIs : Step → Turn → Type 0
-TurnIs step (Turn.Passed len) = step ≡ Step.Passed len
-TurnIs step (Turn.Opened len m) = (n : ℕ) × (pairs : Bool) × (step ≡ Step.Opened len n pairs) × Counts n pairs m
-TurnIs step (Turn.Refused number place) = step ≡ Step.Refused number place
-
--- what is said of a common head is what `stepAt` gives
-unfoldable pub CommonIs : ℕ → List ℕ → Common → Type 0
-CommonIs left s (Common.Passed len) = stepAt left s ≡ Step.Passed len
-CommonIs left s (Common.Opened n) = (m : ℕ) × (pairs : Bool) × (stepAt left s ≡ Step.Opened 1 m pairs) × (n ≡ itemsOf m pairs)
-CommonIs left s Common.Other = Unit {0}
 
 -- where the walk goes on, at a position and with the bytes from there
 unfoldable pub next : (ℕ → List ℕ → List ℕ → ItemRead) → ℕ → List ℕ → List ℕ → Step → ItemRead

@@ -4,7 +4,8 @@ ghost use mathlib.Core.List.{List, _∷_};
 ghost use mathlib.Core.Logic.{_≢_};
 ghost use Prim.Native.Nat.{ℕ, _+_, _≤_};
 ghost use lib.ListN.{length, drop};
-ghost use Rattle.cbor.specs.Item.{Counts, TurnIs, CommonIs, opens, stepOf, stepAt, leftUnder, firstItem};
+ghost use Rattle.cbor.specs.Item.{opens, stepOf, stepAt, leftUnder, firstItem};
+ghost use Rattle.cbor.specs.Turn.{Counts, TurnIs, CommonIs};
 use crate::head;
 use crate::head::HeadRead;
 

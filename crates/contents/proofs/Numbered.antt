@@ -1,8 +1,6 @@
 -- The digits of a number at the end of a line.
 -- Assumes nothing.
-use Prim.Native.Nat.{ℕ, suc, _+_}
-use native.Mathlib.Omega.{arith}
-use mathlib.Core.Path.{_≡_}
+use Prim.Native.Nat.{ℕ}
 use mathlib.Core.List.{List, [], _∷_, _++_}
 use mathlib.Core.Bool.{Bool, true, false}
 use lib.Dec.{ltb}
@@ -19,10 +17,3 @@ by-digits P one two three n = by (ltb n 10) (ltb n 100) _ _ _ _ _ _
     by true u a b c d e f = one a
     by false true a b c d e f = two b c
     by false false a b c d e f = three d e f
-
--- ---- places one after the other
-pub two-on : (n : ℕ) → n + 2 ≡ suc (suc n)
-two-on n = omega arith
-
-pub three-on : (n : ℕ) → n + 3 ≡ suc (suc (suc n))
-three-on n = omega arith

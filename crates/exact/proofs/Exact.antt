@@ -17,10 +17,9 @@ use Rattle.message.specs.declared.Reading.{Reading}
 use Rattle.message.specs.Read.{judgedShape, readPlaced, placeless, readOf}
 use Rattle.exact.specs.Describes.{Describes}
 use Rattle.exact.specs.Accepted.{IsMessage, Accepted}
-use Rattle.exact.proofs.Bytes.{bytes-encode}
 use Rattle.exact.proofs.Once.{message-one}
 use Rattle.exact.proofs.Described.{described-once}
-use Rattle.exact.proofs.Whole.{stands, only-one}
+use Rattle.exact.proofs.Whole.{stands, one-bytes, only-one}
 use Rattle.exact.proofs.Answers.{message-shape, Answer, answer}
 
 -- an answer that is a message
@@ -48,7 +47,7 @@ accepted-exactly s b = (
 
 -- Accepted bytes are bytes.
 pub accepted-bytes : (s : List ℕ) → Accepted s → Bytes s
-accepted-bytes s a = subst Bytes (a .message .one .bytes) (bytes-encode (a .message .one .item) (a .message .one .good))
+accepted-bytes s a = one-bytes (a .message .one)
 
 -- Bytes are one message only.
 pub message-once : (s : List ℕ) (a b : IsMessage s) → (a .one .item ≡ b .one .item) × (a .msg ≡ b .msg)

@@ -4,7 +4,6 @@ use mathlib.Core.Path.{_≡_, refl, sym, ap, ap₂, subst}
 use mathlib.Core.List.{List, _∷_}
 use mathlib.Core.Option.{Option, some}
 use Prim.Native.Nat.{ℕ}
-use native.Mathlib.Omega.{arith}
 use Rattle.cbor.specs.Tree.{Item, Items}
 use Rattle.syntax.specs.Message.{Loc, Obj, Aim, Ending, Msg}
 use Rattle.grammar.specs.Cddl.{uint, joined, Number, Initiator, LocatorItem, LocatorItems, ObjectiveItem, OptionalItems, AimItems, EndingItem, MessageItem, Value}
@@ -41,18 +40,14 @@ over P {b = b} e i = subst (λ z. P z b) e i
 same-first : {x y : Item} {xs ys : Items} → Items.more x xs ≡ Items.more y ys → (x ≡ y) × (xs ≡ ys)
 same-first e = (cc, cc)
 
--- no items are not some
-filled : {x : Item} {xs : Items} → Items.done ≡ Items.more x xs → ⊥
-filled e = let z : _≡_ {A = ℕ} 0 1 = cc in omega arith
-
 -- locators, and then an objective or none: what follows the locators is no locator
 aimed-one : {xs ys xs′ ys′ : Items} {ls ls′ : List Loc} {o o′ : Option (Obj Value)} → LocatorItems xs ls → OptionalItems ys o → LocatorItems xs′ ls′ → OptionalItems ys′ o′
     → joined xs ys ≡ joined xs′ ys′ → (ls ≡ ls′) × (o ≡ o′)
 aimed-one LocatorItems.empty i LocatorItems.empty i′ e = (refl, optional-one i (over OptionalItems (sym e) i′))
-aimed-one LocatorItems.empty OptionalItems.without (LocatorItems.more l ls) i′ e = absurd (filled e)
+aimed-one LocatorItems.empty OptionalItems.without (LocatorItems.more l ls) i′ e = (cc, cc)
 aimed-one LocatorItems.empty (OptionalItems.with-one i) (LocatorItems.more l ls) i′ e =
     absurd (not-both l (over ObjectiveItem (same-first e .0) i))
-aimed-one (LocatorItems.more l ls) i LocatorItems.empty OptionalItems.without e = absurd (filled (sym e))
+aimed-one (LocatorItems.more l ls) i LocatorItems.empty OptionalItems.without e = (cc, cc)
 aimed-one (LocatorItems.more l ls) i LocatorItems.empty (OptionalItems.with-one i′) e =
     absurd (not-both l (over ObjectiveItem (sym (same-first e .0)) i′))
 aimed-one (LocatorItems.more l ls) i (LocatorItems.more l′ ls′) i′ e =

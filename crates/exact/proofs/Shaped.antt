@@ -4,7 +4,7 @@ use mathlib.Core.Path.{_≡_, refl, sym, ap, _∙_, subst}
 use mathlib.Core.Logic.{_⊎_, inl, inr, _≢_}
 use mathlib.Core.List.{List, _++_, append-assoc}
 use mathlib.Core.Bool.{true, false}
-use Prim.Native.Nat.{ℕ, suc, _/_, _≤_, _<_, zero-le}
+use Prim.Native.Nat.{ℕ, suc, _/_, _≤_, _<_}
 use native.Mathlib.Decide.{decLt}
 use native.Mathlib.Omega.{arith}
 use lib.ListN.{length, drop}
@@ -39,13 +39,7 @@ use Rattle.exact.proofs.Response.{response-sound, response-complete}
 use Rattle.exact.proofs.Flood.{flood-sound, flood-complete}
 
 -- ---- from what was read to the message
--- a known kind that is none of those tested before
-up : {n k : ℕ} → n ≤ k → k ≢ n → suc n ≤ k
-up h other = omega arith
-
-down : {n k : ℕ} → k ≤ suc n → k ≢ suc n → k ≤ n
-down h other = omega arith
-
+-- a known kind that isn't 99
 low : {k : ℕ} → (k ≤ 9) ⊎ (k ≡ 99) → k ≢ 99 → k ≤ 9
 low (inl h) other = h
 low (inr h) other = absurd (other h)
@@ -61,8 +55,8 @@ shape-sound {s} {kind} {n} {at} k known =
     (λ e₆. pick-case Ok _ (λ e. wait-sound (of-kind 7 (eqb-true kind 7 e)))
     (λ e₇. pick-case Ok _ (λ e. flood-sound (of-kind 9 (eqb-true kind 9 e)))
     (λ e₉. pick-case Ok _ (λ e. invalid-sound (of-kind 99 (eqb-true kind 99 e)))
-    (λ e₉₉. exchange (up (up (up zero-le (eqb-false kind 0 e₀)) (eqb-false kind 1 e₁)) (eqb-false kind 2 e₂))
-    (down (low known (eqb-false kind 99 e₉₉)) (eqb-false kind 9 e₉)) (λ six. up (up six (eqb-false kind 6 e₆)) (eqb-false kind 7 e₇)))))))))
+    (λ e₉₉. exchange (omega (arith, eqb-false kind 0 e₀, eqb-false kind 1 e₁, eqb-false kind 2 e₂))
+    (omega (arith, low known (eqb-false kind 99 e₉₉), eqb-false kind 9 e₉)) (λ six. omega (arith, eqb-false kind 6 e₆, eqb-false kind 7 e₇)))))))))
   where
     Ok : Shape → Type 0
     Ok = ShapeOk s

@@ -48,10 +48,6 @@ use Rattle.message.specs.Read.{byKind, judgedShape, examined}
 use Rattle.message.proofs.Parts.{initiated}
 use Rattle.exact.proofs.Whole.{partLevels}
 
--- a refusal is no message
-refused-accepted : {number place end : ℕ} {m : Message} → E.Refused number place ≡ E.Accepted m end → ⊥
-refused-accepted e = let z : _≡_ {A = ℕ} 0 1 = cc in omega arith
-
 -- what has items has some
 array-filled : (t : Token) → (itemsIn t ≡ 0 → ⊥) → 1 ≤ t .arg
 unfolding itemsIn
@@ -338,9 +334,9 @@ module _ (s : List ℕ) where
     -- which are those of a message that is accepted
     judged-walked : {m : Message} {end : ℕ} {x : Shape} → ShapeWalked (tokenAt s 0 .arg - 1) (tokenAt s (tokenAt s 0 .next) .next) x → judgedShape x ≡ E.Accepted m end → firstItem 0 s ≡ ItemRead.Ends end
     unfolding judgedShape
-    judged-walked ShapeWalked.refused = λ q. absurd (refused-accepted q)
+    judged-walked ShapeWalked.refused = λ q. cc
     judged-walked {m} {end} (ShapeWalked.walked {end = end′} h) =
-        both P _ (both P _ (λ q. let same : end′ ≡ end = cc in whole-walked h ∙ ap ItemRead.Ends same) (λ q. absurd (refused-accepted q))) (λ q. absurd (refused-accepted q))
+        both P _ (both P _ (λ q. let same : end′ ≡ end = cc in whole-walked h ∙ ap ItemRead.Ends same) (λ q. cc)) (λ q. cc)
       where
         P : Examined → Type 0
         P x = x ≡ E.Accepted m end → firstItem 0 s ≡ ItemRead.Ends end
@@ -349,12 +345,12 @@ module _ (s : List ℕ) where
 pub parts-walked : (s : List ℕ) {m : Message} {end : ℕ} → examined s ≡ E.Accepted m end → firstItem 0 s ≡ ItemRead.Ends end
 unfolding examined
 parts-walked s {m} {end} =
-    pick-case P _ (λ _ q. absurd (refused-accepted q))
+    pick-case P _ (λ _ q. cc)
     (λ filled. pick-case P _
     (λ number.
     let read = judged-walked s (eqb-false (itemsIn (tokenAt s 0)) 0 filled) (eqb-true (tokenAt s (tokenAt s 0 .next) .major) 0 number) (kind-walked s _ _ _) in
-    both P _ (both P _ read (λ q. absurd (refused-accepted q))) read)
-    (λ _ q. absurd (refused-accepted q)))
+    both P _ (both P _ read (λ q. cc)) read)
+    (λ _ q. cc))
   where
     P : Examined → Type 0
     P x = x ≡ E.Accepted m end → firstItem 0 s ≡ ItemRead.Ends end

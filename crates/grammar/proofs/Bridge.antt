@@ -5,7 +5,7 @@ use mathlib.Core.Path.{_≡_, refl, sym, ap, ap₂, _∙_, subst}
 use mathlib.Core.Logic.{_⊎_, inl, inr}
 use mathlib.Core.List.{List, _++_, append-assoc}
 use mathlib.Core.Bool.{Bool, true, false, cond}
-use Prim.Native.Nat.{ℕ, _+_, _-_, _/_, _^_, _≤_, _<_}
+use Prim.Native.Nat.{ℕ, _+_, _-_, _^_, _≤_, _<_}
 use native.Mathlib.Nat.{add-zero, add-assoc}
 use native.Mathlib.Omega.{arith}
 use lib.ListN.{length, take, drop, length-append, length-drop, take-append-drop}
@@ -86,19 +86,16 @@ stands-once {s} {e = e} {e′} {x} {y} a b = unique x y (drop e s) (drop e′ s)
 
 -- an item has bytes
 pub advances : {s : List ℕ} {p e : ℕ} {x : Item} → Stands s p e x → p < e
-unfolding encode
+unfolding encode headBytes
 advances {x = x} a = omega (arith, a .end, some x)
   where
-    headed : (major width arg : ℕ) (r : List ℕ) → 1 ≤ length (headBytes major width arg ++ r)
-    headed major width arg r = omega (arith, length-append (headBytes major width arg) r, length-head major width arg)
-
     some : (x : Item) → 1 ≤ length (encode x)
-    some (Item.number t w n) = omega (arith, length-head (cond t 1 0) w n)
-    some (Item.string t w bs) = headed (cond t 3 2) w (length bs) bs
-    some (Item.array w xs) = headed 4 w (count xs) (encodes xs)
-    some (Item.map w xs) = headed 5 w (count xs / 2) (encodes xs)
-    some (Item.tagged w n x) = headed 6 w n (encode x)
-    some (Item.simple w n) = omega (arith, length-head 7 w n)
+    some (Item.number t w n) = omega arith
+    some (Item.string t w bs) = omega arith
+    some (Item.array w xs) = omega arith
+    some (Item.map w xs) = omega arith
+    some (Item.tagged w n x) = omega arith
+    some (Item.simple w n) = omega arith
 
 -- ---- a part of the message from `base` on, and the message
 pub lift : {m : List ℕ} (base : ℕ) {p e : ℕ} {x : Item} → Stands (drop base m) p e x → Stands m (base + p) (base + e) x

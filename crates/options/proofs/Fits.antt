@@ -235,14 +235,19 @@ abbrev pub PairOk : ℕ → ℕ → PairRead → Type 0
 PairOk base room (PairRead.Bad place) = Unit {0}
 PairOk base room (PairRead.Got o t size bad long) = ObjectiveParts (base + room) o × (6 ≤ size) × (size ≤ room) × (base ≤ o .«count_at»)
 
+-- at a place
+pub locator-within : (s : List ℕ) (base at : ℕ) (r x : LocatorRead) → r ≡ locatorIn base (drop at s) → r ≡ x → LocatorOk (length s - at) x
+locator-within s base at r x e q = rw (length-drop at s) at (subst (LocatorOk (length (drop at s))) (sym e ∙ q) (locator-ok base (drop at s)))
+
+pub objective-within : (levels : ℕ) (s : List ℕ) (base at : ℕ) (r x : ObjectiveRead) → r ≡ objectiveIn levels base (drop at s) → r ≡ x → ObjectiveOk base (length s - at) x
+objective-within levels s base at r x e q = rw (length-drop at s) at (subst (ObjectiveOk base (length (drop at s))) (sym e ∙ q) (objective-ok levels base (drop at s)))
+
 -- at a part
 pub locator-fits : (s : List ℕ) (base at : ℕ) (r x : LocatorRead) → r ≡ locatorIn base (take (length s - at) (drop at s)) → r ≡ x → LocatorOk (length s - at) x
-locator-fits s base at r x e q =
-    rw (length-drop at s) at (subst (LocatorOk (length (drop at s))) (ap (locatorIn base) (sym (rest-is at s)) ∙ sym e ∙ q) (locator-ok base (drop at s)))
+locator-fits s base at r x e q = locator-within s base at r x (e ∙ ap (locatorIn base) (rest-is at s)) q
 
 pub objective-fits : (levels : ℕ) (s : List ℕ) (base at : ℕ) (r x : ObjectiveRead) → r ≡ objectiveIn levels base (take (length s - at) (drop at s)) → r ≡ x → ObjectiveOk base (length s - at) x
-objective-fits levels s base at r x e q =
-    rw (length-drop at s) at (subst (ObjectiveOk base (length (drop at s))) (ap (objectiveIn levels base) (sym (rest-is at s)) ∙ sym e ∙ q) (objective-ok levels base (drop at s)))
+objective-fits levels s base at r x e q = objective-within levels s base at r x (e ∙ ap (objectiveIn levels base) (rest-is at s)) q
 
 -- what a `match` has found
 pub tail-found : (base : ℕ) (s : List ℕ) (at : ℕ) (o : Objective) (bad long : ℕ) (t : Token) (b : Bool) (r x : LocatorRead)
@@ -256,13 +261,6 @@ pub pair-found : (base : ℕ) (s : List ℕ) (a : Token) (n : ℕ) (r x : Object
     → pairLed base s (a .arg) (a .next) x ≡ pairIn base s
 unfolding pairIn pick
 pair-found base s a n r x e f g h q = rw (← e, ← f, ne-eqb n 0 g, ← rest-is (a .next) s, ← h, q)
-
--- the same, said of the rest of the bytes
-pub locator-within : (s : List ℕ) (base at : ℕ) (r x : LocatorRead) → r ≡ locatorIn base (drop at s) → r ≡ x → LocatorOk (length s - at) x
-locator-within s base at r x e q = rw (length-drop at s) at (subst (LocatorOk (length (drop at s))) (sym e ∙ q) (locator-ok base (drop at s)))
-
-pub objective-within : (levels : ℕ) (s : List ℕ) (base at : ℕ) (r x : ObjectiveRead) → r ≡ objectiveIn levels base (drop at s) → r ≡ x → ObjectiveOk base (length s - at) x
-objective-within levels s base at r x e q = rw (length-drop at s) at (subst (ObjectiveOk base (length (drop at s))) (sym e ∙ q) (objective-ok levels base (drop at s)))
 
 -- what the test of an empty array says
 pub empty-is : (t : Token) → isEmpty t ≡ true → (t .major ≡ 4) × (t .arg ≡ 0)

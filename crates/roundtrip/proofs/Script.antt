@@ -1,7 +1,7 @@
 -- What the writer writes, as a list of its pieces, and how two such lists that spell the same bytes agree from left to right.
 -- Assumes nothing.
 use mathlib.Core.Path.{_≡_, refl, sym, ap, ap₂, _∙_}
-use mathlib.Core.List.{List, [], _∷_, _++_, append-assoc}
+use mathlib.Core.List.{List, [], _∷_, _++_, append-assoc, append-cancel-left}
 use mathlib.Core.Option.{Option}
 use Prim.Native.Nat.{ℕ, _+_, _*_, _^_, _≤_, _<_}
 use native.Mathlib.Decide.{decLt}
@@ -11,7 +11,6 @@ use lib.ListN.{length, take, drop, getD, length-append}
 use lib.Seq.{take-at, drop-at}
 use borrow.Author.Tests.{lt-ltb}
 use Rattle.base.specs.Pick.{pick}
-use Rattle.base.proofs.Parts.{cancel}
 use Rattle.cbor.specs.declared.head.HeadRead.{HeadRead}
 use Rattle.cbor.specs.Head.{widthOf, headAt}
 use Rattle.cbor.specs.Item.{mostLevels}
@@ -153,7 +152,7 @@ string-next {major} {bs} {bs′} {ts} {ts′} l =
     let (_, long) = head-same major major (length bs) (length bs′) (bs ++ spells ts) (bs′ ++ spells ts′) e (string-small l) in
     let rest = head-rest major major (length bs) (length bs′) (bs ++ spells ts) (bs′ ++ spells ts′) e in
     let same : bs ≡ bs′ = sym (take-at bs (spells ts) (length bs) refl) ∙ ap (take (length bs)) rest ∙ take-at bs′ (spells ts′) (length bs) (sym long) in
-    (same, rest-like l (cancel bs (spells ts) (spells ts′) (rest ∙ ap (λ (k : List ℕ). k ++ spells ts′) (sym same))))
+    (same, rest-like l (append-cancel-left bs (spells ts) (spells ts′) (rest ∙ ap (λ (k : List ℕ). k ++ spells ts′) (sym same))))
 
 -- an array's head is not nothing
 pub array-none : {n : ℕ} {ts : List Piece} → Like (Piece.array n ∷ ts) [] → ⊥
@@ -197,7 +196,7 @@ number-null n r r′ e = omega (arith, ap (λ (l : List ℕ). getD l 0 0) e, inf
 -- a number or null passed
 pub perhaps-next : {p p′ : Option ℕ} {ts ts′ : List Piece} → Each Small p → Like (perhaps p ∷ ts) (perhaps p′ ∷ ts′) → (p ≡ p′) × Like ts ts′
 unfolding spells spell
-perhaps-next {p = Option.none} {p′ = Option.none} {ts} {ts′} h l = (refl, rest-like l (cancel (0xf6 ∷ []) (spells ts) (spells ts′) (l .same)))
+perhaps-next {p = Option.none} {p′ = Option.none} {ts} {ts′} h l = (refl, rest-like l (append-cancel-left (0xf6 ∷ []) (spells ts) (spells ts′) (l .same)))
 perhaps-next {p = Option.none} {p′ = Option.some n} {ts} {ts′} h l = absurd (number-null n (spells ts′) (spells ts) (sym (l .same)))
 perhaps-next {p = Option.some n} {p′ = Option.none} {ts} {ts′} h l = absurd (number-null n (spells ts) (spells ts′) (l .same))
 perhaps-next {p = Option.some n} {p′ = Option.some n′} h l = let (e, r) = number-next h l in (ap Option.some e, r)
@@ -210,4 +209,4 @@ value-next Valued.none (Valued.one x g d) e l = absurd (omega (arith, e ∙ has-
 value-next (Valued.one x g d) Valued.none e l = absurd (omega (arith, sym e ∙ has-bytes x))
 value-next {ts = ts} {ts′} (Valued.one x g d) (Valued.one x′ g′ d′) e l =
     let same : x ≡ x′ = unique x x′ (spells ts) (spells ts′) g g′ (l .same) in
-    (ap encode same, rest-like l (cancel (encode x) (spells ts) (spells ts′) (l .same ∙ ap (λ (y : Item). encode y ++ spells ts′) (sym same))))
+    (ap encode same, rest-like l (append-cancel-left (encode x) (spells ts) (spells ts′) (l .same ∙ ap (λ (y : Item). encode y ++ spells ts′) (sym same))))

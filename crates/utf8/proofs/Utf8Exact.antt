@@ -2,9 +2,8 @@
 -- Assumes nothing.
 use mathlib.Core.Path.{_≡_, refl, sym, ap, ap₂, _∙_}
 use mathlib.Core.Logic.{_↔_}
-use Rattle.base.proofs.Parts.{cancel}
 use mathlib.Core.Bool.{Bool, true, false, false≢true}
-use mathlib.Core.List.{List, [], _∷_, _++_}
+use mathlib.Core.List.{List, [], _∷_, _++_, append-cancel-left}
 use Prim.Native.Nat.{ℕ, zero, suc, _<_, _≤_}
 use native.Mathlib.Omega.{arith}
 use borrow.Author.Tests.{ltb-true, ltb-false, eqb-true, eqb-false}
@@ -87,4 +86,4 @@ utf8-unique [] (d ∷ ds) e = absurd (omega (arith, some-bytes d (textBytes ds),
 utf8-unique (c ∷ cs) [] e = absurd (omega (arith, some-bytes c (textBytes cs), ap length e))
 utf8-unique (c ∷ cs) (d ∷ ds) e =
     let q : c ≡ d = sym (first-is c (textBytes cs)) ∙ ap firstOf e ∙ first-is d (textBytes ds) in
-    ap₂ (λ (x : ℕ) (xs : List ℕ). x ∷ xs) q (utf8-unique cs ds (cancel (scalarBytes d) (textBytes cs) (textBytes ds) (rw q at e)))
+    ap₂ (λ (x : ℕ) (xs : List ℕ). x ∷ xs) q (utf8-unique cs ds (append-cancel-left (scalarBytes d) (textBytes cs) (textBytes ds) (rw q at e)))

@@ -4,7 +4,8 @@ use mathlib.Core.Path.{refl}
 use mathlib.Core.Bool.{false}
 use native.Mathlib.Omega.{arith}
 use Rattle.base.specs.Pick.{pick}
-use Rattle.cbor.specs.Item.{CommonIs, itemsOf}
+use Rattle.cbor.specs.Item.{itemsOf}
+use Rattle.cbor.specs.Turn.{CommonIs}
 use Rattle.cbor.proofs.Common.{small-passed, string-passed, array-opened, by-byte}
 use borrow.Author.Needs.{needs}
 use Rattle.cbor.proofs.item.common_at.Statement.{statement}

@@ -1,7 +1,7 @@
 -- `cbor::item::common_number` meets its contract.
 -- Assumes nothing.
 use native.Mathlib.Omega.{arith}
-use Rattle.cbor.specs.Item.{CommonIs}
+use Rattle.cbor.specs.Turn.{CommonIs}
 use Rattle.cbor.proofs.Common.{byte-passed, two-passed}
 use borrow.Author.Needs.{needs}
 use Rattle.cbor.proofs.item.common_number.Statement.{statement}

@@ -3,7 +3,8 @@
 use mathlib.Core.Path.{refl}
 use mathlib.Core.Bool.{true, false}
 use Rattle.base.specs.Pick.{pick}
-use Rattle.cbor.specs.Item.{CommonIs, itemsOf}
+use Rattle.cbor.specs.Item.{itemsOf}
+use Rattle.cbor.specs.Turn.{CommonIs}
 use Rattle.cbor.proofs.Common.{map-opened, tag-opened, simple-passed}
 use borrow.Author.Needs.{needs}
 use Rattle.cbor.proofs.item.common_other.Statement.{statement}

@@ -10,7 +10,8 @@ use borrow.Author.Needs.{needs}
 use lib.ListN.{length, drop}
 use Rattle.cbor.specs.declared.item.Step.{Step}
 use Rattle.cbor.specs.declared.item.Turn.{Turn}
-use Rattle.cbor.specs.Item.{stepAt, Counts, TurnIs}
+use Rattle.cbor.specs.Item.{stepAt}
+use Rattle.cbor.specs.Turn.{Counts, TurnIs}
 use Rattle.cbor.proofs.Bounds.{StepOk}
 use Rattle.cbor.proofs.Turn.{Inv, begun, done, closed, fits, refused, passed, opened}
 use Rattle.cbor.proofs.item.first.Statement.{statement}

@@ -3,7 +3,8 @@
 use mathlib.Core.Logic.{inl, inr}
 use native.Mathlib.Omega.{arith}
 use Rattle.base.specs.Pick.{pick}
-use Rattle.cbor.specs.Item.{itemsOf, Counts}
+use Rattle.cbor.specs.Item.{itemsOf}
+use Rattle.cbor.specs.Turn.{Counts}
 use borrow.Author.Needs.{needs}
 use Rattle.cbor.proofs.item.items.Statement.{statement}
 use Rattle.cbor.proofs.item.items.Tie as tie

@@ -5,7 +5,8 @@ use mathlib.Core.Logic.{inl}
 use lib.ListN.{drop}
 use Rattle.base.proofs.Parts.{rest-is}
 use Rattle.cbor.specs.declared.item.Step.{Step}
-use Rattle.cbor.specs.Item.{stepAt, Counts, TurnIs, CommonIs}
+use Rattle.cbor.specs.Item.{stepAt}
+use Rattle.cbor.specs.Turn.{Counts, TurnIs, CommonIs}
 use borrow.Author.Needs.{needs}
 use Rattle.cbor.proofs.item.turn_at.Statement.{statement}
 use Rattle.cbor.proofs.item.turn_at.Tie as tie

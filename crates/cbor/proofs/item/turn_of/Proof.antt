@@ -1,6 +1,6 @@
 -- `cbor::item::turn_of` meets its contract.
 -- Assumes nothing.
-use Rattle.cbor.specs.Item.{TurnIs}
+use Rattle.cbor.specs.Turn.{TurnIs}
 use borrow.Author.Needs.{needs}
 use Rattle.cbor.proofs.item.turn_of.Statement.{statement}
 use Rattle.cbor.proofs.item.turn_of.Tie as tie

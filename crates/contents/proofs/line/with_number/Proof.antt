@@ -3,8 +3,7 @@
 use Rattle.base.specs.Pick.{pick}
 use Rattle.contents.specs.Line.{withText, numbered, decimal}
 use borrow.Author.Tests.{lt-ltb, le-ltb}
-use native.Mathlib.Numerals.{add-one}
-use Rattle.contents.proofs.Numbered.{two-on, three-on}
+use native.Mathlib.Numerals.{add-one, add-two, add-three}
 use borrow.Author.Needs.{needs}
 use Rattle.contents.proofs.line.with_number.Statement.{statement}
 use Rattle.contents.proofs.line.with_number.Tie as tie
@@ -56,7 +55,7 @@ add-t19 c = search needs
 
 returns-2 : tie.Need-returns-2
 unfolding withText numbered decimal pick
-returns-2 c = rw (le-ltb _ _ (c .before .if1 .left), lt-ltb _ _ (c .if2 .taken), add-one, two-on)
+returns-2 c = rw (le-ltb _ _ (c .before .if1 .left), lt-ltb _ _ (c .if2 .taken), add-one, add-two)
 
 array-write-bytes-6 : tie.Need-array-write-bytes-6
 array-write-bytes-6 c = search needs
@@ -84,7 +83,7 @@ add-t27 c = search needs
 
 returns-3 : tie.Need-returns-3
 unfolding withText numbered decimal pick
-returns-3 c = rw (le-ltb _ _ (c .before .if1 .left), le-ltb _ _ (c .if2 .left), add-one, two-on, three-on)
+returns-3 c = rw (le-ltb _ _ (c .before .if1 .left), le-ltb _ _ (c .if2 .left), add-one, add-two, add-three)
 
 pub with-number-spec : {M : Type 1} → statement M
 with-number-spec =
