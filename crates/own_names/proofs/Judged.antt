@@ -24,9 +24,9 @@ use Rattle.grammar.proofs.Pieces.{array-at}
 use Rattle.exact.proofs.Whole.{stands}
 use Rattle.exact.proofs.Answers.{walked}
 use Rattle.message.specs.Read.{mostBytes}
-use Rattle.names.specs.Names.{mostNames, goodNames, arrayBad, framedBad, namesBad, ownFrom, isOwn}
+use Rattle.names.specs.Names.{mostNames, goodNames, arrayBad, framedBad, namesBad, namedFrom, isNamed}
 use Rattle.own_names.specs.Own.{TextItems, TextArray, OwnNames}
-use Rattle.own_names.proofs.Texts.{texts-counted, texts-flat, names-sound, names-complete, own-sound, own-complete}
+use Rattle.own_names.proofs.Texts.{texts-counted, texts-flat, names-sound, names-complete, named-sound, named-complete}
 
 -- ---- own names are found good
 -- the array's token, and its texts
@@ -123,12 +123,12 @@ names-own {s} q =
 
 -- ---- a name among them
 module _ {s : List ℕ} (name : List ℕ) (o : OwnNames s) where
-  own-read : isOwn s name ≡ ownFrom s name (count (read o .items)) (tokenAt s 0 .next)
-  unfolding isOwn pick
-  own-read = rw (le-ltb mostNames (tokenAt s 0 .arg) (few-read o), ← read o .arg) refl
+  named-read : isNamed s name ≡ namedFrom s name (count (read o .items)) (tokenAt s 0 .next)
+  unfolding isNamed pick
+  named-read = rw (le-ltb mostNames (tokenAt s 0 .arg) (few-read o), ← read o .arg) refl
 
-  pub own-member : isOwn s name ≡ true → List·Memᴰ name (o .names)
-  own-member e = own-sound name (read o .are) (read o .stand) (sym own-read ∙ e)
+  pub named-member : isNamed s name ≡ true → List·Memᴰ name (o .names)
+  named-member e = named-sound name (read o .are) (read o .stand) (sym named-read ∙ e)
 
-  pub member-own : List·Memᴰ name (o .names) → isOwn s name ≡ true
-  member-own m = own-read ∙ own-complete name (read o .are) (read o .stand) m
+  pub member-named : List·Memᴰ name (o .names) → isNamed s name ≡ true
+  member-named m = named-read ∙ named-complete name (read o .are) (read o .stand) m

@@ -24,7 +24,7 @@ use Rattle.grammar.proofs.Bridge.{split, join, none, small-heading, text-token}
 use Rattle.grammar.proofs.Pieces.{text-at}
 use Rattle.exact.proofs.Bytes.{bytes-utf8}
 use Rattle.options.specs.Objective.{mostName}
-use Rattle.names.specs.Names.{goodName, goodNames, sameBytes, ownFrom}
+use Rattle.names.specs.Names.{goodName, goodNames, sameBytes, namedFrom}
 use Rattle.own_names.specs.Own.{TextItems}
 
 -- as many texts as items
@@ -143,25 +143,25 @@ same-self (x ∷ xs) = and-true (eqb x x) (sameBytes xs xs) (eq-eqb x x refl) (s
 pub same-complete : (a b : List ℕ) → a ≡ b → sameBytes a b ≡ true
 same-complete a b e = subst (λ (l : List ℕ). sameBytes a l ≡ true) e (same-self a)
 
-pub own-sound : {s : List ℕ} {p e : ℕ} {xs : Items} {names : List (List ℕ)} (name : List ℕ) → TextItems xs names → StandAll s p e xs
-    → ownFrom s name (count xs) p ≡ true → List·Memᴰ name names
-unfolding ownFrom count
-own-sound name TextItems.empty stand own = absurd (not-both false own refl)
-own-sound {s} {p} name (TextItems.more {xs = xs} are) stand own =
+pub named-sound : {s : List ℕ} {p e : ℕ} {xs : Items} {names : List (List ℕ)} (name : List ℕ) → TextItems xs names → StandAll s p e xs
+    → namedFrom s name (count xs) p ≡ true → List·Memᴰ name names
+unfolding namedFrom count
+named-sound name TextItems.empty stand own = absurd (not-both false own refl)
+named-sound {s} {p} name (TextItems.more {xs = xs} are) stand own =
     let c = split stand in
     let t = text-read (c .first) in
-    elim (or-true (sameBytes (contentIn s (tokenAt s p)) name) (ownFrom s name (count xs) (tokenAt s p .next)) own) [
+    elim (or-true (sameBytes (contentIn s (tokenAt s p)) name) (namedFrom s name (count xs) (tokenAt s p .next)) own) [
       | inl here ↦ List·Memᴰ·head (sym (sym (t .content) ∙ same-sound (contentIn s (tokenAt s p)) name here))
-      | inr later ↦ List·Memᴰ·tail (own-sound name are (c .rest) (rw (t .next) at later))
+      | inr later ↦ List·Memᴰ·tail (named-sound name are (c .rest) (rw (t .next) at later))
     ]
 
-pub own-complete : {s : List ℕ} {p e : ℕ} {xs : Items} {names : List (List ℕ)} (name : List ℕ) → TextItems xs names → StandAll s p e xs
-    → List·Memᴰ name names → ownFrom s name (count xs) p ≡ true
-unfolding ownFrom count
-own-complete {s} {p} name (TextItems.more {xs = xs} are) stand (List·Memᴰ·head e) =
+pub named-complete : {s : List ℕ} {p e : ℕ} {xs : Items} {names : List (List ℕ)} (name : List ℕ) → TextItems xs names → StandAll s p e xs
+    → List·Memᴰ name names → namedFrom s name (count xs) p ≡ true
+unfolding namedFrom count
+named-complete {s} {p} name (TextItems.more {xs = xs} are) stand (List·Memᴰ·head e) =
     let t = text-read (split stand .first) in
     rw (same-complete (contentIn s (tokenAt s p)) name (t .content ∙ sym e)) refl
-own-complete {s} {p} name (TextItems.more {xs = xs} are) stand (List·Memᴰ·tail m) =
+named-complete {s} {p} name (TextItems.more {xs = xs} are) stand (List·Memᴰ·tail m) =
     let c = split stand in
-    let later : ownFrom s name (count xs) (tokenAt s p .next) ≡ true = rw (text-read (c .first) .next) (own-complete name are (c .rest) m) in
+    let later : namedFrom s name (count xs) (tokenAt s p .next) ≡ true = rw (text-read (c .first) .next) (named-complete name are (c .rest) m) in
     rw later (B.or-true (sameBytes (contentIn s (tokenAt s p)) name))
