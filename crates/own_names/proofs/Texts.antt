@@ -3,7 +3,7 @@
 use mathlib.Core.Path.{_≡_, refl, sym, ap, ap₂, _∙_, subst}
 use mathlib.Core.Logic.{inl, inr}
 use mathlib.Core.List.{List, [], _∷_, List·Memᴰ, List·Memᴰ·head, List·Memᴰ·tail}
-use mathlib.Core.Bool.{Bool, true, false, _&&_}
+use mathlib.Core.Bool.{Bool, true, _&&_, false≢true}
 use mathlib.Core.Bool as B
 use Prim.Native.Nat.{ℕ, zero, suc, _-_, _≤_, max}
 use native.Mathlib.Omega.{arith}
@@ -12,7 +12,7 @@ use lib.Dec.{leb, eqb}
 use borrow.Author.Tests.{eqb-true, leb-true, le-leb, eq-eqb}
 use Rattle.options.specs.Text.{contentIn}
 use Rattle.base.specs.Lists.{Every}
-use Rattle.base.proofs.Bools.{and-left, and-right, and-true, or-true, not-both}
+use Rattle.base.proofs.Bools.{and-left, and-right, and-true, or-true}
 use Rattle.cbor.specs.declared.token.Token.{Token}
 use Rattle.cbor.specs.Token.{tokenAt}
 use Rattle.cbor.specs.Tree.{Items, count, depth, depths}
@@ -130,8 +130,8 @@ names-complete {s} {p} (TextItems.more {xs = xs} are) stand utf8 short =
 pub same-sound : (a b : List ℕ) → sameBytes a b ≡ true → a ≡ b
 unfolding sameBytes
 same-sound [] [] e = refl
-same-sound [] (y ∷ ys) e = absurd (not-both false e refl)
-same-sound (x ∷ xs) [] e = absurd (not-both false e refl)
+same-sound [] (y ∷ ys) e = cc
+same-sound (x ∷ xs) [] e = cc
 same-sound (x ∷ xs) (y ∷ ys) e =
     ap₂ (λ (z : ℕ) (zs : List ℕ). z ∷ zs) (eqb-true x y (and-left (eqb x y) (sameBytes xs ys) e)) (same-sound xs ys (and-right (eqb x y) (sameBytes xs ys) e))
 
@@ -146,7 +146,7 @@ same-complete a b e = subst (λ (l : List ℕ). sameBytes a l ≡ true) e (same-
 pub named-sound : {s : List ℕ} {p e : ℕ} {xs : Items} {names : List (List ℕ)} (name : List ℕ) → TextItems xs names → StandAll s p e xs
     → namedFrom s name (count xs) p ≡ true → List·Memᴰ name names
 unfolding namedFrom count
-named-sound name TextItems.empty stand own = absurd (not-both false own refl)
+named-sound name TextItems.empty stand own = absurd (false≢true own)
 named-sound {s} {p} name (TextItems.more {xs = xs} are) stand own =
     let c = split stand in
     let t = text-read (c .first) in
