@@ -21,11 +21,12 @@ use Rattle.node.specs.declared.Verdict.{Verdict}
 use Rattle.node.specs.declared.Verdict.the-variants.{Own, Duplicate, Last, Nowhere, NoRow, Noop, Hand}
 use Rattle.node.specs.declared.role.Spread.{Spread}
 use Rattle.node.specs.declared.role.Role.{Role}
-use Rattle.node_state.specs.declared.table.Key.{Key}
+use Rattle.node_state.specs.declared.key.Key.{Key}
 use Rattle.node_state.specs.Record.{setLinks, linked, clocked}
 use Rattle.node_state.specs.Table.{cell, tableBad, rowLife, freed, putRow, lowestFree, isKnown}
 use Rattle.node.specs.Role.{roleOf, RoleIn, keyIn}
-use Rattle.node.specs.Call.{Call, After, barred, refuse, quiet, laterVerdict, verdictOn, answered, relayed, carriedOut, taken, received, nodeCall, Passed}
+use Rattle.node.specs.Call.{Call, After, barred, refuse, quiet, laterVerdict, verdictOn, answered, relayed, carriedOut, taken, received, nodeCall}
+use Rattle.node.specs.Passed.{Passed}
 use Rattle.node.specs.History.{isRelay, saysRelay}
 use Rattle.node_state.proofs.Rows.{Holds, put-other, same-holds, free-admitted, life-least, free-keeps, lowest-zero, unknown, row-admitted}
 use Rattle.node.proofs.Outcomes.{passed}

@@ -27,7 +27,8 @@ use Rattle.node_state.specs.Record.{fresh, others, clocked, tallied, setLinks}
 use Rattle.node_state.specs.Table.{freshTable, rowLife, freed, lowestFree, isKnown}
 use Rattle.node.specs.Role.{keyIn}
 use Rattle.roundtrip.specs.Lower.{onward}
-use Rattle.node.specs.Call.{Call, After, relayed, nodeCall, Passed}
+use Rattle.node.specs.Call.{Call, After, relayed, nodeCall}
+use Rattle.node.specs.Passed.{Passed}
 use Rattle.node.specs.History.{Event, call, links, Step, steps, finally, isRelay, saysRelay, maskOf, lengthOf, Told, told, relaysOf, given, sent, clockOf, arrivedOn, interfacesIn, copies, copiesOf, SameKey, apartBy, Apart, GoesOut, Near, Few, WholeList}
 use Rattle.node.specs.Demand.{Demand3}
 use Rattle.node_state.proofs.Masks.{record-links, up-below, taken-down, others-fewer}
@@ -135,11 +136,8 @@ known-behind x y s s′ k ky there =
             let new : isKnown key t ≡ false = rw (same-key x y s s′ k ky same) (ky .facts .new) in
             rw (known-apart x s k) (one-key key (rowOf x) (clockOf x) (clockOf y) t (k .facts .room) there new);
       };
-      rows = λ e. le-trans (more (clockOf x) (life-least (key .first))) (one-row key (rowOf x) (clockOf x) (clockOf y) t (row-used x s) (ky .facts .room) there e);
+      rows = λ e. omega (arith, life-least (key .first), one-row key (rowOf x) (clockOf x) (clockOf y) t (row-used x s) (ky .facts .room) there e);
     }
-  where
-    more : {a b : ℕ} (n : ℕ) → a ≤ b → n + a ≤ n + b
-    more n h = omega arith
 
 says-relay : (r : Record) (t : List ℕ) (c : Call) (s : Spread) (b : After) → b ≡ relayed (clocked r (c .clock)) (freed (c .clock) t) c s → saysRelay (b .called .reply) ≡ true
 unfolding relayed saysRelay isRelay

@@ -19,10 +19,10 @@ use Rattle.message.specs.declared.Reading.{Reading}
 use Rattle.message.specs.Read.{readOf}
 use Rattle.node_state.specs.declared.Record.{Record}
 use Rattle.node_state.specs.declared.Kept.{Kept}
-use Rattle.node_state.specs.declared.table.Key.{Key}
+use Rattle.node_state.specs.declared.key.Key.{Key}
 use Rattle.node_state.specs.Record.{linksBad, recordBad, blank, clocked, tallied, others}
-use Rattle.node_state.specs.Table.{tableNumbers, putRow, noKey, freeRows, freed, lowestFree}
-use Rattle.node_state.specs.Key.{keyOf}
+use Rattle.node_state.specs.Table.{tableNumbers, putRow, freeRows, freed, lowestFree}
+use Rattle.node_state.specs.Key.{noKey, keyOf}
 use Rattle.node_state.proofs.Keys.{tag-range}
 use Rattle.node.specs.declared.Verdict.{Verdict}
 use Rattle.node.specs.declared.Verdict.the-variants.{Own, Answer, Duplicate, Last, Nowhere, NoRow, Relay, Noop, Hand}

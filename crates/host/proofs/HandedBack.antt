@@ -33,7 +33,7 @@ use Rattle.negotiation.specs.declared.State.{State}
 use Rattle.negotiation.specs.declared.State.the-variants.{Fresh, Open, Closed}
 use Rattle.negotiation.specs.declared.Stepped.the-variants.{Moved}
 use Rattle.negotiation.specs.Step.{step}
-use Rattle.negotiation.specs.Allowed.{Names, Allowed}
+use Rattle.negotiation.specs.Allowed.{KindAndSession, Allowed}
 use Rattle.negotiation.proofs.Accepted.{moved-exactly, request-opens}
 use Rattle.node_state.specs.declared.Record.{Record}
 use Rattle.node_state.specs.declared.Kept.{Kept}
@@ -57,7 +57,7 @@ use Rattle.host.proofs.Calls.{same-call, call-still}
 use Rattle.host.proofs.Fits.{put-fits, free-fits, key-fits, call-leaves, blank-fits, KeptFits, counted-fits, node-fits, node-address, loaded-fits}
 
 -- a Request's session
-request-session : (message : List ℕ) (m : Message) {session : ℕ} → Bytes message → readOf message ≡ Reading.Read m → Names m 3 session → session < 2 ^ 32
+request-session : (message : List ℕ) (m : Message) {session : ℕ} → Bytes message → readOf message ≡ Reading.Read m → KindAndSession m 3 session → session < 2 ^ 32
 unfolding sessionOf
 request-session message m {session} bytes read names =
     let a = accepted-exactly message bytes .0 (m, read) in
@@ -66,7 +66,7 @@ request-session message m {session} bytes read names =
     by : {o : Objective} {n : ℕ} {msg : Msg Value} {x : Item} → Describes message (M.RequestNegotiation n o) msg → MessageItem x msg → n ≤ most
     by (Describes.request-negotiation k s o) (MessageItem.request-negotiation (Number.number l) i) = l
 
-    go : (m : Message) {msg : Msg Value} {x : Item} → Describes message m msg → MessageItem x msg → Names m 3 session → session < 2 ^ 32
+    go : (m : Message) {msg : Msg Value} {x : Item} → Describes message m msg → MessageItem x msg → KindAndSession m 3 session → session < 2 ^ 32
     go (M.RequestNegotiation n o) d i names =
         let e = names .ofSession in
         let same : n ≡ session = cc in

@@ -14,7 +14,7 @@ use Rattle.options.specs.Text.{contentIn}
 use Rattle.base.proofs.Parts.{drop-past}
 use Rattle.cbor.specs.declared.token.Token.{Token}
 use Rattle.cbor.specs.Token.{tokenAt}
-use Rattle.names.specs.Names.{goodName, goodNames, sameBytes, ownFrom}
+use Rattle.names.specs.Names.{goodName, goodNames, sameBytes, namedFrom}
 
 -- ---- bytes
 
@@ -79,18 +79,18 @@ module _ (s : List ℕ) (at left : ℕ) (t : Token) (is : t ≡ tokenAt s at) wh
       go zero = refl
       go (suc n) = let less : suc n - 1 ≡ n = omega arith in rw (← is, good, less) refl
 
-  pub own-here : 0 < left → (name : List ℕ) → sameBytes (contentIn s t) name ≡ true → ownFrom s name left at ≡ true
-  unfolding ownFrom
-  own-here more name here = go left more
+  pub named-here : 0 < left → (name : List ℕ) → sameBytes (contentIn s t) name ≡ true → namedFrom s name left at ≡ true
+  unfolding namedFrom
+  named-here more name here = go left more
     where
-      go : (n : ℕ) → 0 < n → ownFrom s name n at ≡ true
+      go : (n : ℕ) → 0 < n → namedFrom s name n at ≡ true
       go zero h = absurd (omega arith)
       go (suc n) h = rw (← is, here) refl
 
-  pub own-next : (name : List ℕ) → sameBytes (contentIn s t) name ≡ false → ownFrom s name left at ≡ ownFrom s name (left - 1) (t .next)
-  unfolding ownFrom
-  own-next name other = go left
+  pub named-next : (name : List ℕ) → sameBytes (contentIn s t) name ≡ false → namedFrom s name left at ≡ namedFrom s name (left - 1) (t .next)
+  unfolding namedFrom
+  named-next name other = go left
     where
-      go : (n : ℕ) → ownFrom s name n at ≡ ownFrom s name (n - 1) (t .next)
+      go : (n : ℕ) → namedFrom s name n at ≡ namedFrom s name (n - 1) (t .next)
       go zero = refl
       go (suc n) = let less : suc n - 1 ≡ n = omega arith in rw (← is, other, less) refl

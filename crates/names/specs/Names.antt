@@ -49,12 +49,12 @@ sameBytes (x ∷ xs) [] = false
 sameBytes (x ∷ xs) (y ∷ ys) = eqb x y && sameBytes xs ys
 
 -- one of n names from `at` on is `name`
-unfoldable pub ownFrom : List ℕ → List ℕ → ℕ → ℕ → Bool
-ownFrom s name zero at = false
-ownFrom s name (suc n) at = sameBytes (contentIn s (tokenAt s at)) name || ownFrom s name n (tokenAt s at .next)
+unfoldable pub namedFrom : List ℕ → List ℕ → ℕ → ℕ → Bool
+namedFrom s name zero at = false
+namedFrom s name (suc n) at = sameBytes (contentIn s (tokenAt s at)) name || namedFrom s name n (tokenAt s at .next)
 
 -- one of the names s is `name`
-unfoldable pub isOwn : List ℕ → List ℕ → Bool
-isOwn s name =
+unfoldable pub isNamed : List ℕ → List ℕ → Bool
+isNamed s name =
     let a = tokenAt s 0 in
-    pick (ltb mostNames (a .arg)) false (ownFrom s name (a .arg) (a .next))
+    pick (ltb mostNames (a .arg)) false (namedFrom s name (a .arg) (a .next))

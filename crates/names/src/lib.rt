@@ -2,7 +2,7 @@
 ghost use mathlib.Core.Path.{_≡_};
 ghost use Prim.Native.Nat.{_≤_};
 ghost use lib.ListN.{length};
-ghost use Rattle.names.specs.Names.{goodName, namesBad, arrayBad, sameBytes, isOwn};
+ghost use Rattle.names.specs.Names.{goodName, namesBad, arrayBad, sameBytes, isNamed};
 use cbor::item;
 use cbor::item::ItemRead;
 use cbor::token;
@@ -76,8 +76,8 @@ fn is_good(s: &[u8], t: Token) -> bool
 }
 
 // Whether one of the names s is `name`, byte for byte.
-pub fn are_with(s: &[u8], name: &[u8]) -> bool
-    ensures { λ r. ⌜ r ≡ isOwn (now (s .entry)) (now (name .entry)) ⌝ }
+pub fn is_named(s: &[u8], name: &[u8]) -> bool
+    ensures { λ r. ⌜ r ≡ isNamed (now (s .entry)) (now (name .entry)) ⌝ }
 {
     let a = token::token_at(s, 0);
     if MOST_NAMES < a.arg {

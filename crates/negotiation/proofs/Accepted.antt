@@ -17,7 +17,7 @@ use Rattle.negotiation.specs.declared.Stepped.{Stepped}
 use Rattle.negotiation.specs.declared.Stepped.the-variants.{Refused, Moved}
 use Rattle.negotiation.specs.Step.{moveOf, stateStep, readingStep, step}
 use Rattle.negotiation.specs.Allowed.{Allowed, Opened}
-use Rattle.negotiation.specs.Turns.{Sent, after, answered}
+use Rattle.negotiation.specs.Turns.{Sent, after, stepsOf}
 use Rattle.negotiation.proofs.Ways.{Judged, state-judged, allowed-moves, request-move}
 use Rattle.negotiation.proofs.Readings.{SmallMove, reading-number, reading-small}
 
@@ -89,7 +89,7 @@ request-opens state message sender next m read kind moved = by (judged state mes
         record {
           session = session;
           count = count;
-          names = n;
+          request = n;
           counts = c;
           least = least;
           most = subst SmallMove (request-move n c) (reading-small message read);
@@ -101,13 +101,13 @@ request-opens state message sender next m read kind moved = by (judged state mes
     by (Allowed.end n some) = absurd (omega (arith, kind, n .ofKind))
 
 -- Closed is for good: every later step is refused.
-pub closed-for-good : (messages : List Sent) → Every (λ x. (next : State) → x .answer ≡ Moved next → ⊥) (answered Closed messages)
-unfolding answered after
+pub closed-for-good : (messages : List Sent) → Every (λ x. (next : State) → x .answer ≡ Moved next → ⊥) (stepsOf Closed messages)
+unfolding stepsOf after
 closed-for-good [] = tt
 closed-for-good (m ∷ ms) = by (step Closed (m .bytes) (m .sender)) refl (closed-for-good ms)
   where
-    by : (x : Stepped) → step Closed (m .bytes) (m .sender) ≡ x → Every (λ x. (next : State) → x .answer ≡ Moved next → ⊥) (answered Closed ms)
-        → Every (λ x. (next : State) → x .answer ≡ Moved next → ⊥) (record { bytes = m .bytes; answer = x } ∷ answered (after Closed x) ms)
+    by : (x : Stepped) → step Closed (m .bytes) (m .sender) ≡ x → Every (λ x. (next : State) → x .answer ≡ Moved next → ⊥) (stepsOf Closed ms)
+        → Every (λ x. (next : State) → x .answer ≡ Moved next → ⊥) (record { bytes = m .bytes; answer = x } ∷ stepsOf (after Closed x) ms)
     by (Refused number) q rest = (λ next e. refused-or-moved refl e, rest)
     by (Moved next) q rest = absurd (none (moved-exactly Closed (m .bytes) (m .sender) next .0 q .2))
       where

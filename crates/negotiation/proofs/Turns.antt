@@ -21,7 +21,7 @@ use Rattle.negotiation.specs.declared.Stepped.{Stepped}
 use Rattle.negotiation.specs.declared.Stepped.the-variants.{Refused, Moved}
 use Rattle.negotiation.specs.Step.{step}
 use Rattle.negotiation.specs.Allowed.{HasCount, Allowed}
-use Rattle.negotiation.specs.Turns.{Sent, StepTaken, after, answered, isKind, tookNegotiate, negotiated, Opens, BoundedIn, Bounded}
+use Rattle.negotiation.specs.Turns.{Sent, StepTaken, after, stepsOf, isKind, tookNegotiate, negotiated, Opens, BoundedIn, Bounded}
 use Rattle.negotiation.proofs.Accepted.{moved-exactly}
 
 -- how many Negotiates a state that isn't fresh may still accept
@@ -90,8 +90,8 @@ steps state bytes sender (Moved next) old e = let (m, read, a) = moved-exactly s
 
 -- ---- a list of steps
 -- on a state that isn't fresh, at most what is left is accepted
-at-most : (ms : List Sent) (state : State) → isFresh state ≡ false → negotiated (answered state ms) ≤ left state
-unfolding answered negotiated pick
+at-most : (ms : List Sent) (state : State) → isFresh state ≡ false → negotiated (stepsOf state ms) ≤ left state
+unfolding stepsOf negotiated pick
 at-most [] state old = zero-le
 at-most (m ∷ ms) state old =
     let answer = step state (m .bytes) (m .sender) in
@@ -103,8 +103,8 @@ at-most (m ∷ ms) state old =
     more false h = h
 
 -- and nothing is opened
-none-opens : (P : ℕ → Type 0) (ms : List Sent) (state : State) → isFresh state ≡ false → Every (λ x. (c : ℕ) → Opens x c → P c) (answered state ms)
-unfolding answered
+none-opens : (P : ℕ → Type 0) (ms : List Sent) (state : State) → isFresh state ≡ false → Every (λ x. (c : ℕ) → Opens x c → P c) (stepsOf state ms)
+unfolding stepsOf
 none-opens P [] state old = tt
 none-opens P (m ∷ ms) state old =
     let answer = step state (m .bytes) (m .sender) in
@@ -113,12 +113,12 @@ none-opens P (m ∷ ms) state old =
 
 -- a Request opens a fresh state, and then the rest is bounded
 opened-bounded : {sender : Side} {m : Message} {state next : State} (bytes : List ℕ) (ms : List Sent) → readOf bytes ≡ Reading.Read m → state ≡ Fresh
-    → Allowed sender m state next → BoundedIn (stepOf bytes (Moved next) ∷ answered next ms)
+    → Allowed sender m state next → BoundedIn (stepOf bytes (Moved next) ∷ stepsOf next ms)
 unfolding isFresh left negotiated pick
 opened-bounded {next = next} bytes ms read new (Allowed.request {session} {count} n c least) =
     let rest = at-most ms next refl in
-    let none : negotiated (stepOf bytes (Moved next) ∷ answered next ms) ≡ negotiated (answered next ms) = rw (took bytes next read (n .ofKind)) in
-    let most : negotiated (stepOf bytes (Moved next) ∷ answered next ms) + 1 ≤ count = omega arith in
+    let none : negotiated (stepOf bytes (Moved next) ∷ stepsOf next ms) ≡ negotiated (stepsOf next ms) = rw (took bytes next read (n .ofKind)) in
+    let most : negotiated (stepOf bytes (Moved next) ∷ stepsOf next ms) + 1 ≤ count = omega arith in
     record {
       opened = (λ d o. rw (← count-once (message-once read (o .read)) c (o .counts)) most, none-opens _ ms next refl);
       unopened = λ h. absurd (h .0 count (record { m = _; read = read; request = n .ofKind; counts = c; next = _; accepted = refl }));
@@ -128,8 +128,8 @@ opened-bounded bytes ms read new (Allowed.wait n some) = absurd (true≢false (s
 opened-bounded bytes ms read new (Allowed.end n some) = absurd (true≢false (sym (ap isFresh new)))
 
 -- the first step on a fresh state
-first-bounded : (bytes : List ℕ) (sender : Side) (ms : List Sent) (answer : Stepped) → step Fresh bytes sender ≡ answer → BoundedIn (answered Fresh ms)
-    → BoundedIn (stepOf bytes answer ∷ answered (after Fresh answer) ms)
+first-bounded : (bytes : List ℕ) (sender : Side) (ms : List Sent) (answer : Stepped) → step Fresh bytes sender ≡ answer → BoundedIn (stepsOf Fresh ms)
+    → BoundedIn (stepOf bytes answer ∷ stepsOf (after Fresh answer) ms)
 unfolding after negotiated tookNegotiate pick
 first-bounded bytes sender ms (Refused number) e rest =
     record { opened = (λ c o. absurd (refused-opens o), rest .opened); unopened = λ h. rest .unopened (h .1) }
@@ -139,6 +139,6 @@ first-bounded bytes sender ms (Moved next) e rest = let (m, read, a) = moved-exa
 
 -- For every list of steps on one negotiation state, fresh at first: once a Request opened it at count c, at most c - 1 Negotiates are accepted.
 pub negotiation-bounded : (messages : List Sent) → Bounded messages
-unfolding answered negotiated
+unfolding stepsOf negotiated
 negotiation-bounded [] = record { opened = tt; unopened = λ _. refl }
 negotiation-bounded (m ∷ ms) = first-bounded (m .bytes) (m .sender) ms (step Fresh (m .bytes) (m .sender)) refl (negotiation-bounded ms)

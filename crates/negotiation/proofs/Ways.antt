@@ -23,7 +23,7 @@ use Rattle.negotiation.specs.declared.Stepped.the-variants.{Refused, Mov
 use Rattle.negotiation.specs.declared.Move.{Move}
 use Rattle.negotiation.specs.declared.Move.the-variants.{Request, Negotiate, Wait, End, Other}
 use Rattle.negotiation.specs.Step.{moveOf, sameSide, freshStep, lowerStep, turnStep, stateStep}
-use Rattle.negotiation.specs.Allowed.{Names, HasCount, Allowed}
+use Rattle.negotiation.specs.Allowed.{KindAndSession, HasCount, Allowed}
 
 -- an answer to a message that was read: 20, or a state that is allowed
 abbrev pub Judged : Side → Message → State → Stepped → Type 0
@@ -148,19 +148,19 @@ move-by (M.Flood session initiator ttl first pairs) = refl
 move-by (M.Invalid session item) = refl
 
 module _ {m : Message} {session : ℕ} where
-  pub request-move : {count : ℕ} → Names m 3 session → HasCount m count → moveOf m ≡ Request session count
+  pub request-move : {count : ℕ} → KindAndSession m 3 session → HasCount m count → moveOf m ≡ Request session count
   unfolding moveBy counted pick
   request-move n c = move-by m ∙ rw (n .ofKind, n .ofSession, c .has, c .is)
 
-  negotiate-move : {count : ℕ} → Names m 5 session → HasCount m count → moveOf m ≡ Negotiate session count
+  negotiate-move : {count : ℕ} → KindAndSession m 5 session → HasCount m count → moveOf m ≡ Negotiate session count
   unfolding moveBy counted pick
   negotiate-move n c = move-by m ∙ rw (n .ofKind, n .ofSession, c .has, c .is)
 
-  wait-move : Names m 7 session → moveOf m ≡ Wait session
+  wait-move : KindAndSession m 7 session → moveOf m ≡ Wait session
   unfolding moveBy held pick
   wait-move n = move-by m ∙ rw (n .ofKind, n .ofSession)
 
-  end-move : Names m 6 session → moveOf m ≡ End session
+  end-move : KindAndSession m 6 session → moveOf m ≡ End session
   unfolding moveBy held pick
   end-move n = move-by m ∙ rw (n .ofKind, n .ofSession)
 

@@ -12,7 +12,7 @@ use Rattle.negotiation.specs.declared.State.the-variants.{Fresh, Open, C
 use Rattle.negotiation.specs.Step.{otherSide}
 
 -- a message of this kind and session
-pub record Names (m : Message) (kind session : ℕ) : Type 0 where
+pub record KindAndSession (m : Message) (kind session : ℕ) : Type 0 where
   pub ofKind : kindOf m ≡ kind
   pub ofSession : sessionOf m ≡ Session.Number session
 
@@ -24,17 +24,17 @@ pub record HasCount (m : Message) (count : ℕ) : Type 0 where
 
 -- from which state to which state a message of this sender leads
 pub data Allowed (sender : Side) (m : Message) : State → State → Type 0 where
-  request : {session count : ℕ} → Names m 3 session → HasCount m count → 1 ≤ count → Allowed sender m Fresh (Open session count (otherSide sender))
-  negotiate : {session count lower : ℕ} → Names m 5 session → HasCount m lower → 1 ≤ lower → lower + 1 ≡ count
+  request : {session count : ℕ} → KindAndSession m 3 session → HasCount m count → 1 ≤ count → Allowed sender m Fresh (Open session count (otherSide sender))
+  negotiate : {session count lower : ℕ} → KindAndSession m 5 session → HasCount m lower → 1 ≤ lower → lower + 1 ≡ count
       → Allowed sender m (Open session count sender) (Open session lower (otherSide sender))
-  wait : {session count : ℕ} → Names m 7 session → 1 ≤ count → Allowed sender m (Open session count sender) (Open session count sender)
-  end : {session count : ℕ} → Names m 6 session → 1 ≤ count → Allowed sender m (Open session count sender) Closed
+  wait : {session count : ℕ} → KindAndSession m 7 session → 1 ≤ count → Allowed sender m (Open session count sender) (Open session count sender)
+  end : {session count : ℕ} → KindAndSession m 6 session → 1 ≤ count → Allowed sender m (Open session count sender) Closed
 
 -- a Request opened the state: it was fresh, the count is from 1 to 255, and the other side has the turn
 pub record Opened (sender : Side) (m : Message) (state next : State) : Type 0 where
   pub session : ℕ
   pub count : ℕ
-  pub names : Names m 3 session
+  pub request : KindAndSession m 3 session
   pub counts : HasCount m count
   pub least : 1 ≤ count
   pub most : count ≤ 255

@@ -34,11 +34,11 @@ after state (Refused number) = state
 after state (Moved next) = next
 
 -- the steps of a list, each given the state that the step before it returned or left
-unfoldable pub answered : State → List Sent → List StepTaken
-answered state [] = []
-answered state (m ∷ ms) =
+unfoldable pub stepsOf : State → List Sent → List StepTaken
+stepsOf state [] = []
+stepsOf state (m ∷ ms) =
     let answer = step state (m .bytes) (m .sender) in
-    record { bytes = m .bytes; answer = answer } ∷ answered (after state answer) ms
+    record { bytes = m .bytes; answer = answer } ∷ stepsOf (after state answer) ms
 
 -- whether a message was read, and of this kind
 unfoldable pub isKind : ℕ → Reading → Bool
@@ -71,4 +71,4 @@ pub record BoundedIn (steps : List StepTaken) : Type 0 where
 
 -- Demand 3 for one negotiation state, fresh at first: its last sentence.
 abbrev pub Bounded : List Sent → Type 0
-Bounded messages = BoundedIn (answered Fresh messages)
+Bounded messages = BoundedIn (stepsOf Fresh messages)

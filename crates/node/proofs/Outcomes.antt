@@ -18,7 +18,7 @@ use Rattle.base.proofs.Bools.{or-left, or-right}
 use Rattle.message.specs.declared.Message.{Message}
 use Rattle.message.specs.declared.Reading.{Reading}
 use Rattle.message.specs.Read.{mostBytes, readOf}
-use Rattle.names.specs.Names.{sameBytes, isOwn}
+use Rattle.names.specs.Names.{sameBytes, isNamed}
 use Rattle.writer.specs.declared.Written.{Written}
 use Rattle.node_state.specs.declared.Record.{Record}
 use Rattle.node.specs.declared.Called.{Called}
@@ -26,13 +26,14 @@ use Rattle.node.specs.declared.Reply.the-variants.{Refused, Given}
 use Rattle.node.specs.declared.Verdict.{Verdict}
 use Rattle.node.specs.declared.Verdict.the-variants.{Own, Answer, Duplicate, Last, Nowhere, NoRow, Relay, Noop, Hand}
 use Rattle.node.specs.declared.role.Spread.{Spread}
-use Rattle.node_state.specs.declared.table.Key.{Key}
+use Rattle.node_state.specs.declared.key.Key.{Key}
 use Rattle.node_state.specs.Record.{recordBad, arrivalBad, others, clocked, tallied}
 use Rattle.node_state.specs.Table.{whereSized, freed, lowestFree, filled, isKnown}
 use Rattle.node.specs.Role.{roleOf, keyIn}
 use Rattle.cbor.specs.Put.{written}
 use Rattle.roundtrip.specs.Lower.{onward}
-use Rattle.node.specs.Call.{Call, callOf, After, afterOf, barred, replies, refuse, quiet, response, laterVerdict, verdictOn, answered, relayed, carriedOut, taken, received, nodeCall, Passed, Ready}
+use Rattle.node.specs.Call.{Call, callOf, After, afterOf, barred, replies, refuse, quiet, response, laterVerdict, verdictOn, answered, relayed, carriedOut, taken, received, nodeCall}
+use Rattle.node.specs.Passed.{Passed, Ready}
 use Rattle.node_state.proofs.Masks.{record-links, record-tally}
 use Rattle.node_state.proofs.Rows.{of-sized, of-other, length-free, table-sized}
 
@@ -86,20 +87,20 @@ module _ (r : Record) (t : List ℕ) (c : Call) (s : Spread) where
 
   module _ (not-own : sameBytes (held (c .message) (s .initiator)) (r .address) ≡ false) where
     pub answer-outcome : (b : Called) (out : List ℕ) → b ≡ replies (Given Answer false (2 ^ c .interface) (length (response r (c .message) s))) r
-        → out ≡ written (response r (c .message) s) (c .output) → (not (s .flood) && isOwn (c .names) (held (c .message) (s .objective .name))) ≡ true
+        → out ≡ written (response r (c .message) s) (c .output) → (not (s .flood) && isNamed (c .names) (held (c .message) (s .objective .name))) ≡ true
         → afterOf b t out ≡ carriedOut r t c s (verdictOn r t c s)
     unfolding verdictOn carriedOut answered pick
     answer-outcome b out e f ours = rw (not-own, ours, e, f) refl
 
-    module _ (not-ours : (not (s .flood) && isOwn (c .names) (held (c .message) (s .objective .name))) ≡ false) where
+    module _ (not-named : (not (s .flood) && isNamed (c .names) (held (c .message) (s .objective .name))) ≡ false) where
       pub duplicate-outcome : (b : Called) → b ≡ replies (Given Duplicate false 0 0) r → isKnown (keyIn (c .message) s) t ≡ true
           → afterOf b t (c .output) ≡ carriedOut r t c s (verdictOn r t c s)
       unfolding verdictOn carriedOut quiet pick
-      duplicate-outcome b e known = rw (not-own, not-ours, known, e) refl
+      duplicate-outcome b e known = rw (not-own, not-named, known, e) refl
 
       pub later-outcome : (a : After) → isKnown (keyIn (c .message) s) t ≡ false → a ≡ carriedOut r t c s (laterVerdict r t c s) → a ≡ carriedOut r t c s (verdictOn r t c s)
       unfolding verdictOn pick
-      later-outcome a unknown e = rw (not-own, not-ours, unknown) e
+      later-outcome a unknown e = rw (not-own, not-named, unknown) e
 
   pub last-outcome : (b : Called) → b ≡ replies (Given Last (s .flood) 0 0) r → s .objective .count ≤ 1 → afterOf b t (c .output) ≡ carriedOut r t c s (laterVerdict r t c s)
   unfolding laterVerdict carriedOut quiet pick

@@ -19,7 +19,7 @@ use Rattle.roundtrip.proofs.Relay.{lowered-shorter, lowered-given}
 use Rattle.node_state.specs.declared.Record.{Record}
 use Rattle.node.specs.declared.role.Spread.{Spread}
 use Rattle.node.specs.declared.role.Role.{Role}
-use Rattle.node_state.specs.declared.table.Key.{Key}
+use Rattle.node_state.specs.declared.key.Key.{Key}
 use Rattle.node_state.specs.Key.{keyFor}
 use Rattle.node_state.proofs.Keys.{key-sized}
 use Rattle.node.specs.Role.{RoleIn, Within, keyIn}

@@ -1,20 +1,18 @@
 -- One node call (the rules, "Refusal numbers", "Record and relay table" and "Verdicts"): what it answers, and the record, the table and the output after it.
-use Prim.Native.Nat.{ℕ, _^_, _≤_}
+use Prim.Native.Nat.{ℕ, _^_}
 use mathlib.Core.Bool.{Bool, true, false, not, _&&_}
 use mathlib.Core.List.{List}
-use mathlib.Core.Path.{_≡_}
 use lib.ListN.{length}
 use lib.Count.{ones}
 use lib.Dec.{ltb, leb, eqb}
 use Rattle.options.specs.Text.{held}
 use Rattle.base.specs.Pick.{pick}
-use Rattle.base.specs.Bits.{hasBit}
 use Rattle.message.specs.declared.Reading.{Reading}
 use Rattle.message.specs.Read.{mostBytes, readOf}
 use Rattle.cbor.specs.Put.{written}
 use Rattle.writer.specs.Write.{answerOf}
 use Rattle.roundtrip.specs.Lower.{onward}
-use Rattle.names.specs.Names.{namesBad, sameBytes, isOwn}
+use Rattle.names.specs.Names.{namesBad, sameBytes, isNamed}
 use Rattle.node_state.specs.declared.Record.{Record}
 use Rattle.node.specs.declared.Verdict.{Verdict}
 use Rattle.node.specs.declared.Verdict.the-variants.{Own, Answer, Duplicate, Last, Nowhere, NoRow, Relay, Noop, Hand}
@@ -23,8 +21,8 @@ use Rattle.node.specs.declared.Reply.the-variants.{Refused, Given}
 use Rattle.node.specs.declared.Called.{Called}
 use Rattle.node.specs.declared.role.Spread.{Spread}
 use Rattle.node.specs.declared.role.Role.{Role}
-use Rattle.node_state.specs.Record.{mostTally, recordBad, arrivalBad, others, clocked, tallied}
-use Rattle.node_state.specs.Table.{mostRows, tableNumbers, tableBad, freed, putRow, lowestFree, isKnown}
+use Rattle.node_state.specs.Record.{recordBad, arrivalBad, others, clocked, tallied}
+use Rattle.node_state.specs.Table.{mostRows, tableBad, freed, putRow, lowestFree, isKnown}
 use Rattle.node.specs.Role.{roleOf, keyIn}
 
 -- what a node call is given beside the record and the table
@@ -84,7 +82,7 @@ module _ (r : Record) (t : List ℕ) (c : Call) (s : Spread) where
   unfoldable pub verdictOn : Verdict
   verdictOn =
       pick (sameBytes (held (c .message) (s .initiator)) (r .address)) Own
-      (pick (not (s .flood) && isOwn (c .names) (held (c .message) (s .objective .name))) Answer
+      (pick (not (s .flood) && isNamed (c .names) (held (c .message) (s .objective .name))) Answer
       (pick (isKnown (keyIn (c .message) s) t) Duplicate laterVerdict))
 
   -- ANSWER goes back by the arriving interface alone, and isn't tallied
@@ -127,22 +125,8 @@ unfoldable pub received : Record → List ℕ → Call → Reading → After
 received r t c (Reading.Refused number) = refuse number r t c
 received r t c (Reading.Read m) = taken (clocked r (c .clock)) (freed (c .clock) t) c (roleOf m)
 
+-- one node call: 12 to 17, 0 for none of them, and then what comes of the message
 unfoldable pub nodeCall : Record → List ℕ → Call → After
 nodeCall r t c =
     let n = barred r t (c .clock) (c .interface) (c .names) (length (c .output)) in
     pick (eqb n 0) (received r t c (readOf (c .message))) (refuse n r t c)
-
--- what is known once 12 to 17 are passed
-pub record Passed (r : Record) (t : List ℕ) (clock interface room : ℕ) : Type 0 where
-  pub good : recordBad r ≡ false
-  pub arrives : arrivalBad r interface ≡ false
-  pub later : r .clock ≤ clock
-  pub table : tableBad clock t ≡ false
-  pub fits : mostBytes ≤ room
-
--- what of it the verdicts on a Discovery or a Flood rest on
-pub record Ready (r : Record) (t : List ℕ) (interface room : ℕ) : Type 0 where
-  pub sized : length t ≡ tableNumbers
-  pub up : hasBit (r .links) interface ≡ true
-  pub tally : r .tally ≤ mostTally
-  pub fits : mostBytes ≤ room

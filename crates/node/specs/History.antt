@@ -147,6 +147,7 @@ pub record Apart (x y : Step) : Type 0 where
 
 -- how a relay goes out
 pub record GoesOut (interfaces : ℕ) (x : Step) : Type 0 where
+  -- a mask names no interface twice, so this holds of every answer
   pub once : Distinct (copies x)
   pub there : Every (λ i. i < interfaces) (copies x)
   pub onward : Every (λ i. i ≢ arrivedOn x) (copies x)

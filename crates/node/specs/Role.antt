@@ -14,7 +14,7 @@ use Rattle.message.specs.declared.Reading.{Reading}
 use Rattle.message.specs.Read.{readOf}
 use Rattle.node.specs.declared.role.Spread.{Spread}
 use Rattle.node.specs.declared.role.Role.{Role}
-use Rattle.node_state.specs.declared.table.Key.{Key}
+use Rattle.node_state.specs.declared.key.Key.{Key}
 use Rattle.node_state.specs.Key.{keyOf}
 
 abbrev pub spreadOf : Bool → ℕ → Span → Objective → Spread

@@ -8,13 +8,14 @@ ghost use mathlib.Core.Bool.{not, _&&_, false};
 ghost use Prim.Native.Nat.{_^_};
 ghost use Rattle.options.specs.Text.{held};
 ghost use Rattle.message.specs.Read.{mostBytes};
-ghost use Rattle.names.specs.Names.{sameBytes, isOwn};
+ghost use Rattle.names.specs.Names.{sameBytes, isNamed};
 ghost use Rattle.node.specs.declared.Reply.the-variants.{Given};
 ghost use Rattle.node.specs.declared.Verdict.the-variants.{Answer, Relay};
 ghost use Rattle.node.specs.declared.role.Role.the-variants.{Spreads};
 ghost use Rattle.node_state.specs.Record.{tallied};
 ghost use Rattle.node.specs.Role.{RoleIn, Within, keyIn};
-ghost use Rattle.node.specs.Call.{callOf, afterOf, replies, laterVerdict, verdictOn, carriedOut, response, Ready};
+ghost use Rattle.node.specs.Call.{callOf, afterOf, replies, laterVerdict, verdictOn, carriedOut, response};
+ghost use Rattle.node.specs.Passed.{Ready};
 ghost use Rattle.cbor.specs.Put.{written};
 ghost use Rattle.roundtrip.specs.Lower.{onward};
 use crate::Called;
@@ -25,8 +26,8 @@ use crate::links;
 use crate::role::Spread;
 use node_state::Record;
 use node_state::key;
+use node_state::key::Key;
 use node_state::table;
-use node_state::table::Key;
 use writer::Written;
 
 // OWN, ANSWER, DUPLICATE, then the others.
@@ -46,7 +47,7 @@ pub(crate) fn judge(
     if is_own(node, message, s) {
         return call::quiet(node, Verdict::Own, false);
     }
-    if is_ours(names, message, s) {
+    if is_named(names, message, s) {
         return answer(node, interface, message, s, out);
     }
     let key = key_in(message, s);
@@ -68,16 +69,16 @@ fn is_own(node: Record, message: &[u8], s: Spread) -> bool
 }
 
 // A Discovery asks for one of the node's own names.
-fn is_ours(names: &[u8], message: &[u8], s: Spread) -> bool
+fn is_named(names: &[u8], message: &[u8], s: Spread) -> bool
     requires { ⌜ Within (now message) s ⌝ }
-    ensures { λ r. ⌜ r ≡ (not (s .flood) && isOwn (now (names .entry)) (held (now (message .entry)) (s .objective .name))) ⌝ }
+    ensures { λ r. ⌜ r ≡ (not (s .flood) && isNamed (now (names .entry)) (held (now (message .entry)) (s .objective .name))) ⌝ }
 {
     if s.flood {
         return false;
     }
     let at = s.objective.name.at;
     let to = at + s.objective.name.len;
-    names::are_with(names, &message[at..to])
+    names::is_named(names, &message[at..to])
 }
 
 // ANSWER: a Response goes back by the arriving interface.

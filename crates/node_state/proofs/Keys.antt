@@ -13,9 +13,9 @@ use borrow.Author.Tests.{eq-eqb, ne-eqb}
 use Rattle.base.specs.Pick.{pick}
 use Rattle.base.specs.BigEndian.{bigEndian}
 use Rattle.base.proofs.Picks.{both}
-use Rattle.node_state.specs.declared.table.Key.{Key}
-use Rattle.node_state.specs.Table.{tagIn, rowLife, noKey}
-use Rattle.node_state.specs.Key.{tagOf, keyOf, keyFor}
+use Rattle.node_state.specs.declared.key.Key.{Key}
+use Rattle.node_state.specs.Table.{tagIn, rowLife}
+use Rattle.node_state.specs.Key.{noKey, tagOf, keyOf, keyFor}
 
 -- ---- tags
 

@@ -16,8 +16,9 @@ use borrow.Author.Tests.{ltb-true, ltb-false, leb-true, eqb-true, lt-ltb, le-ltb
 use Rattle.base.specs.Pick.{pick}
 use Rattle.base.proofs.Picks.{pick-case, both}
 use Rattle.base.proofs.Bools.{true-or-false, and-left, and-right, and-true, or-left, or-right, or-true, not-both}
-use Rattle.node_state.specs.declared.table.Key.{Key}
-use Rattle.node_state.specs.Table.{whereSized, cell, putRow, noKey, rowFree, rowKeyed, rowUsed, rowBad, firstFrom, someRow, tableBad, rowLife, rowDead, freeRows, freed, lowestFree, filled, rowMatches, isKnown}
+use Rattle.node_state.specs.declared.key.Key.{Key}
+use Rattle.node_state.specs.Table.{whereSized, cell, putRow, rowFree, rowKeyed, rowUsed, rowBad, firstFrom, someRow, tableBad, rowLife, rowDead, freeRows, freed, lowestFree, filled, rowMatches, isKnown}
+use Rattle.node_state.specs.Key.{noKey}
 
 -- ---- the table's length
 

@@ -5,7 +5,8 @@ use mathlib.Core.List.{List}
 use lib.ListN.{length, getD, set, replicate}
 use lib.Dec.{ltb, leb, eqb}
 use Rattle.base.specs.Pick.{pick}
-use Rattle.node_state.specs.declared.table.Key.{Key}
+use Rattle.node_state.specs.declared.key.Key.{Key}
+use Rattle.node_state.specs.Key.{noKey}
 
 -- house limit: how many rows the table has
 abbrev pub mostRows : ℕ
@@ -29,9 +30,6 @@ cell t i j = getD t (4 * i + j) 0
 -- the table with row i filled
 unfoldable pub putRow : List ℕ → ℕ → Key → ℕ → List ℕ
 putRow t i k clock = set (set (set (set t (4 * i) (k .first)) (4 * i + 1) (k .second)) (4 * i + 2) (k .third)) (4 * i + 3) clock
-
-abbrev pub noKey : Key
-noKey = record { first = 0; second = 0; third = 0 }
 
 -- a free row is four zeros
 unfoldable pub rowFree : List ℕ → ℕ → Bool

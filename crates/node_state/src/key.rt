@@ -4,7 +4,13 @@ ghost use Prim.Native.Nat.{_+_, _≤_};
 ghost use lib.ListN.{length, drop};
 ghost use Rattle.base.specs.BigEndian.{bigEndian};
 ghost use Rattle.node_state.specs.Key.{tagOf, keyFor};
-use crate::table::Key;
+
+// What a used row is told by: session and tag, and the initiator in two numbers.
+pub struct Key {
+    pub first: u64,
+    pub second: u64,
+    pub third: u64,
+}
 
 // The key of a Discovery or a Flood. An initiator that has neither 4 nor 16 bytes is no message's: its key is three zeros.
 pub fn key_of(flood: bool, session: u32, initiator: &[u8]) -> Key

@@ -3,15 +3,9 @@ ghost use mathlib.Core.Path.{_≡_};
 ghost use mathlib.Core.Bool.{false};
 ghost use Prim.Native.Nat.{_<_};
 ghost use lib.ListN.{length};
-ghost use Rattle.node_state.specs.Table.{mostRows, whereSized, putRow, rowFree, rowKeyed, tagIn, rowBad, rowLife, rowDead, rowMatches, tableBad, freed, lowestFree, filled, isKnown};
+ghost use Rattle.node_state.specs.Table.{mostRows, tableNumbers, whereSized, putRow, rowFree, rowKeyed, tagIn, rowBad, rowLife, rowDead, rowMatches, tableBad, freed, lowestFree, filled, isKnown};
 use crate::Record;
-
-// What a used row is told by: session and tag, and the initiator in two numbers.
-pub struct Key {
-    pub first: u64,
-    pub second: u64,
-    pub third: u64,
-}
+use crate::key::Key;
 
 // 15: not 256 numbers, or a row that is neither free nor used.
 pub fn is_bad(table: &[u64], clock: u64) -> bool
@@ -32,8 +26,8 @@ pub fn is_bad(table: &[u64], clock: u64) -> bool
 
 // A row that is neither free nor used.
 fn is_bad_row(table: &[u64], i: usize, clock: u64) -> bool
-    requires small { ⌜ i < 64 ⌝ }
-    requires sized { ⌜ length (now table) ≡ 256 ⌝ }
+    requires small { ⌜ i < mostRows ⌝ }
+    requires sized { ⌜ length (now table) ≡ tableNumbers ⌝ }
     ensures { λ r. ⌜ r ≡ rowBad clock (now (table .entry)) i ⌝ }
 {
     if is_free(table, i) {
@@ -47,8 +41,8 @@ fn is_bad_row(table: &[u64], i: usize, clock: u64) -> bool
 
 // A free row is four zeros.
 fn is_free(table: &[u64], i: usize) -> bool
-    requires small { ⌜ i < 64 ⌝ }
-    requires sized { ⌜ length (now table) ≡ 256 ⌝ }
+    requires small { ⌜ i < mostRows ⌝ }
+    requires sized { ⌜ length (now table) ≡ tableNumbers ⌝ }
     ensures { λ r. ⌜ r ≡ rowFree (now (table .entry)) i ⌝ }
 {
     let at = 4 * i;
@@ -66,8 +60,8 @@ fn is_free(table: &[u64], i: usize) -> bool
 
 // A tag of 1 to 4, and under 1 and 3, which go with 4 bytes of initiator, no more than these.
 fn is_keyed(table: &[u64], i: usize) -> bool
-    requires small { ⌜ i < 64 ⌝ }
-    requires sized { ⌜ length (now table) ≡ 256 ⌝ }
+    requires small { ⌜ i < mostRows ⌝ }
+    requires sized { ⌜ length (now table) ≡ tableNumbers ⌝ }
     ensures { λ r. ⌜ r ≡ rowKeyed (now (table .entry)) i ⌝ }
 {
     let at = 4 * i;
@@ -106,8 +100,8 @@ fn life_of(first: u64) -> u64
 
 // Whether a row's life is over.
 fn is_dead(table: &[u64], i: usize, clock: u64) -> bool
-    requires small { ⌜ i < 64 ⌝ }
-    requires sized { ⌜ length (now table) ≡ 256 ⌝ }
+    requires small { ⌜ i < mostRows ⌝ }
+    requires sized { ⌜ length (now table) ≡ tableNumbers ⌝ }
     ensures { λ r. ⌜ r ≡ rowDead clock (now (table .entry)) i ⌝ }
 {
     let at = 4 * i;
@@ -121,8 +115,8 @@ fn is_dead(table: &[u64], i: usize, clock: u64) -> bool
 
 // Fills a row.
 fn put_row(table: &mut [u64], i: usize, key: Key, clock: u64)
-    requires small { ⌜ i < 64 ⌝ }
-    requires sized { ⌜ length (now table) ≡ 256 ⌝ }
+    requires small { ⌜ i < mostRows ⌝ }
+    requires sized { ⌜ length (now table) ≡ tableNumbers ⌝ }
     ensures { λ _. ⌜ now (table .exit) ≡ putRow (now (table .entry)) i key clock ⌝ }
 {
     let at = 4 * i;
@@ -174,7 +168,7 @@ pub fn fill_lowest(table: &mut [u64], key: Key, clock: u64) -> usize
 
 // The lowest free row, 64 where none is free.
 fn lowest_free(table: &[u64]) -> usize
-    requires { ⌜ length (now table) ≡ 256 ⌝ }
+    requires { ⌜ length (now table) ≡ tableNumbers ⌝ }
     ensures { λ r. ⌜ r ≡ lowestFree (now (table .entry)) ⌝ }
 {
     let mut i = 0;
@@ -189,8 +183,8 @@ fn lowest_free(table: &[u64]) -> usize
 
 // A row has this key.
 fn has_key(table: &[u64], i: usize, key: Key) -> bool
-    requires small { ⌜ i < 64 ⌝ }
-    requires sized { ⌜ length (now table) ≡ 256 ⌝ }
+    requires small { ⌜ i < mostRows ⌝ }
+    requires sized { ⌜ length (now table) ≡ tableNumbers ⌝ }
     ensures { λ r. ⌜ r ≡ rowMatches key (now (table .entry)) i ⌝ }
 {
     let at = 4 * i;

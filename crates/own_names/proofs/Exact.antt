@@ -8,10 +8,10 @@ use Prim.Native.Nat.{ℕ, suc}
 use Rattle.base.proofs.Bools.{true-or-false, not-both}
 use Rattle.cbor.specs.Tree.{Item, depth}
 use Rattle.exact.proofs.Whole.{stands, only-one}
-use Rattle.names.specs.Names.{namesBad, sameBytes, isOwn}
+use Rattle.names.specs.Names.{namesBad, sameBytes, isNamed}
 use Rattle.own_names.specs.Own.{TextArray, OwnNames}
 use Rattle.own_names.proofs.Texts.{texts-flat, texts-one, same-sound, same-complete}
-use Rattle.own_names.proofs.Judged.{names-own, names-good, own-member, member-own}
+use Rattle.own_names.proofs.Judged.{names-own, names-good, named-member, member-named}
 
 -- an array of texts is one list of texts at most, and has one level
 array-one : {x : Item} {names names′ : List (List ℕ)} → TextArray x names → TextArray x names′ → names ≡ names′
@@ -45,8 +45,8 @@ pub names-level : (s : List ℕ) (o : OwnNames s) → depth (o .one .item) ≡ 1
 names-level s o = array-level (o .are)
 
 -- A name is found among own names exactly if it is one of them.
-pub own-exactly : (s name : List ℕ) (o : OwnNames s) → (isOwn s name ≡ true) ↔ List·Memᴰ name (o .names)
-own-exactly s name o = (own-member name o, member-own name o)
+pub named-exactly : (s name : List ℕ) (o : OwnNames s) → (isNamed s name ≡ true) ↔ List·Memᴰ name (o .names)
+named-exactly s name o = (named-member name o, member-named name o)
 
 -- Two lists of bytes are found the same exactly if they are.
 pub same-exactly : (a b : List ℕ) → (sameBytes a b ≡ true) ↔ (a ≡ b)

@@ -2,7 +2,7 @@
 -- Assumes nothing.
 use mathlib.Core.Path.{_≡_, refl, sym, ap, _∙_, subst}
 use mathlib.Core.List.{List, _++_, append-nil, List·Memᴰ}
-use mathlib.Core.Bool.{true, false, not, _||_}
+use mathlib.Core.Bool.{true, false, not, _||_, true≢false}
 use Prim.Native.Nat.{ℕ, _≤_}
 use native.Mathlib.Omega.{arith}
 use lib.ListN.{length, drop}
@@ -11,7 +11,7 @@ use borrow.Author.Tests.{eqb-true, ltb-false, not-false, eq-eqb, ne-eqb, le-ltb}
 use Rattle.base.specs.Pick.{pick}
 use Rattle.base.proofs.Picks.{pick-case, past}
 use Rattle.base.proofs.Parts.{drop-past}
-use Rattle.base.proofs.Bools.{or-left, or-right, not-both}
+use Rattle.base.proofs.Bools.{or-left, or-right}
 use Rattle.cbor.specs.declared.item.ItemRead.{ItemRead}
 use Rattle.cbor.specs.declared.token.Token.{Token}
 use Rattle.cbor.specs.Item.{mostLevels, firstItem}
@@ -24,9 +24,9 @@ use Rattle.grammar.proofs.Pieces.{array-at}
 use Rattle.exact.proofs.Whole.{stands}
 use Rattle.exact.proofs.Answers.{walked}
 use Rattle.message.specs.Read.{mostBytes}
-use Rattle.names.specs.Names.{mostNames, goodNames, arrayBad, framedBad, namesBad, ownFrom, isOwn}
+use Rattle.names.specs.Names.{mostNames, goodNames, arrayBad, framedBad, namesBad, namedFrom, isNamed}
 use Rattle.own_names.specs.Own.{TextItems, TextArray, OwnNames}
-use Rattle.own_names.proofs.Texts.{texts-counted, texts-flat, names-sound, names-complete, own-sound, own-complete}
+use Rattle.own_names.proofs.Texts.{texts-counted, texts-flat, names-sound, names-complete, named-sound, named-complete}
 
 -- ---- own names are found good
 -- the array's token, and its texts
@@ -76,10 +76,10 @@ module _ {s : List ℕ} (o : OwnNames s) where
 -- ---- what is found good is own names
 framed-good : (s : List ℕ) (r : ItemRead) → framedBad s r ≡ false → (r ≡ ItemRead.Ends (length s)) × (arrayBad s ≡ false)
 unfolding framedBad
-framed-good s (ItemRead.Refused number place) = λ q. absurd (not-both true refl q)
+framed-good s (ItemRead.Refused number place) = λ q. absurd (true≢false q)
 framed-good s (ItemRead.Ends end) =
     pick-case (λ r. r ≡ false → (ItemRead.Ends end ≡ ItemRead.Ends (length s)) × (arrayBad s ≡ false)) (eqb end (length s))
-    (λ e q. (ap ItemRead.Ends (eqb-true end (length s) e), q)) (λ e q. absurd (not-both true refl q))
+    (λ e q. (ap ItemRead.Ends (eqb-true end (length s) e), q)) (λ e q. absurd (true≢false q))
 
 -- an item that stands at the start and is as long as the whole is the whole
 whole : {s : List ℕ} {e : ℕ} {x : Item} → Stands s 0 e x → length (encode x) ≡ length s → encode x ≡ s
@@ -116,19 +116,19 @@ array-own {s} most all good =
 pub names-own : {s : List ℕ} → namesBad s ≡ false → OwnNames s
 unfolding namesBad
 names-own {s} q =
-    let (some, q₁) = past (eqb (length s) 0) q (λ e. not-both true refl e) in
-    let (most, q₂) = past (ltb mostBytes (length s)) q₁ (λ e. not-both true refl e) in
+    let (some, q₁) = past (eqb (length s) 0) q true≢false in
+    let (most, q₂) = past (ltb mostBytes (length s)) q₁ true≢false in
     let (all, good) = framed-good s (firstItem 0 s) q₂ in
     array-own (ltb-false mostBytes (length s) most) all good
 
 -- ---- a name among them
 module _ {s : List ℕ} (name : List ℕ) (o : OwnNames s) where
-  own-read : isOwn s name ≡ ownFrom s name (count (read o .items)) (tokenAt s 0 .next)
-  unfolding isOwn pick
-  own-read = rw (le-ltb mostNames (tokenAt s 0 .arg) (few-read o), ← read o .arg) refl
+  named-read : isNamed s name ≡ namedFrom s name (count (read o .items)) (tokenAt s 0 .next)
+  unfolding isNamed pick
+  named-read = rw (le-ltb mostNames (tokenAt s 0 .arg) (few-read o), ← read o .arg) refl
 
-  pub own-member : isOwn s name ≡ true → List·Memᴰ name (o .names)
-  own-member e = own-sound name (read o .are) (read o .stand) (sym own-read ∙ e)
+  pub named-member : isNamed s name ≡ true → List·Memᴰ name (o .names)
+  named-member e = named-sound name (read o .are) (read o .stand) (sym named-read ∙ e)
 
-  pub member-own : List·Memᴰ name (o .names) → isOwn s name ≡ true
-  member-own m = own-read ∙ own-complete name (read o .are) (read o .stand) m
+  pub member-named : List·Memᴰ name (o .names) → isNamed s name ≡ true
+  member-named m = named-read ∙ named-complete name (read o .are) (read o .stand) m

@@ -3,7 +3,7 @@
 use mathlib.Core.Path.{_≡_, refl, sym, ap, ap₂, _∙_, subst}
 use mathlib.Core.Logic.{inl, inr}
 use mathlib.Core.List.{List, [], _∷_, List·Memᴰ, List·Memᴰ·head, List·Memᴰ·tail}
-use mathlib.Core.Bool.{Bool, true, false, _&&_}
+use mathlib.Core.Bool.{Bool, true, _&&_, false≢true}
 use mathlib.Core.Bool as B
 use Prim.Native.Nat.{ℕ, zero, suc, _-_, _≤_, max}
 use native.Mathlib.Omega.{arith}
@@ -12,7 +12,7 @@ use lib.Dec.{leb, eqb}
 use borrow.Author.Tests.{eqb-true, leb-true, le-leb, eq-eqb}
 use Rattle.options.specs.Text.{contentIn}
 use Rattle.base.specs.Lists.{Every}
-use Rattle.base.proofs.Bools.{and-left, and-right, and-true, or-true, not-both}
+use Rattle.base.proofs.Bools.{and-left, and-right, and-true, or-true}
 use Rattle.cbor.specs.declared.token.Token.{Token}
 use Rattle.cbor.specs.Token.{tokenAt}
 use Rattle.cbor.specs.Tree.{Items, count, depth, depths}
@@ -25,7 +25,7 @@ use Rattle.grammar.proofs.Bridge.{split, join, none, small-heading, text-token}
 use Rattle.grammar.proofs.Pieces.{text-at}
 use Rattle.exact.proofs.Bytes.{bytes-utf8}
 use Rattle.options.specs.Objective.{mostName}
-use Rattle.names.specs.Names.{goodName, goodNames, sameBytes, ownFrom}
+use Rattle.names.specs.Names.{goodName, goodNames, sameBytes, namedFrom}
 use Rattle.own_names.specs.Own.{TextItems}
 
 -- as many texts as items
@@ -132,8 +132,8 @@ names-complete {s} {p} (TextItems.more {xs = xs} are) stand utf8 short =
 pub same-sound : (a b : List ℕ) → sameBytes a b ≡ true → a ≡ b
 unfolding sameBytes
 same-sound [] [] e = refl
-same-sound [] (y ∷ ys) e = absurd (not-both false e refl)
-same-sound (x ∷ xs) [] e = absurd (not-both false e refl)
+same-sound [] (y ∷ ys) e = cc
+same-sound (x ∷ xs) [] e = cc
 same-sound (x ∷ xs) (y ∷ ys) e =
     ap₂ (λ (z : ℕ) (zs : List ℕ). z ∷ zs) (eqb-true x y (and-left (eqb x y) (sameBytes xs ys) e)) (same-sound xs ys (and-right (eqb x y) (sameBytes xs ys) e))
 
@@ -145,25 +145,25 @@ same-self (x ∷ xs) = and-true (eqb x x) (sameBytes xs xs) (eq-eqb x x refl) (s
 pub same-complete : (a b : List ℕ) → a ≡ b → sameBytes a b ≡ true
 same-complete a b e = subst (λ (l : List ℕ). sameBytes a l ≡ true) e (same-self a)
 
-pub own-sound : {s : List ℕ} {p e : ℕ} {xs : Items} {names : List (List ℕ)} (name : List ℕ) → TextItems xs names → StandAll s p e xs
-    → ownFrom s name (count xs) p ≡ true → List·Memᴰ name names
-unfolding ownFrom count
-own-sound name TextItems.empty stand own = absurd (not-both false own refl)
-own-sound {s} {p} name (TextItems.more {xs = xs} are) stand own =
+pub named-sound : {s : List ℕ} {p e : ℕ} {xs : Items} {names : List (List ℕ)} (name : List ℕ) → TextItems xs names → StandAll s p e xs
+    → namedFrom s name (count xs) p ≡ true → List·Memᴰ name names
+unfolding namedFrom count
+named-sound name TextItems.empty stand own = absurd (false≢true own)
+named-sound {s} {p} name (TextItems.more {xs = xs} are) stand own =
     let c = split stand in
     let t = text-read (c .first) in
-    elim (or-true (sameBytes (contentIn s (tokenAt s p)) name) (ownFrom s name (count xs) (tokenAt s p .next)) own) [
+    elim (or-true (sameBytes (contentIn s (tokenAt s p)) name) (namedFrom s name (count xs) (tokenAt s p .next)) own) [
       | inl here ↦ List·Memᴰ·head (sym (sym (t .content) ∙ same-sound (contentIn s (tokenAt s p)) name here))
-      | inr later ↦ List·Memᴰ·tail (own-sound name are (c .rest) (rw (t .next) at later))
+      | inr later ↦ List·Memᴰ·tail (named-sound name are (c .rest) (rw (t .next) at later))
     ]
 
-pub own-complete : {s : List ℕ} {p e : ℕ} {xs : Items} {names : List (List ℕ)} (name : List ℕ) → TextItems xs names → StandAll s p e xs
-    → List·Memᴰ name names → ownFrom s name (count xs) p ≡ true
-unfolding ownFrom count
-own-complete {s} {p} name (TextItems.more {xs = xs} are) stand (List·Memᴰ·head e) =
+pub named-complete : {s : List ℕ} {p e : ℕ} {xs : Items} {names : List (List ℕ)} (name : List ℕ) → TextItems xs names → StandAll s p e xs
+    → List·Memᴰ name names → namedFrom s name (count xs) p ≡ true
+unfolding namedFrom count
+named-complete {s} {p} name (TextItems.more {xs = xs} are) stand (List·Memᴰ·head e) =
     let t = text-read (split stand .first) in
     rw (same-complete (contentIn s (tokenAt s p)) name (t .content ∙ sym e)) refl
-own-complete {s} {p} name (TextItems.more {xs = xs} are) stand (List·Memᴰ·tail m) =
+named-complete {s} {p} name (TextItems.more {xs = xs} are) stand (List·Memᴰ·tail m) =
     let c = split stand in
-    let later : ownFrom s name (count xs) (tokenAt s p .next) ≡ true = rw (text-read (c .first) .next) (own-complete name are (c .rest) m) in
+    let later : namedFrom s name (count xs) (tokenAt s p .next) ≡ true = rw (text-read (c .first) .next) (named-complete name are (c .rest) m) in
     rw later (B.or-true (sameBytes (contentIn s (tokenAt s p)) name))

@@ -48,7 +48,7 @@ high-bit n mask l = bit-within mask n mask (below-power mask) l
 
 pub either : (a b : Bool) → (a ≡ true) ⊎ (b ≡ true) → (a || b) ≡ true
 either true b h = refl
-either false b (inl e) = absurd (not-both false e refl)
+either false b (inl e) = cc
 either false b (inr e) = e
 
 pub record-test : (r : Record) → recordBad r ≡ true ↔ BadRecord r

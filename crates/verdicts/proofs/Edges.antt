@@ -29,7 +29,7 @@ use Rattle.message.specs.Flood.{floodedBy, floodedOf, floodedAt, floodBy, flood
 use Rattle.message.specs.Read.{byKind, judgedShape, examined, framed, readPlaced, placeless, readOf}
 use Rattle.writer.specs.Write.{lowered}
 use Rattle.writer.specs.Edges.{initiator, name, discoveryBytes, floodBytes, endBytes}
-use Rattle.names.specs.Names.{goodName, goodNames, arrayBad, framedBad, namesBad, sameBytes, ownFrom, isOwn}
+use Rattle.names.specs.Names.{goodName, goodNames, arrayBad, framedBad, namesBad, sameBytes, namedFrom, isNamed}
 use Rattle.node.specs.declared.Verdict.the-variants.{Duplicate, Relay}
 use Rattle.node.specs.declared.Reply.the-variants.{Given}
 use Rattle.node_state.specs.Record.{linksBad, recordBad, fresh, arrivalBad, others, clocked, tallied}
@@ -69,5 +69,5 @@ pub starred :
     ∷ [])
     × (outcomes (arrives 1000 (floodBytes 2) ∷ [])
     ≡ afterOf (replies (Given Relay true 6 20) (node 1000 2)) (oneRow (7 + 2 ^ 32 * 3) 0xc0000201 0 1000) (floodBytes 1 ++ replicate 2028 0) ∷ [])
-unfolding pick bigEndian bytesOf widthOf leastOf initialOf argOf judged headFrom headBy headOf headAt opens stepOf stepFrom stepAt itemsOf next run enough firstItem nothingAt tokenOf tokenFrom tokenAt sizeFrom sizeAt itemsIn upTo tailsOf leastTail greatestTail goesOn isUtf8 infoOf headBytes shortest head badText firstOf longName objectiveFrom objectiveIn objectiveNamed isEmpty pairTagged pairTail pairLed pairIn isInitiator openingAt pairThen pairsFrom noopAt discovered discoveryAt optionAt endAt floodedBy floodedOf floodedAt floodBy floodAt byKind judgedShape examined framed readPlaced placeless readOf lowered goodName goodNames arrayBad framedBad namesBad sameBytes ownFrom isOwn linksBad recordBad fresh hasBit arrivalBad others clocked tallied freshTable cell putRow rowFree tagIn initiatorFits rowKeyed rowUsed rowBad firstFrom someRow tableBad rowLife rowDead freeRows freed lowestFree rowMatches isKnown roleOf tagOf keyOf keyIn barred refuse quiet laterVerdict verdictOn relayed carriedOut taken received nodeCall steps ones onesIn
+unfolding pick bigEndian bytesOf widthOf leastOf initialOf argOf judged headFrom headBy headOf headAt opens stepOf stepFrom stepAt itemsOf next run enough firstItem nothingAt tokenOf tokenFrom tokenAt sizeFrom sizeAt itemsIn upTo tailsOf leastTail greatestTail goesOn isUtf8 infoOf headBytes shortest head badText firstOf longName objectiveFrom objectiveIn objectiveNamed isEmpty pairTagged pairTail pairLed pairIn isInitiator openingAt pairThen pairsFrom noopAt discovered discoveryAt optionAt endAt floodedBy floodedOf floodedAt floodBy floodAt byKind judgedShape examined framed readPlaced placeless readOf lowered goodName goodNames arrayBad framedBad namesBad sameBytes namedFrom isNamed linksBad recordBad fresh hasBit arrivalBad others clocked tallied freshTable cell putRow rowFree tagIn initiatorFits rowKeyed rowUsed rowBad firstFrom someRow tableBad rowLife rowDead freeRows freed lowestFree rowMatches isKnown roleOf tagOf keyOf keyIn barred refuse quiet laterVerdict verdictOn relayed carriedOut taken received nodeCall steps ones onesIn
 starred = (refl, refl, refl, refl, refl, refl, refl, refl, refl, refl, refl, refl, refl, refl, refl, refl, refl, refl, refl)

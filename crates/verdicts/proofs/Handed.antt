@@ -2,7 +2,7 @@
 -- Assumes nothing.
 use mathlib.Core.Path.{_≡_, refl, sym, ap, _∙_, subst}
 use mathlib.Core.Logic.{_≢_, inl, inr, _↔_}
-use mathlib.Core.Bool.{Bool, true, false}
+use mathlib.Core.Bool.{Bool, true, false, true≢false, false≢true}
 use mathlib.Core.List.{List}
 use Prim.Native.Nat.{ℕ}
 use native.Mathlib.Omega.{arith}
@@ -53,15 +53,15 @@ isHand Hand = true
 
 handed-flood : (v : Verdict) → isHand v ≡ false → handed true v ≡ true → HandedUp 9 v
 unfolding handed isHand
-handed-flood Own n e = absurd (not-both false e refl)
-handed-flood Answer n e = absurd (not-both false e refl)
-handed-flood Duplicate n e = absurd (not-both false e refl)
+handed-flood Own n e = absurd (false≢true e)
+handed-flood Answer n e = absurd (false≢true e)
+handed-flood Duplicate n e = absurd (false≢true e)
 handed-flood Last n e = flood-last
 handed-flood Nowhere n e = flood-nowhere
 handed-flood NoRow n e = flood-norow
 handed-flood Relay n e = flood-relay
-handed-flood Noop n e = absurd (not-both false e refl)
-handed-flood Hand n e = absurd (not-both true refl n)
+handed-flood Noop n e = absurd (false≢true e)
+handed-flood Hand n e = absurd (true≢false n)
 
 module _ (r : Record) (t : List ℕ) (c : Call) where
   discovery-never : (session : ℕ) (i : Span) (o : Objective) (v : Verdict) (up : Bool) → First (discoveryRules r t c session i o) v up → up ≡ false

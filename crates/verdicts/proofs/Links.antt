@@ -4,7 +4,7 @@ use mathlib.Core.Path.{_≡_, refl, sym, ap, _∙_}
 use mathlib.Core.Logic.{_≢_, _⊎_, inl, inr, _↔_}
 use mathlib.Core.Bool.{true, false}
 use Prim.Native.Nat.{ℕ, zero, suc, _+_, _-_, _*_, _/_, _%_, _^_, _≤_, _<_}
-use native.Mathlib.Nat.{le-refl, le-suc, le-trans, mod-lt, zero-div, mul-add-mod-self-right, add-zero}
+use native.Mathlib.Nat.{le-refl, le-suc, le-trans, mod-lt, zero-div, mul-add-mod-self-right, add-zero, pow-suc}
 use native.Mathlib.Decide.{ℕ-discrete, decLt}
 use native.Mathlib.Omega.{arith}
 use lib.Dec.{eqb}
@@ -30,12 +30,7 @@ below-bit n rest j l =
 -- any mask is of some width
 pub below-power : (n : ℕ) → n < 2 ^ n
 below-power zero = pow-pos 0
-below-power (suc n) =
-    let width : suc n ≡ 1 + n = omega arith in
-    let double : 2 ^ suc n ≡ 2 ^ n + 2 ^ n = ap (λ (k : ℕ). 2 ^ k) width ∙ pow-add 2 1 n ∙ omega arith in
-    let ih = below-power n in
-    let some : 0 < 2 ^ n = pow-pos n in
-    omega arith
+below-power (suc n) = omega (arith, pow-suc 2 n, below-power n)
 
 -- without its highest bit a mask is shorter
 pub top-off : (n mask : ℕ) → mask < 2 ^ suc n → hasBit mask n ≡ false → mask < 2 ^ n
@@ -65,10 +60,8 @@ only-bit (suc n) mask i h off = go (ℕ-discrete n i) (true-or-false (hasBit mas
     go (yes at) (inl e) rest =
         let most : 2 ^ n ≤ mask = up-le mask n e in
         let whole : 2 ^ n + (mask - 2 ^ n) ≡ mask = omega arith in
-        let width : suc n ≡ 1 + n = omega arith in
-        let double : 2 ^ suc n ≡ 2 ^ n + 2 ^ n = ap (λ (k : ℕ). 2 ^ k) width ∙ pow-add 2 1 n ∙ omega arith in
         let nil : mask - 2 ^ n ≡ 0 =
-        none-up n (mask - 2 ^ n) (omega arith)
+        none-up n (mask - 2 ^ n) (omega (arith, pow-suc 2 n))
         (λ j l. sym (below-bit n (mask - 2 ^ n) j l) ∙ ap (λ (z : ℕ). hasBit z j) whole ∙ off j (le-trans l (le-suc n)) (λ q. omega arith))
         in
         let is : mask ≡ 2 ^ n = omega arith in

@@ -2,7 +2,8 @@
 -- Assumes nothing.
 use mathlib.Core.Path.{_≡_, refl, sym, ap, _∙_}
 use mathlib.Core.Logic.{_⊎_, inl, inr, _↔_}
-use mathlib.Core.Bool.{Bool, true, false, not, _&&_, _||_}
+use mathlib.Core.Bool.{Bool, true, false, not, _&&_}
+use mathlib.Core.Bool as B
 use mathlib.Core.List.{List}
 use Prim.Native.Nat.{ℕ, zero, suc, _+_, _-_, _*_, _/_, _%_, _^_, _≤_, _<_}
 use native.Mathlib.Nat.{mod-lt}
@@ -13,7 +14,8 @@ use lib.Pow.{high, split, pow-pos}
 use borrow.Author.Tests.{ltb-true, leb-true, eqb-true, lt-ltb, le-leb, lt-leb, eq-eqb}
 use Rattle.base.specs.Pick.{pick}
 use Rattle.base.proofs.Bools.{true-or-false, and-left, and-right, and-true, not-both}
-use Rattle.node_state.specs.Table.{cell, noKey, rowFree, tagIn, initiatorFits, rowKeyed, rowUsed, rowBad, tableBad, rowLife, rowDead, freed}
+use Rattle.node_state.specs.Table.{cell, rowFree, tagIn, initiatorFits, rowKeyed, rowUsed, rowBad, tableBad, rowLife, rowDead, freed}
+use Rattle.node_state.specs.Key.{noKey}
 use Rattle.node_state.proofs.Rows.{Holds, past-zeros, length-free, free-ahead, free-live, free-dead, free-zeros, zeros-free, table-sized, row-good}
 use Rattle.verdicts.specs.Rows.{Free, Tag, discovery-4, discovery-16, flood-4, flood-16, Used, Live, Dead, SameRow}
 
@@ -108,11 +110,7 @@ used-is now t i = (there, back)
 pub row-passes : (now : ℕ) (t : List ℕ) (i : ℕ) → Free t i ⊎ Used now t i → rowBad now t i ≡ false
 unfolding rowBad
 row-passes now t i (inl f) = rw (free-is t i .1 f) refl
-row-passes now t i (inr u) = rw (used-is now t i .1 u) (pass (rowFree t i))
-  where
-    pass : (b : Bool) → not (b || true) ≡ false
-    pass true = refl
-    pass false = refl
+row-passes now t i (inr u) = rw (used-is now t i .1 u) (ap not (B.or-true (rowFree t i)))
 
 -- ---- what freeing leaves
 

@@ -10,7 +10,7 @@ use native.Mathlib.Omega.{arith}
 use lib.ListN.{length}
 use borrow.Author.Tests.{eq-eqb}
 use Rattle.base.proofs.Bools.{true-or-false, not-both}
-use Rattle.node_state.specs.declared.table.Key.{Key}
+use Rattle.node_state.specs.declared.key.Key.{Key}
 use Rattle.node_state.specs.Table.{cell, putRow, rowFree, rowUsed, rowBad, firstFrom, someRow, tableBad, freed, lowestFree, rowMatches, isKnown}
 use Rattle.node_state.proofs.Rows.{put-other, put-holds, length-put, length-free, first-hit, first-miss, first-most, some-passes, passes-some, holds-matches, matches-holds, table-sized, row-good}
 use Rattle.verdicts.specs.Rows.{Free, Used, Live, Dead, HasKey, SameRow}

@@ -2,7 +2,7 @@
 -- Assumes nothing.
 use mathlib.Core.Path.{_≡_, refl, sym, ap, _∙_, subst}
 use mathlib.Core.Logic.{_≢_}
-use mathlib.Core.Bool.{Bool, true}
+use mathlib.Core.Bool.{Bool, true, true≢false}
 use mathlib.Core.List.{List}
 use Prim.Native.Nat.{ℕ, _-_, _^_}
 use lib.ListN.{length}
@@ -82,8 +82,8 @@ module _ (r : Record) (t : List ℕ) (c : Call) where
   unfolding answered response clocked isRelay
   answered-by e (sends-nothing n k) = absurd (n e)
   answered-by e (answers {session} {i} {o}) = (session, i, o, refl, record { bytes = _; is = refl; output = refl; reply = refl; table = refl; node = refl })
-  answered-by e relays-discovery = absurd (not-both true refl (ap isRelay e))
-  answered-by e relays-flood = absurd (not-both true refl (ap isRelay e))
+  answered-by e relays-discovery = absurd (true≢false (ap isRelay e))
+  answered-by e relays-flood = absurd (true≢false (ap isRelay e))
 
   silent-by : {m : Message} {v : Verdict} {up : Bool} {a : After} → v ≢ Answer → v ≢ Relay → Does r t c m v up a → a ≡ quiet v up (clocked r (c .clock)) (freed (c .clock) t) c
   silent-by no-answer no-relay (sends-nothing n k) = refl

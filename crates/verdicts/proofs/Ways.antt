@@ -22,9 +22,9 @@ use Rattle.message.specs.declared.Message.the-variants as M
 use Rattle.message.specs.declared.Series.{Series}
 use Rattle.message.specs.declared.Reading.{Reading}
 use Rattle.message.specs.Read.{readOf}
-use Rattle.names.specs.Names.{sameBytes, isOwn}
+use Rattle.names.specs.Names.{sameBytes, isNamed}
 use Rattle.own_names.specs.Own.{OwnNames}
-use Rattle.own_names.proofs.Exact.{own-exactly, same-exactly}
+use Rattle.own_names.proofs.Exact.{named-exactly, same-exactly}
 use Rattle.node_state.specs.declared.Record.{Record}
 use Rattle.node.specs.declared.Verdict.{Verdict}
 use Rattle.node.specs.declared.Verdict.the-variants.{Own, Answer, Duplicate, Last, Nowhere, NoRow, Relay, Noop, Hand}
@@ -34,11 +34,12 @@ use Rattle.node_state.specs.Record.{others, clocked}
 use Rattle.node_state.specs.Table.{freed, lowestFree, isKnown}
 use Rattle.node_state.specs.Key.{keyOf}
 use Rattle.node.specs.Role.{spreadOf, roleOf, keyIn}
-use Rattle.node.specs.Call.{Call, After, refuse, quiet, answered, relayed, laterVerdict, verdictOn, carriedOut, taken, received, nodeCall, Passed}
+use Rattle.node.specs.Call.{Call, After, refuse, quiet, answered, relayed, laterVerdict, verdictOn, carriedOut, taken, received, nodeCall}
+use Rattle.node.specs.Passed.{Passed}
 use Rattle.node.specs.History.{isRelay}
 use Rattle.node_state.proofs.Keys.{key-used}
 use Rattle.node.proofs.Outcomes.{passed, arrives}
-use Rattle.verdicts.specs.Due.{Ours, Named, Known, Alone, Full, Rules, when, otherwise, First, discoveryRules, floodRules, rulesOn, Due, Does, sends-nothing, answers, relays-discovery, relays-flood, bar, Comes, barred-by, unread, given}
+use Rattle.verdicts.specs.Due.{OwnInitiator, Named, Known, Alone, Full, Rules, when, otherwise, First, discoveryRules, floodRules, rulesOn, Due, Does, sends-nothing, answers, relays-discovery, relays-flood, bar, Comes, barred-by, unread, given}
 use Rattle.verdicts.specs.Bars.{Barred, nothing}
 use Rattle.verdicts.proofs.Bars.{fails, barred-exactly}
 use Rattle.verdicts.proofs.Rows.{known-live, full-exactly, lowest-most}
@@ -46,10 +47,10 @@ use Rattle.verdicts.proofs.Links.{alone-exactly}
 
 -- ---- tests and conditions
 
-named-test : (c : Call) (o : Objective) → OwnNames (c .names) → isOwn (c .names) (held (c .message) (o .name)) ≡ true ↔ Named c o
+named-test : (c : Call) (o : Objective) → OwnNames (c .names) → isNamed (c .names) (held (c .message) (o .name)) ≡ true ↔ Named c o
 named-test c o own =
     let name = held (c .message) (o .name) in
-    (λ e. (own, own-exactly (c .names) name own .0 e), λ (own′, among). own-exactly (c .names) name own′ .1 among)
+    (λ e. (own, named-exactly (c .names) name own .0 e), λ (own′, among). named-exactly (c .names) name own′ .1 among)
 
 spent-test : (n : ℕ) → leb n 1 ≡ true ↔ ((n ≡ 0) ⊎ (n ≡ 1))
 spent-test n = (λ e. there n (leb-true n 1 e), back)
@@ -63,9 +64,9 @@ spent-test n = (λ e. there n (leb-true n 1 e), back)
     back (inl e) = le-leb n 1 (omega arith)
     back (inr e) = le-leb n 1 (omega arith)
 
-ours-test : (r : Record) (c : Call) (i : Span) → sameBytes (held (c .message) i) (clocked r (c .clock) .address) ≡ true ↔ Ours r c i
+own-test : (r : Record) (c : Call) (i : Span) → sameBytes (held (c .message) i) (clocked r (c .clock) .address) ≡ true ↔ OwnInitiator r c i
 unfolding clocked
-ours-test r c i = same-exactly (held (c .message) i) (r .address)
+own-test r c i = same-exactly (held (c .message) i) (r .address)
 
 module _ (r : Record) (t : List ℕ) (c : Call) (p : Passed r t (c .clock) (c .interface) (length (c .output))) where
   known-test : (flood : Bool) (session : ℕ) (i : Span) (o : Objective)
@@ -150,7 +151,7 @@ module _ (r : Record) (t : List ℕ) (c : Call) (session : ℕ) (i : Span) (o : 
   discovery-due : Passed r t (c .clock) (c .interface) (length (c .output)) → OwnNames (c .names) → First (discoveryRules r t c session i o) discovery-verdict (handed false discovery-verdict)
   unfolding verdictOn laterVerdict pick handed
   discovery-due p own =
-      picked (handed false) _ _ _ (ours-test r c i) refl
+      picked (handed false) _ _ _ (own-test r c i) refl
       (picked (handed false) _ _ _ (named-test c o own) refl
       (picked (handed false) _ _ _ (known-test r t c p false session i o) refl
       (picked (handed false) _ _ _ (spent-test (o .count)) refl
@@ -164,7 +165,7 @@ module _ (r : Record) (t : List ℕ) (c : Call) (session : ℕ) (i : Span) (o : 
   flood-due : Passed r t (c .clock) (c .interface) (length (c .output)) → First (floodRules r t c session i o) flood-verdict (handed true flood-verdict)
   unfolding verdictOn laterVerdict pick handed
   flood-due p =
-      picked (handed true) _ _ _ (ours-test r c i) refl
+      picked (handed true) _ _ _ (own-test r c i) refl
       (picked (handed true) _ _ _ (known-test r t c p true session i o) refl
       (picked (handed true) _ _ _ (spent-test (o .count)) refl
       (picked (handed true) _ _ _ (alone-test r t c p) refl

@@ -19,7 +19,7 @@ use Rattle.own_names.specs.Own.{OwnNames}
 use Rattle.node_state.specs.declared.Record.{Record}
 use Rattle.node.specs.declared.Verdict.{Verdict}
 use Rattle.node.specs.declared.Verdict.the-variants.{Own, Answer, Duplicate, Last, Nowhere, NoRow, Relay, Noop, Hand}
-use Rattle.node_state.specs.declared.table.Key.{Key}
+use Rattle.node_state.specs.declared.key.Key.{Key}
 use Rattle.node_state.specs.Record.{clocked}
 use Rattle.node_state.specs.Table.{freed}
 use Rattle.node_state.specs.Key.{keyOf}
@@ -30,8 +30,8 @@ use Rattle.verdicts.specs.Rows.{Live, HasKey}
 -- ---- the conditions
 
 -- the initiator is our address
-abbrev pub Ours : Record → Call → Span → Type 0
-Ours r c initiator = held (c .message) initiator ≡ r .address
+abbrev pub OwnInitiator : Record → Call → Span → Type 0
+OwnInitiator r c initiator = held (c .message) initiator ≡ r .address
 
 -- the name equals one of our own names byte for byte
 abbrev pub Named : Call → Objective → Type 0
@@ -68,7 +68,7 @@ First (otherwise v up) w up′ = (v ≡ w) × (up ≡ up′)
 module _ (r : Record) (t : List ℕ) (c : Call) where
   abbrev pub discoveryRules : ℕ → Span → Objective → Rules
   discoveryRules session initiator o =
-      when (Ours r c initiator) Own false
+      when (OwnInitiator r c initiator) Own false
       (when (Named c o) Answer false
       (when (Known t (c .clock) (keyOf false session (held (c .message) initiator))) Duplicate false
       (when (Spent o) Last false
@@ -79,7 +79,7 @@ module _ (r : Record) (t : List ℕ) (c : Call) where
   -- the count that matters is the first objective's
   abbrev pub floodRules : ℕ → Span → Objective → Rules
   floodRules session initiator first =
-      when (Ours r c initiator) Own false
+      when (OwnInitiator r c initiator) Own false
       (when (Known t (c .clock) (keyOf true session (held (c .message) initiator))) Duplicate false
       (when (Spent first) Last true
       (when (Alone r c) Nowhere true

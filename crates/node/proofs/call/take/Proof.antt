@@ -4,7 +4,7 @@ use mathlib.Core.List.{List}
 use Prim.Native.Nat.{ℕ}
 use lib.ListN.{length}
 use Rattle.node.specs.Role.{RoleIn}
-use Rattle.node.specs.Call.{Ready}
+use Rattle.node.specs.Passed.{Ready}
 use mathlib.Core.Path.{refl, sym, subst}
 use Rattle.node_state.specs.Record.{clocked}
 use Rattle.node.specs.Call.{quiet, taken}

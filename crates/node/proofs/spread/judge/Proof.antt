@@ -16,7 +16,7 @@ use Rattle.node.proofs.spread.judge.Reads as reads
 use Rattle.node.proofs.spread.judge.Lts as lts
 use Rattle.node.proofs.call.quiet.Reads as quiet-reads
 use Rattle.node.proofs.spread.answer.Reads as answer-reads
-use Rattle.node.proofs.spread.is_ours.Reads as is-ours-reads
+use Rattle.node.proofs.spread.is_named.Reads as is-named-reads
 use Rattle.node.proofs.spread.is_own.Reads as is-own-reads
 use Rattle.node.proofs.spread.key_in.Reads as key-in-reads
 use Rattle.node.proofs.spread.relay_or_end.Reads as relay-or-end-reads
@@ -31,8 +31,8 @@ quiet-requires c κs = search needs
 returns : tie.Need-returns
 returns c = own-outcome (c .before .before .before .before .before .before .before .args .node) (c .before .before .before .before .before .before .before .args .table .now) (callOf (c .before .before .before .before .before .before .before .args .node .clock) (c .before .before .before .before .before .before .before .args .interface) (c .before .before .before .before .before .before .before .args .names .now) (c .before .before .before .before .before .before .before .args .message .now) (c .before .before .before .before .before .before .before .args .out .now)) (c .before .before .before .before .before .before .before .args .s) _ (c .quiet .ensures) (sym (c .before .before .is-own .ensures) ∙ c .before .if1 .taken)
 
-is-ours-requires : tie.Need-is-ours-requires
-is-ours-requires c κs = role-spreading (c .before .before .before .before .before .before .args .message .now) (c .before .before .before .before .before .before .args .s) (c .before .before .before .before .before .before .pre .1) .within
+is-named-requires : tie.Need-is-named-requires
+is-named-requires c κs = role-spreading (c .before .before .before .before .before .before .args .message .now) (c .before .before .before .before .before .before .args .s) (c .before .before .before .before .before .before .pre .1) .within
 
 answer-requires : tie.Need-answer-requires
 answer-requires c κs = (up-below 8 (c .before .before .before .before .before .before .before .before .before .args .node .links) (c .before .before .before .before .before .before .before .before .before .args .interface) (omega (arith, c .before .before .before .before .before .before .before .before .before .good)) (c .before .before .before .before .before .before .before .before .before .pre .0 .up), (c .before .before .before .before .before .before .before .before .before .pre .0 .fits, role-spreading (c .before .before .before .before .before .before .before .before .before .args .message .now) (c .before .before .before .before .before .before .before .before .before .args .s) (c .before .before .before .before .before .before .before .before .before .pre .1) .within))
@@ -41,7 +41,7 @@ same-length : tie.Need-same-length
 same-length c = search needs
 
 returns-2 : tie.Need-returns-2
-returns-2 c = answer-outcome (c .before .before .before .before .before .before .before .before .before .before .before .before .args .node) (c .before .before .before .before .before .before .before .before .before .before .before .before .args .table .now) (callOf (c .before .before .before .before .before .before .before .before .before .before .before .before .args .node .clock) (c .before .before .before .before .before .before .before .before .before .before .before .before .args .interface) (c .before .before .before .before .before .before .before .before .before .before .before .before .args .names .now) (c .before .before .before .before .before .before .before .before .before .before .before .before .args .message .now) (c .before .before .before .before .before .before .before .before .before .before .before .before .args .out .now)) (c .before .before .before .before .before .before .before .before .before .before .before .before .args .s) (sym (c .before .before .before .before .before .before .before .is-own .ensures) ∙ c .before .before .before .before .before .before .if1 .left) _ _ (c .before .before .answer .ensures .0) (c .before .before .answer .ensures .1) (sym (c .before .before .before .before .before .is-ours .ensures) ∙ c .before .before .before .before .if2 .taken)
+returns-2 c = answer-outcome (c .before .before .before .before .before .before .before .before .before .before .before .before .args .node) (c .before .before .before .before .before .before .before .before .before .before .before .before .args .table .now) (callOf (c .before .before .before .before .before .before .before .before .before .before .before .before .args .node .clock) (c .before .before .before .before .before .before .before .before .before .before .before .before .args .interface) (c .before .before .before .before .before .before .before .before .before .before .before .before .args .names .now) (c .before .before .before .before .before .before .before .before .before .before .before .before .args .message .now) (c .before .before .before .before .before .before .before .before .before .before .before .before .args .out .now)) (c .before .before .before .before .before .before .before .before .before .before .before .before .args .s) (sym (c .before .before .before .before .before .before .before .is-own .ensures) ∙ c .before .before .before .before .before .before .if1 .left) _ _ (c .before .before .answer .ensures .0) (c .before .before .answer .ensures .1) (sym (c .before .before .before .before .before .is-named .ensures) ∙ c .before .before .before .before .if2 .taken)
 
 key-in-requires : tie.Need-key-in-requires
 key-in-requires c κs = role-spreading (c .before .before .before .before .before .before .before .before .args .message .now) (c .before .before .before .before .before .before .before .before .args .s) (c .before .before .before .before .before .before .before .before .pre .1) .within
@@ -56,7 +56,7 @@ same-length-2 : tie.Need-same-length-2
 same-length-2 c = search needs
 
 returns-3 : tie.Need-returns-3
-returns-3 c = duplicate-outcome (c .before .before .before .before .before .before .before .before .before .before .before .before .before .args .node) (c .before .before .before .before .before .before .before .before .before .before .before .before .before .args .table .now) (callOf (c .before .before .before .before .before .before .before .before .before .before .before .before .before .args .node .clock) (c .before .before .before .before .before .before .before .before .before .before .before .before .before .args .interface) (c .before .before .before .before .before .before .before .before .before .before .before .before .before .args .names .now) (c .before .before .before .before .before .before .before .before .before .before .before .before .before .args .message .now) (c .before .before .before .before .before .before .before .before .before .before .before .before .before .args .out .now)) (c .before .before .before .before .before .before .before .before .before .before .before .before .before .args .s) (sym (c .before .before .before .before .before .before .before .before .is-own .ensures) ∙ c .before .before .before .before .before .before .before .if1 .left) (sym (c .before .before .before .before .before .before .is-ours .ensures) ∙ c .before .before .before .before .before .if2 .left) _ (c .quiet2 .ensures) (ap (λ k. isKnown k (c .before .before .before .before .before .before .before .before .before .before .before .before .before .args .table .now)) (sym (c .before .before .before .before .key-in .ensures)) ∙ sym (of-sized _ _ _ (c .before .before .before .before .before .before .before .before .before .before .before .before .before .pre .0 .sized)) ∙ sym (c .before .before .knows .ensures) ∙ c .before .if3 .taken)
+returns-3 c = duplicate-outcome (c .before .before .before .before .before .before .before .before .before .before .before .before .before .args .node) (c .before .before .before .before .before .before .before .before .before .before .before .before .before .args .table .now) (callOf (c .before .before .before .before .before .before .before .before .before .before .before .before .before .args .node .clock) (c .before .before .before .before .before .before .before .before .before .before .before .before .before .args .interface) (c .before .before .before .before .before .before .before .before .before .before .before .before .before .args .names .now) (c .before .before .before .before .before .before .before .before .before .before .before .before .before .args .message .now) (c .before .before .before .before .before .before .before .before .before .before .before .before .before .args .out .now)) (c .before .before .before .before .before .before .before .before .before .before .before .before .before .args .s) (sym (c .before .before .before .before .before .before .before .before .is-own .ensures) ∙ c .before .before .before .before .before .before .before .if1 .left) (sym (c .before .before .before .before .before .before .is-named .ensures) ∙ c .before .before .before .before .before .if2 .left) _ (c .quiet2 .ensures) (ap (λ k. isKnown k (c .before .before .before .before .before .before .before .before .before .before .before .before .before .args .table .now)) (sym (c .before .before .before .before .key-in .ensures)) ∙ sym (of-sized _ _ _ (c .before .before .before .before .before .before .before .before .before .before .before .before .before .pre .0 .sized)) ∙ sym (c .before .before .knows .ensures) ∙ c .before .if3 .taken)
 
 relay-or-end-requires : tie.Need-relay-or-end-requires
 relay-or-end-requires c κs = search needs
@@ -69,7 +69,7 @@ same-length-4 c = search needs
 
 returns-4 : tie.Need-returns-4
 unfolding laterVerdict
-returns-4 c = later-outcome (c .before .before .before .before .before .before .before .before .before .before .before .before .before .before .before .before .before .before .before .args .node) (c .before .before .before .before .before .before .before .before .before .before .before .before .before .before .before .before .before .before .before .args .table .now) (callOf (c .before .before .before .before .before .before .before .before .before .before .before .before .before .before .before .before .before .before .before .args .node .clock) (c .before .before .before .before .before .before .before .before .before .before .before .before .before .before .before .before .before .before .before .args .interface) (c .before .before .before .before .before .before .before .before .before .before .before .before .before .before .before .before .before .before .before .args .names .now) (c .before .before .before .before .before .before .before .before .before .before .before .before .before .before .before .before .before .before .before .args .message .now) (c .before .before .before .before .before .before .before .before .before .before .before .before .before .before .before .before .before .before .before .args .out .now)) (c .before .before .before .before .before .before .before .before .before .before .before .before .before .before .before .before .before .before .before .args .s) (sym (c .before .before .before .before .before .before .before .before .before .before .before .before .before .before .is-own .ensures) ∙ c .before .before .before .before .before .before .before .before .before .before .before .before .before .if1 .left) (sym (c .before .before .before .before .before .before .before .before .before .before .before .before .is-ours .ensures) ∙ c .before .before .before .before .before .before .before .before .before .before .before .if2 .left) _ (ap (λ k. isKnown k (c .before .before .before .before .before .before .before .before .before .before .before .before .before .before .before .before .before .before .before .args .table .now)) (sym (c .before .before .before .before .before .before .before .before .before .before .key-in .ensures)) ∙ sym (of-sized _ _ _ (c .before .before .before .before .before .before .before .before .before .before .before .before .before .before .before .before .before .before .before .pre .0 .sized)) ∙ sym (c .before .before .before .before .before .before .before .before .knows .ensures) ∙ c .before .before .before .before .before .before .before .if3 .left) (c .before .before .before .before .relay-or-end .ensures ∙ names-apart (c .before .before .before .before .before .before .before .before .before .before .before .before .before .before .before .before .before .before .before .args .node) (c .before .before .before .before .before .before .before .before .before .before .before .before .before .before .before .before .before .before .before .args .table .now) (c .before .before .before .before .before .before .before .before .before .before .before .before .before .before .before .before .before .before .before .args .node .clock) (c .before .before .before .before .before .before .before .before .before .before .before .before .before .before .before .before .before .before .before .args .interface) [] (c .before .before .before .before .before .before .before .before .before .before .before .before .before .before .before .before .before .before .before .args .names .now) (c .before .before .before .before .before .before .before .before .before .before .before .before .before .before .before .before .before .before .before .args .message .now) (c .before .before .before .before .before .before .before .before .before .before .before .before .before .before .before .before .before .before .before .args .out .now) (c .before .before .before .before .before .before .before .before .before .before .before .before .before .before .before .before .before .before .before .args .s) (laterVerdict (c .before .before .before .before .before .before .before .before .before .before .before .before .before .before .before .before .before .before .before .args .node) (c .before .before .before .before .before .before .before .before .before .before .before .before .before .before .before .before .before .before .before .args .table .now) (callOf (c .before .before .before .before .before .before .before .before .before .before .before .before .before .before .before .before .before .before .before .args .node .clock) (c .before .before .before .before .before .before .before .before .before .before .before .before .before .before .before .before .before .before .before .args .interface) [] (c .before .before .before .before .before .before .before .before .before .before .before .before .before .before .before .before .before .before .before .args .message .now) (c .before .before .before .before .before .before .before .before .before .before .before .before .before .before .before .before .before .before .before .args .out .now)) (c .before .before .before .before .before .before .before .before .before .before .before .before .before .before .before .before .before .before .before .args .s)))
+returns-4 c = later-outcome (c .before .before .before .before .before .before .before .before .before .before .before .before .before .before .before .before .before .before .before .args .node) (c .before .before .before .before .before .before .before .before .before .before .before .before .before .before .before .before .before .before .before .args .table .now) (callOf (c .before .before .before .before .before .before .before .before .before .before .before .before .before .before .before .before .before .before .before .args .node .clock) (c .before .before .before .before .before .before .before .before .before .before .before .before .before .before .before .before .before .before .before .args .interface) (c .before .before .before .before .before .before .before .before .before .before .before .before .before .before .before .before .before .before .before .args .names .now) (c .before .before .before .before .before .before .before .before .before .before .before .before .before .before .before .before .before .before .before .args .message .now) (c .before .before .before .before .before .before .before .before .before .before .before .before .before .before .before .before .before .before .before .args .out .now)) (c .before .before .before .before .before .before .before .before .before .before .before .before .before .before .before .before .before .before .before .args .s) (sym (c .before .before .before .before .before .before .before .before .before .before .before .before .before .before .is-own .ensures) ∙ c .before .before .before .before .before .before .before .before .before .before .before .before .before .if1 .left) (sym (c .before .before .before .before .before .before .before .before .before .before .before .before .is-named .ensures) ∙ c .before .before .before .before .before .before .before .before .before .before .before .if2 .left) _ (ap (λ k. isKnown k (c .before .before .before .before .before .before .before .before .before .before .before .before .before .before .before .before .before .before .before .args .table .now)) (sym (c .before .before .before .before .before .before .before .before .before .before .key-in .ensures)) ∙ sym (of-sized _ _ _ (c .before .before .before .before .before .before .before .before .before .before .before .before .before .before .before .before .before .before .before .pre .0 .sized)) ∙ sym (c .before .before .before .before .before .before .before .before .knows .ensures) ∙ c .before .before .before .before .before .before .before .if3 .left) (c .before .before .before .before .relay-or-end .ensures ∙ names-apart (c .before .before .before .before .before .before .before .before .before .before .before .before .before .before .before .before .before .before .before .args .node) (c .before .before .before .before .before .before .before .before .before .before .before .before .before .before .before .before .before .before .before .args .table .now) (c .before .before .before .before .before .before .before .before .before .before .before .before .before .before .before .before .before .before .before .args .node .clock) (c .before .before .before .before .before .before .before .before .before .before .before .before .before .before .before .before .before .before .before .args .interface) [] (c .before .before .before .before .before .before .before .before .before .before .before .before .before .before .before .before .before .before .before .args .names .now) (c .before .before .before .before .before .before .before .before .before .before .before .before .before .before .before .before .before .before .before .args .message .now) (c .before .before .before .before .before .before .before .before .before .before .before .before .before .before .before .before .before .before .before .args .out .now) (c .before .before .before .before .before .before .before .before .before .before .before .before .before .before .before .before .before .before .before .args .s) (laterVerdict (c .before .before .before .before .before .before .before .before .before .before .before .before .before .before .before .before .before .before .before .args .node) (c .before .before .before .before .before .before .before .before .before .before .before .before .before .before .before .before .before .before .before .args .table .now) (callOf (c .before .before .before .before .before .before .before .before .before .before .before .before .before .before .before .before .before .before .before .args .node .clock) (c .before .before .before .before .before .before .before .before .before .before .before .before .before .before .before .before .before .before .before .args .interface) [] (c .before .before .before .before .before .before .before .before .before .before .before .before .before .before .before .before .before .before .before .args .message .now) (c .before .before .before .before .before .before .before .before .before .before .before .before .before .before .before .before .before .before .before .args .out .now)) (c .before .before .before .before .before .before .before .before .before .before .before .before .before .before .before .before .before .before .before .args .s)))
 
 pub judge-spec : {M : Type 1} → statement M
 judge-spec =
@@ -78,7 +78,7 @@ judge-spec =
     is-own-requires
     quiet-requires
     returns
-    is-ours-requires
+    is-named-requires
     answer-requires
     same-length
     returns-2
