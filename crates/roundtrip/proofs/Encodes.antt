@@ -14,7 +14,7 @@ use Rattle.cbor.specs.Tree.{Item, Items, Right, infoOf, headBytes, count, encod
 use Rattle.base.specs.BigEndian.{bytesOf}
 use Rattle.syntax.specs.Message.{Loc, Obj, Pair, Aim, Ending, Msg, valuedObj, valuedPair, valued}
 use Rattle.grammar.specs.Cddl.{uint, list, array, Protocol, Port, OrNull, LocatorItem, LocatorItems, Value, ObjectiveItem, PairItem, PairItems, Number, Initiator, OptionalItems, joined, AimItems, EndingItem, MessageItem}
-use Rattle.description.specs.Encoding.{string, numberOrNull, reached, fixed, encodeLoc, oneMore, encodeObj, maybeObj, howMany, locOrEmpty, encodePair, targetItems, encodeTargets, encodeEnding, opening, exchange, encodeMsg}
+use Rattle.description.specs.Encoding.{string, numberOrNull, reached, fixed, encodeLoc, oneMore, encodeObj, maybeObj, howMany, locOrEmpty, encodePair, targetItems, encodeTargets, encodeEnding, preamble, exchange, encodeMsg}
 use Rattle.exact.proofs.Response.{count-joined}
 use Rattle.exact.proofs.Described.{short-width, locators-count, pairs-count}
 use Rattle.roundtrip.specs.Plain.{valueBytes, plain}
@@ -165,16 +165,16 @@ ending-encodes g EndingItem.decline = rw (array-head (g .0), number-head (g .1 .
 ending-encodes g EndingItem.reason = rw (array-head (g .0), number-head (g .1 .0), text-head (g .1 .1 .0 .0)) (simp (append-assoc, append-nil))
 
 -- an array whose first items are a kind and a session
-opening-encodes : {w k kind session : ℕ} {s : Item} (xs : Items) → Good (Item.array w (Items.more (uint k kind) (Items.more s xs))) → Number s session
-    → encode (Item.array w (Items.more (uint k kind) (Items.more s xs))) ≡ opening (suc (suc (count xs))) kind session ++ encodes xs
-unfolding encode count opening
-opening-encodes xs g i = rw (array-head (g .0), number-head (g .1 .0), number-encodes (g .1 .1 .0) i) (simp append-assoc)
+preamble-encodes : {w k kind session : ℕ} {s : Item} (xs : Items) → Good (Item.array w (Items.more (uint k kind) (Items.more s xs))) → Number s session
+    → encode (Item.array w (Items.more (uint k kind) (Items.more s xs))) ≡ preamble (suc (suc (count xs))) kind session ++ encodes xs
+unfolding encode count preamble
+preamble-encodes xs g i = rw (array-head (g .0), number-head (g .1 .0), number-encodes (g .1 .1 .0) i) (simp append-assoc)
 
 -- a kind, a session and an objective
 exchange-encodes : {w k kind session : ℕ} {s x : Item} {o : Obj Value} → Good (array w (uint k kind ∷ s ∷ x ∷ [])) → Number s session → ObjectiveItem x o
     → encode (array w (uint k kind ∷ s ∷ x ∷ [])) ≡ exchange kind session (valuedObj valueBytes o)
 unfolding encode count exchange
-exchange-encodes {x = x} g i o = opening-encodes (list (x ∷ [])) g i ∙ rw (objective-encodes (g .1 .1 .1 .0) o) (simp append-nil)
+exchange-encodes {x = x} g i o = preamble-encodes (list (x ∷ [])) g i ∙ rw (objective-encodes (g .1 .1 .1 .0) o) (simp append-nil)
 
 -- four items, and n more
 four-more : (n : ℕ) → 4 + n ≡ suc (suc (suc (suc n)))
@@ -187,19 +187,19 @@ pub plain-encodes : {x : Item} {msg : Msg Value} → Good x → MessageItem x ms
 unfolding encode count encodeMsg oneMore plain valued valueBytes
 plain-encodes g MessageItem.noop = rw (array-head (g .0), number-head (g .1 .0)) (simp append-nil)
 plain-encodes g (MessageItem.discovery {i = y} {x = x} i j o) =
-    opening-encodes (list (y ∷ x ∷ [])) g i ∙ rw (initiator-encodes (g .1 .1 .1 .0) j, objective-encodes (g .1 .1 .1 .1 .0) o) (simp (append-assoc, append-nil))
+    preamble-encodes (list (y ∷ x ∷ [])) g i ∙ rw (initiator-encodes (g .1 .1 .1 .0) j, objective-encodes (g .1 .1 .1 .1 .0) o) (simp (append-assoc, append-nil))
 plain-encodes g (MessageItem.response {i = y} {t = z} {xs = xs} i j t is) =
     let (bytes, many) = aim-encodes (g .1 .1 .1 .1 .1) is in
-    opening-encodes (Items.more y (Items.more z xs)) g i
+    preamble-encodes (Items.more y (Items.more z xs)) g i
     ∙ rw (initiator-encodes (g .1 .1 .1 .0) j, number-encodes (g .1 .1 .1 .1 .0) t, bytes, many) (simp (append-assoc, four-more))
 plain-encodes g (MessageItem.request-negotiation i o) = exchange-encodes g i o
 plain-encodes g (MessageItem.request-synchronization i o) = exchange-encodes g i o
 plain-encodes g (MessageItem.negotiate i o) = exchange-encodes g i o
-plain-encodes g (MessageItem.end {x = x} i e) = opening-encodes (list (x ∷ [])) g i ∙ rw (ending-encodes (g .1 .1 .1 .0) e) (simp append-nil)
-plain-encodes g (MessageItem.wait {t = x} i t) = opening-encodes (list (x ∷ [])) g i ∙ rw (number-encodes (g .1 .1 .1 .0) t) (simp append-nil)
+plain-encodes g (MessageItem.end {x = x} i e) = preamble-encodes (list (x ∷ [])) g i ∙ rw (ending-encodes (g .1 .1 .1 .0) e) (simp append-nil)
+plain-encodes g (MessageItem.wait {t = x} i t) = preamble-encodes (list (x ∷ [])) g i ∙ rw (number-encodes (g .1 .1 .1 .0) t) (simp append-nil)
 plain-encodes g (MessageItem.synch i o) = exchange-encodes g i o
 plain-encodes g (MessageItem.flood {i = y} {t = z} {xs = xs} i j t is) =
-    opening-encodes (Items.more y (Items.more z xs)) g i
+    preamble-encodes (Items.more y (Items.more z xs)) g i
     ∙ rw (initiator-encodes (g .1 .1 .1 .0) j, number-encodes (g .1 .1 .1 .1 .0) t, pairs-encode (g .1 .1 .1 .1 .1) is, pairs-count is, pairs-many) (simp (append-assoc, four-more))
-plain-encodes g (MessageItem.invalid i) = opening-encodes Items.done g i ∙ simp append-nil
-plain-encodes g (MessageItem.invalid-with {x = x} i) = opening-encodes (list (x ∷ [])) g i ∙ rw (has-bytes x) (simp append-nil)
+plain-encodes g (MessageItem.invalid i) = preamble-encodes Items.done g i ∙ simp append-nil
+plain-encodes g (MessageItem.invalid-with {x = x} i) = preamble-encodes (list (x ∷ [])) g i ∙ rw (has-bytes x) (simp append-nil)

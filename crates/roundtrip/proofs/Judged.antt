@@ -26,16 +26,16 @@ use Rattle.cbor.proofs.Accepts.{item-accepts}
 use Rattle.cbor.proofs.Exact.{item-exact}
 use Rattle.options.specs.declared.Span.{Span}
 use Rattle.description.specs.declared.rows.Entry.{Entry}
-use Rattle.description.specs.declared.rows.Place.{Place}
+use Rattle.description.specs.declared.rows.LocatorRow.{LocatorRow}
 use Rattle.description.specs.declared.Extra.{Extra}
 use Rattle.description.specs.declared.Extra.the-variants as X
 use Rattle.options.specs.declared.Outcome.{Outcome}
 use Rattle.options.specs.declared.Outcome.the-variants as E
 use Rattle.description.specs.declared.Description.{Description}
 use Rattle.description.specs.declared.Description.the-variants as D
-use Rattle.description.specs.Describe.{placeRow, pairRow, entryRow, listOf, entryOf, objOf, placeAt, entryAt, rowPair, pairsOf, extraOf, msgOf}
-use Rattle.description.specs.Judge.{okDiscovery, okResponse, okFlood, okParts, okList, okDescribed, alone, whole, inside, okValue, okItem, okEntry, okPlace, blankPlace, okNoneOr, allFrom, okEach, okRow, okRows, okPair, okPairs, okExtra, okOutcome}
-use Rattle.roundtrip.specs.Says.{Inside, EntrySays, PlaceSays, Blank, PairSays, Rows, ExtraSays, OutcomeSays, PartsSay}
+use Rattle.description.specs.Describe.{locatorRow, pairRow, entryRow, listOf, entryOf, objOf, locatorRowAt, entryAt, rowPair, pairsOf, extraOf, msgOf}
+use Rattle.description.specs.Judge.{okDiscovery, okResponse, okFlood, okParts, okList, okDescribed, alone, whole, inside, okValue, okItem, okEntry, okLocatorRow, blankLocatorRow, okNoneOr, allFrom, okEach, okRow, okRows, okPair, okPairs, okExtra, okOutcome}
+use Rattle.roundtrip.specs.Says.{Inside, EntrySays, LocatorRowSays, Blank, PairSays, Rows, ExtraSays, OutcomeSays, PartsSay}
 use Rattle.roundtrip.proofs.Script.{Each, Valued}
 use Rattle.roundtrip.proofs.Once.{ValuedObj, ValuedPair, ValuedMsg}
 
@@ -170,8 +170,8 @@ up-to-exactly P f (suc n) =
     last h i e = rw e (h .1 .0)
 
 -- five zeros
-blank-exactly : {G : Type 0} (p : Place) → Tells G (blankPlace p ≡ true) ((p .content .at ≡ 0) × ((p .content .len ≡ 0) × ((p .protocol ≡ 0) × (p .port ≡ 0))))
-unfolding blankPlace
+blank-exactly : {G : Type 0} (p : LocatorRow) → Tells G (blankLocatorRow p ≡ true) ((p .content .at ≡ 0) × ((p .content .len ≡ 0) × ((p .protocol ≡ 0) × (p .port ≡ 0))))
+unfolding blankLocatorRow
 blank-exactly p =
     and-exactly (equal-exactly (p .content .at) 0)
     (and-exactly (equal-exactly (p .content .len) 0) (and-exactly (equal-exactly (p .protocol) 0) (equal-exactly (p .port) 0)))
@@ -200,34 +200,34 @@ module _ (source : List ℕ) where
       (λ h. (h .0 .name, (h .0 .value, h .1)))
 
   -- a locator
-  place-exactly : {G : Type 0} (p : Place) → Tells G (okPlace source p ≡ true) (PlaceSays source p)
-  unfolding okPlace
-  place-exactly p =
+  locator-row-exactly : {G : Type 0} (p : LocatorRow) → Tells G (okLocatorRow source p ≡ true) (LocatorRowSays source p)
+  unfolding okLocatorRow
+  locator-row-exactly p =
       retold (unless-exactly (least-exactly (p .kind) 103) (unless-exactly (least-exactly 106 (p .kind)) (inside-exactly source (p .content))))
       (λ h. record { least = h .0; most = h .1 .0; content = h .1 .1 })
       (λ h. (h .least, (h .most, h .content)))
 
   -- a pair's locator or none
-  tag-exactly : {G : Type 0} (p : Place) → Tells G (okNoneOr source p ≡ true) (Blank p ⊎ PlaceSays source p)
+  tag-exactly : {G : Type 0} (p : LocatorRow) → Tells G (okNoneOr source p ≡ true) (Blank p ⊎ LocatorRowSays source p)
   unfolding okNoneOr
   tag-exactly {G} p = (
-    λ b. pick-case (λ r. r ≡ true → Blank p ⊎ PlaceSays source p) (eqb (p .kind) 0)
+    λ b. pick-case (λ r. r ≡ true → Blank p ⊎ LocatorRowSays source p) (eqb (p .kind) 0)
         (λ e h. let f = blank-exactly p .0 b h in inl (record { kind = eqb-true (p .kind) 0 e; at = f .0; len = f .1 .0; protocol = f .1 .1 .0; port = f .1 .1 .1 }))
-        (λ e h. inr (place-exactly p .0 b h)),
+        (λ e h. inr (locator-row-exactly p .0 b h)),
     back,
   )
     where
-      back : Blank p ⊎ PlaceSays source p → pick (eqb (p .kind) 0) (blankPlace p) (okPlace source p) ≡ true
+      back : Blank p ⊎ LocatorRowSays source p → pick (eqb (p .kind) 0) (blankLocatorRow p) (okLocatorRow source p) ≡ true
       back (inl h) =
           pick-case (λ r. r ≡ true) (eqb (p .kind) 0) (λ e. blank-exactly {G = G} p .1 (h .at, (h .len, (h .protocol, h .port)))) (λ e. absurd (eqb-false (p .kind) 0 e (h .kind)))
       back (inr h) =
-          pick-case (λ r. r ≡ true) (eqb (p .kind) 0) (λ e. absurd (omega (arith, eqb-true (p .kind) 0 e, h .least))) (λ e. place-exactly {G = G} p .1 h)
+          pick-case (λ r. r ≡ true) (eqb (p .kind) 0) (λ e. absurd (omega (arith, eqb-true (p .kind) 0 e, h .least))) (λ e. locator-row-exactly {G = G} p .1 h)
 
   -- the locators of a list
-  rows-exactly : {G : Type 0} (list : List ℕ) → Tells G (okRows source list ≡ true) (Rows list placeRow (λ k. PlaceSays source (placeAt list (placeRow * k))))
+  rows-exactly : {G : Type 0} (list : List ℕ) → Tells G (okRows source list ≡ true) (Rows list locatorRow (λ k. LocatorRowSays source (locatorRowAt list (locatorRow * k))))
   unfolding okRows okRow
   rows-exactly list =
-      each-exactly placeRow (okRow source list) (λ k. PlaceSays source (placeAt list (placeRow * k))) (λ k. place-exactly (placeAt list (placeRow * k))) list
+      each-exactly locatorRow (okRow source list) (λ k. LocatorRowSays source (locatorRowAt list (locatorRow * k))) (λ k. locator-row-exactly (locatorRowAt list (locatorRow * k))) list
 
   -- a pair's row, with its value
   pair-exactly : (list : List ℕ) (i : ℕ) → Judges (okPair source list i) (PairSays source list i × ValuedPair (rowPair source list i))
@@ -235,9 +235,9 @@ module _ (source : List ℕ) where
   pair-exactly list i =
       retold
       (and-exactly (equal-exactly (getD list (pairRow * i + 4) 0) 0)
-      (and-exactly (entry-exactly (entryAt list (pairRow * i))) (tag-exactly (placeAt list (pairRow * i + entryRow)))))
-      (λ h. (record { kept = h .0; objective = h .1 .0 .0; locator = h .1 .1 }, h .1 .0 .1))
-      (λ h. (h .0 .kept, ((h .0 .objective, h .1), h .0 .locator)))
+      (and-exactly (entry-exactly (entryAt list (pairRow * i))) (tag-exactly (locatorRowAt list (pairRow * i + entryRow)))))
+      (λ h. (record { count-at = h .0; objective = h .1 .0 .0; locator = h .1 .1 }, h .1 .0 .1))
+      (λ h. (h .0 .count-at, ((h .0 .objective, h .1), h .0 .locator)))
 
   -- the pairs of a list
   pairs-exactly : (list : List ℕ) → Judges (okPairs source list) (Rows list pairRow (PairSays source list) × Every ValuedPair (pairsOf source list))

@@ -12,7 +12,7 @@ use Rattle.cbor.specs.Put.{head}
 use Rattle.cbor.specs.Tree.{headBytes}
 use Rattle.message.specs.Read.{mostBytes}
 use Rattle.syntax.specs.Message.{Loc, Obj, Pair, Aim, Ending, Msg}
-use Rattle.description.specs.Encoding.{string, numberOrNull, reached, fixed, encodeLoc, oneMore, encodeObj, maybeObj, howMany, locOrEmpty, encodePair, targetItems, encodeTargets, encodeEnding, opening, exchange, encodeMsg}
+use Rattle.description.specs.Encoding.{string, numberOrNull, reached, fixed, encodeLoc, oneMore, encodeObj, maybeObj, howMany, locOrEmpty, encodePair, targetItems, encodeTargets, encodeEnding, preamble, exchange, encodeMsg}
 use Rattle.description.proofs.Items.{more-le}
 use Rattle.roundtrip.proofs.Script.{Small, Piece, spell, spells, Like, Valued, array-rest, array-next, number-next, string-next, array-none, none-array, text-number, number-text, perhaps, Each, perhaps-next, value-next}
 
@@ -460,12 +460,12 @@ pieces m = Piece.array (itemsOf m) ∷ Piece.number (kindOf m) ∷ rest m
 
 -- those of a session and an objective spell them
 exchange-spelt : (k s : ℕ) (o : Obj (List ℕ)) → spells (Piece.array 3 ∷ Piece.number k ∷ exchanged s o) ≡ exchange k s o
-unfolding spells spell exchange opening encodeObj
+unfolding spells spell exchange preamble encodeObj
 exchange-spelt k s o = simp (append-assoc, append-nil)
 
 -- the pieces of a message spell it
 pieces-spelt : (m : Msg (List ℕ)) → spells (pieces m) ≡ encodeMsg m
-unfolding spells spell itemsOf kindOf rest encodeMsg opening encodeObj
+unfolding spells spell itemsOf kindOf rest encodeMsg preamble encodeObj
 pieces-spelt Msg.noop = simp append-nil
 pieces-spelt (Msg.discovery s i o) = simp (append-assoc, append-nil)
 pieces-spelt (Msg.response s i t x o) = rw (targets-spelt x (extra o), extra-spelt o) (simp append-assoc)

@@ -23,9 +23,9 @@ use Rattle.message.specs.Response.{responseBy, responseAt, targetsAt, locatedAt
 use Rattle.message.specs.Flood.{floodedBy, floodedOf, floodedAt, floodBy, floodAt}
 use Rattle.message.specs.Read.{byKind, judgedShape, shaped, framed, examined, placeless, readOf}
 use Rattle.syntax.specs.Message.{orNull}
-use Rattle.description.specs.Encoding.{string, numberOrNull, reached, fixed, encodeLoc, oneMore, encodeObj, maybeObj, howMany, locOrEmpty, encodePair, targetItems, encodeTargets, encodeEnding, opening, exchange, encodeMsg}
-use Rattle.description.specs.Describe.{listOf, entryOf, objOf, placeLoc, placeAt, rowLoc, locsOf, targetsOf, extraOf, entryAt, locOrNone, rowPair, pairsOf, endOf, msgOf}
-use Rattle.description.specs.Judge.{alone, whole, inside, okValue, okItem, okEntry, okPlace, blankPlace, okNoneOr, allFrom, okEach, okRow, okRows, okPair, okPairs, okExtra, okOutcome, okDiscovery, okResponse, okFlood, okParts, okList, okDescribed}
+use Rattle.description.specs.Encoding.{string, numberOrNull, reached, fixed, encodeLoc, oneMore, encodeObj, maybeObj, howMany, locOrEmpty, encodePair, targetItems, encodeTargets, encodeEnding, preamble, exchange, encodeMsg}
+use Rattle.description.specs.Describe.{listOf, entryOf, objOf, locatorRowLoc, locatorRowAt, rowLoc, locsOf, targetsOf, extraOf, entryAt, locOrNone, rowPair, pairsOf, endOf, msgOf}
+use Rattle.description.specs.Judge.{alone, whole, inside, okValue, okItem, okEntry, okLocatorRow, blankLocatorRow, okNoneOr, allFrom, okEach, okRow, okRows, okPair, okPairs, okExtra, okOutcome, okDiscovery, okResponse, okFlood, okParts, okList, okDescribed}
 use Rattle.writer.specs.Write.{accepts, handAnswer, handOut, passes, passAnswer, passOut, draftOf, writeAnswer, writeOut, lowered, okLower, lowerAnswer, lowerOut, answerOf, okInitiator, answerAnswer, answerOut}
 use Rattle.writer.specs.declared.Written.{Written}
 use Rattle.writer.specs.Edges.{home, initiator, discoveryBytes, floodBytes, endBytes, answerBytes, source, answerRow, answerTold, floodRow, floodTold, endTold}
@@ -39,7 +39,7 @@ pub written :
     × (writeOut source floodRow floodTold (replicate 20 0) ≡ floodBytes 2)
     × (writeAnswer [] [] endTold (replicate 6 0) ≡ Written.Length 6)
     × (writeOut [] [] endTold (replicate 6 0) ≡ endBytes)
-unfolding pick bigEndian bytesOf widthOf leastOf initialOf argOf judged headFrom headBy headOf headAt opens stepOf stepFrom stepAt itemsOf next run enough firstItem nothingAt tokenOf tokenFrom tokenAt sizeFrom sizeAt itemsIn upTo tailsOf leastTail greatestTail goesOn isUtf8 infoOf headBytes shortest head badText firstOf isNull addressFits protocolOf portOf locatorOf textOf locatorIn locatorReached longName objectiveFrom objectiveIn objectiveNamed isEmpty pairTagged pairTail pairLed pairIn isInitiator openingAt textLed locatorThen locatorsFrom pairThen pairsFrom noopAt discovered discoveryAt exchangeOf exchanged exchangeAt waitAt invalidAt optionAt endAt responseBy responseAt floodedBy floodedOf floodedAt floodBy floodAt byKind judgedShape shaped framed examined placeless readOf string numberOrNull reached fixed encodeLoc oneMore encodeObj maybeObj howMany locOrEmpty encodePair flatMap targetItems encodeTargets encodeEnding opening exchange encodeMsg listOf entryOf objOf orNull placeLoc placeAt rowLoc locsOf targetsOf extraOf entryAt locOrNone rowPair pairsOf endOf msgOf alone whole accepts inside okValue okItem okEntry okPlace blankPlace okNoneOr allFrom okEach okRow okRows okPair okPairs okExtra okOutcome okDiscovery okResponse okFlood okParts okList okDescribed handAnswer handOut passes passAnswer passOut draftOf writeAnswer writeOut lowered okLower lowerAnswer lowerOut answerOf targetsAt locatedAt locatedOf restAt
+unfolding pick bigEndian bytesOf widthOf leastOf initialOf argOf judged headFrom headBy headOf headAt opens stepOf stepFrom stepAt itemsOf next run enough firstItem nothingAt tokenOf tokenFrom tokenAt sizeFrom sizeAt itemsIn upTo tailsOf leastTail greatestTail goesOn isUtf8 infoOf headBytes shortest head badText firstOf isNull addressFits protocolOf portOf locatorOf textOf locatorIn locatorReached longName objectiveFrom objectiveIn objectiveNamed isEmpty pairTagged pairTail pairLed pairIn isInitiator openingAt textLed locatorThen locatorsFrom pairThen pairsFrom noopAt discovered discoveryAt exchangeOf exchanged exchangeAt waitAt invalidAt optionAt endAt responseBy responseAt floodedBy floodedOf floodedAt floodBy floodAt byKind judgedShape shaped framed examined placeless readOf string numberOrNull reached fixed encodeLoc oneMore encodeObj maybeObj howMany locOrEmpty encodePair flatMap targetItems encodeTargets encodeEnding preamble exchange encodeMsg listOf entryOf objOf orNull locatorRowLoc locatorRowAt rowLoc locsOf targetsOf extraOf entryAt locOrNone rowPair pairsOf endOf msgOf alone whole accepts inside okValue okItem okEntry okLocatorRow blankLocatorRow okNoneOr allFrom okEach okRow okRows okPair okPairs okExtra okOutcome okDiscovery okResponse okFlood okParts okList okDescribed handAnswer handOut passes passAnswer passOut draftOf writeAnswer writeOut lowered okLower lowerAnswer lowerOut answerOf targetsAt locatedAt locatedOf restAt
 written = (refl, refl, refl, refl, refl, refl, refl)
 
 -- for readers
@@ -53,5 +53,5 @@ pub sent :
     × (lowerOut (discoveryBytes (0x18 ∷ 0x18 ∷ [])) 14 16 24 (replicate 15 0) ≡ discoveryBytes (0x17 ∷ []))
     × (lowerAnswer (floodBytes 2) 18 19 2 (replicate 20 0) ≡ Written.Length 20)
     × (lowerOut (floodBytes 2) 18 19 2 (replicate 20 0) ≡ floodBytes 1)
-unfolding answerAnswer answerOut okInitiator answerOf encodeMsg opening string head headBytes shortest infoOf bytesOf encodeTargets targetItems howMany maybeObj flatMap encodeLoc fixed reached lowered okLower lowerAnswer lowerOut passes passAnswer passOut handAnswer handOut pick
+unfolding answerAnswer answerOut okInitiator answerOf encodeMsg preamble string head headBytes shortest infoOf bytesOf encodeTargets targetItems howMany maybeObj flatMap encodeLoc fixed reached lowered okLower lowerAnswer lowerOut passes passAnswer passOut handAnswer handOut pick
 sent = (refl, refl, refl, refl, refl, refl, refl, refl)

@@ -1,6 +1,6 @@
--- For readers: `Edges`, messages at the edges. For the proofs of this crate: `Home`, a node's answer. `Lengths`, how many bytes are written.
--- `Verdicts`, the writer's answers.
+-- For readers: `Edges`, messages at the edges. For the proofs of this crate: `Response`, a node's answer. `Lengths`, how many bytes are written.
+-- `Answers`, the writer's answers.
 pub mod Edges
-pub mod Home
+pub mod Response
 pub mod Lengths
-pub mod Verdicts
+pub mod Answers
