@@ -2,14 +2,14 @@
 -- Assumes nothing.
 use mathlib.Core.Path.{_≡_, refl, sym, ap, _∙_, subst}
 use mathlib.Core.Logic.{_↔_, _⊎_, inl, inr}
-use mathlib.Core.Bool.{Bool, true, false}
+use mathlib.Core.Bool.{Bool, true, false, false≢true}
 use mathlib.Core.List.{List, [], _∷_, append-nil}
 use Prim.Native.Nat.{ℕ, zero, suc, _+_, _*_, _/_, _%_, _≤_, _<_}
 use native.Mathlib.Decide.{decLt}
 use native.Mathlib.Omega.{arith}
 use native.Mathlib.Nat.{add-zero, zero-add}
 use lib.Dec.{ltb, eqb}
-use lib.ListN.{length, take, drop, getD, length-take, length-drop}
+use lib.ListN.{length, take, drop, getD, length-take, length-drop, drop-of-length-le}
 use lib.Seq.{take-length}
 use borrow.Author.Tests.{ltb-false, eqb-true, eqb-false, le-ltb, eq-eqb}
 use Rattle.options.specs.Text.{held}
@@ -40,10 +40,6 @@ use Rattle.roundtrip.proofs.Script.{Each, Valued}
 use Rattle.roundtrip.proofs.Once.{ValuedObj, ValuedPair, ValuedMsg}
 
 -- ---- tests
--- no test is both
-pub never : false ≡ true → ⊥
-never e = let z : _≡_ {A = ℕ} 0 1 = cc in omega arith
-
 -- P says A, where G is given, and A says P
 abbrev Tells : Type 0 → Type 0 → Type 0 → Type 0
 Tells G P A = (G → P → A) × (A → P)
@@ -52,12 +48,12 @@ Tells G P A = (G → P → A) × (A → P)
 and-exactly : {t u : Bool} {G A B : Type 0} → Tells G (t ≡ true) A → Tells G (u ≡ true) B → Tells G (pick t u false ≡ true) (A × B)
 unfolding pick
 and-exactly {t = true} f g = (λ b h. (f .0 b refl, g .0 b h), λ h. g .1 (h .1))
-and-exactly {t = false} f g = (λ b h. absurd (never h), λ h. absurd (never (f .1 (h .0))))
+and-exactly {t = false} f g = (λ b h. absurd (false≢true h), λ h. absurd (false≢true (f .1 (h .0))))
 
 -- the second test, where the first fails
 unless-exactly : {t u : Bool} {G A B : Type 0} → Tells G (t ≡ false) A → Tells G (u ≡ true) B → Tells G (pick t false u ≡ true) (A × B)
 unfolding pick
-unless-exactly {t = true} f g = (λ b h. absurd (never h), λ h. absurd (never (sym (f .1 (h .0)))))
+unless-exactly {t = true} f g = (λ b h. absurd (false≢true h), λ h. absurd (false≢true (sym (f .1 (h .0)))))
 unless-exactly {t = false} f g = (λ b h. (f .0 b refl, g .0 b h), λ h. g .1 (h .1))
 
 -- equal numbers
@@ -105,7 +101,7 @@ whole-is bs b = go (firstItem 0 bs) refl
         subst Valued (sym all) (Valued.one (i .item) (i .good) (i .shallow))
 
     go : (r : ItemRead) → firstItem 0 bs ≡ r → alone (length bs) r ≡ true → Valued bs
-    go (ItemRead.Refused number place) q h = absurd (never h)
+    go (ItemRead.Refused number place) q h = absurd (false≢true h)
     go (ItemRead.Ends e) q h = found e q (eqb-true e (length bs) (sym (pick-same _) ∙ h))
 
 -- and an item is
@@ -116,16 +112,11 @@ value-ok _ (Valued.one x g d) =
     let ends : firstItem 0 (encode x) ≡ ItemRead.Ends (length (encode x)) = ap (firstItem 0) (sym (append-nil (encode x))) ∙ item-accepts 0 x [] g d in
     both (λ r. r ≡ true) (eqb (length (encode x)) 0) refl (rw (ends, eq-eqb (length (encode x)) (length (encode x)) refl) refl)
 
--- no bytes are the empty list
-no-bytes : (bs : List ℕ) → length bs ≡ 0 → bs ≡ []
-no-bytes [] e = refl
-no-bytes (x ∷ bs) e = absurd (omega arith)
-
 -- a value: none, or an item
 value-is : (bs : List ℕ) → Bytes bs → okValue bs ≡ true → Valued bs
 unfolding okValue
 value-is bs b =
-    pick-case (λ r. r ≡ true → Valued bs) (eqb (length bs) 0) (λ e h. subst Valued (sym (no-bytes bs (eqb-true (length bs) 0 e))) Valued.none) (λ e h. whole-is bs b h)
+    pick-case (λ r. r ≡ true → Valued bs) (eqb (length bs) 0) (λ e h. subst Valued (sym (drop-of-length-le bs {i = 0} (omega (arith, eqb-true (length bs) 0 e)))) Valued.none) (λ e h. whole-is bs b h)
 
 -- the bytes of a span are bytes
 pub bytes-held : (source : List ℕ) (s : Span) → Bytes source → Bytes (held source s)
@@ -178,7 +169,7 @@ blank-exactly p =
 
 -- a list where there is none to be
 list-exactly : {G : Type 0} (list : List ℕ) → Tells G (eqb (length list) 0 ≡ true) (list ≡ [])
-list-exactly list = retold (equal-exactly (length list) 0) (no-bytes list) (ap length)
+list-exactly list = retold (equal-exactly (length list) 0) (λ e. drop-of-length-le list {i = 0} (omega arith)) (ap length)
 
 module _ (source : List ℕ) where
   -- what a test says of a source of bytes; what says so much passes the test, whatever the source's elements are
