@@ -14,7 +14,7 @@ use Rattle.description.specs.declared.Extra.{Extra}
 use Rattle.options.specs.declared.Outcome.{Outcome}
 use Rattle.description.specs.declared.Description.{Description}
 use Rattle.description.specs.declared.Description.the-variants as D
-use Rattle.description.specs.Describe.{placeRow, pairRow}
+use Rattle.description.specs.Describe.{locatorRow, pairRow}
 use Rattle.description.specs.Judge.{allFrom}
 use Rattle.blocks.specs.declared.told.Narrow.{Narrow}
 use Rattle.blocks.specs.declared.told.Told.{Told}
@@ -87,7 +87,7 @@ toldTargets sort n initiator extra =
 unfoldable pub toldResponse : List ℕ → ℕ → Narrow → Told
 toldResponse f numbers n =
     let initiator = spanOf (getD f 2 0) (getD f 3 0) in
-    unless (eqb (getD f 15 0) (numbers / placeRow)) Nothing
+    unless (eqb (getD f 15 0) (numbers / locatorRow)) Nothing
     (pick (eqb (getD f 5 0) 0) (unless (isBlank f) Nothing (toldTargets (getD f 13 0) n initiator Extra.Without))
     (unless (eqb (getD f 5 0) 1) Nothing (toldTargets (getD f 13 0) n initiator (Extra.With (toldGoal f n)))))
 

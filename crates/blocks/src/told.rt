@@ -6,6 +6,8 @@ ghost use Rattle.blocks.specs.Told.{allowedIn, fieldFits, allFit, isBlan
 use description::Description;
 use description::Extra;
 use description::Goal;
+use description::rows::LOCATOR_ROW;
+use description::rows::PAIR_ROW;
 use options::Outcome;
 use options::Span;
 
@@ -119,7 +121,7 @@ fn told_objective(kind: u64, n: Narrow, initiator: Span, objective: Goal) -> Tol
 fn told_response(fields: &[u64; 19], numbers: usize, n: Narrow) -> Told
     ensures { λ r. ⌜ r ≡ toldResponse (now (fields .entry)) numbers n ⌝ }
 {
-    if fields[15] != numbers as u64 / 5 {
+    if fields[15] != (numbers / LOCATOR_ROW) as u64 {
         return Told::Nothing;
     }
     let initiator = span(fields[2], fields[3]);
@@ -256,7 +258,7 @@ fn told_flood(fields: &[u64; 19], numbers: usize, n: Narrow) -> Told
     if fields[13] != 3 {
         return Told::Nothing;
     }
-    if fields[15] != numbers as u64 / 12 {
+    if fields[15] != (numbers / PAIR_ROW) as u64 {
         return Told::Nothing;
     }
     Told::Says(Description::Flood {

@@ -11,7 +11,7 @@ use Rattle.options.specs.declared.pair.PairRead.{PairRead}
 use Rattle.options.specs.Locator.{locatorAt, locatorNumbers}
 use Rattle.options.specs.Pair.{pairAt}
 use Rattle.base.proofs.Parts.{drop-past}
-use Rattle.description.specs.Describe.{placeRow, pairRow}
+use Rattle.description.specs.Describe.{locatorRow, pairRow}
 use Rattle.describe.specs.Rows.{rowsFrom, locatorStoredFrom, locatorStored, pairCells, pairStoredFrom, pairStored}
 
 -- what is left of the rows is the whole
@@ -40,7 +40,7 @@ module _ (next : ℕ → ℕ) (row : ℕ → ℕ → List ℕ → List ℕ) (n a
 locator-from-length : (i : ℕ) (list : List ℕ) (x : LocatorRead) → length (locatorStoredFrom i list x) ≡ length list
 unfolding locatorStoredFrom
 locator-from-length i list (LocatorRead.Bad place) = refl
-locator-from-length i list (LocatorRead.Got l size bad) = length-sets list (placeRow * i) (locatorNumbers l)
+locator-from-length i list (LocatorRead.Got l size bad) = length-sets list (locatorRow * i) (locatorNumbers l)
 
 pub locator-length : (s : List ℕ) (at i : ℕ) (list : List ℕ) → length (locatorStored s at i list) ≡ length list
 unfolding locatorStored

@@ -15,7 +15,7 @@ use Rattle.message.specs.declared.Series.{Series}
 use Rattle.message.specs.declared.Targets.{Targets}
 use Rattle.message.specs.declared.Message.{Message}
 use Rattle.message.specs.declared.Message.the-variants as M
-use Rattle.description.specs.Describe.{placeRow, pairRow}
+use Rattle.description.specs.Describe.{locatorRow, pairRow}
 use Rattle.describe.specs.declared.rows.Rows.{Rows}
 
 -- n elements from `at` on, each with the place after it and its row, in the rows from i on
@@ -37,7 +37,7 @@ locatorNextFrom at (LocatorRead.Got l size bad) = at + size
 
 unfoldable pub locatorStoredFrom : ℕ → List ℕ → LocatorRead → List ℕ
 locatorStoredFrom i list (LocatorRead.Bad place) = list
-locatorStoredFrom i list (LocatorRead.Got l size bad) = sets list (placeRow * i) (locatorNumbers l)
+locatorStoredFrom i list (LocatorRead.Got l size bad) = sets list (locatorRow * i) (locatorNumbers l)
 
 -- the place after the one at `at`, and the list with its numbers in row i
 unfoldable pub locatorNext : List ℕ → ℕ → ℕ
@@ -67,10 +67,12 @@ unfoldable pub pairStored : List ℕ → ℕ → ℕ → List ℕ → List ℕ
 pairStored s at i list = pairStoredFrom i list (pairAt s at)
 
 -- ---- by the message
+-- a Response's locators, or its divert's
 unfoldable pub targetRows : Targets → Rows
 targetRows (Targets.Locators series) = Rows.Locators series
 targetRows (Targets.Divert series) = Rows.Locators series
 
+-- what the message's list has
 unfoldable pub rowsIn : Message → Rows
 rowsIn M.Noop = Rows.Nothing
 rowsIn (M.Discovery session initiator o) = Rows.Nothing
@@ -84,18 +86,22 @@ rowsIn (M.Synch session o) = Rows.Nothing
 rowsIn (M.Flood session initiator ttl first pairs) = Rows.Pairs pairs
 rowsIn (M.Invalid session item) = Rows.Nothing
 
+-- how many numbers so many rows are, or one more than the list has
 unfoldable pub endBy : List ℕ → Rows → ℕ
 endBy list Rows.Nothing = 0
-endBy list (Rows.Locators series) = seriesEnd placeRow series list
+endBy list (Rows.Locators series) = seriesEnd locatorRow series list
 endBy list (Rows.Pairs series) = seriesEnd pairRow series list
 
+-- the list with them
 unfoldable pub filledBy : List ℕ → List ℕ → Rows → List ℕ
 filledBy s list Rows.Nothing = list
-filledBy s list (Rows.Locators series) = seriesFilled placeRow (locatorNext s) (locatorStored s) series list
+filledBy s list (Rows.Locators series) = seriesFilled locatorRow (locatorNext s) (locatorStored s) series list
 filledBy s list (Rows.Pairs series) = seriesFilled pairRow (pairNext s) (pairStored s) series list
 
+-- what `fill` answers: how many numbers the message's rows are, or one more than the list has
 unfoldable pub rowsEnd : Message → List ℕ → ℕ
 rowsEnd m list = endBy list (rowsIn m)
 
+-- the list that it leaves: with the rows in front, or as it was
 unfoldable pub rowsFilled : List ℕ → Message → List ℕ → List ℕ
 rowsFilled s m list = filledBy s list (rowsIn m)

@@ -4,7 +4,9 @@ ghost use Prim.Native.Nat.{_+_, _*_, _≤_};
 ghost use lib.ListN.{length};
 ghost use lib.Seq.{sets};
 ghost use Rattle.describe.specs.Rows.{rowsIn, seriesEnd, seriesFilled, locatorNext, locatorStored, pairNext, pairStored, rowsEnd, rowsFilled};
-ghost use Rattle.description.specs.Describe.{placeRow, pairRow};
+ghost use Rattle.description.specs.Describe.{locatorRow, pairRow};
+use description::rows::LOCATOR_ROW;
+use description::rows::PAIR_ROW;
 use message::Message;
 use message::Series;
 use message::Targets;
@@ -56,11 +58,11 @@ fn rows_in(m: Message) -> Rows
 }
 
 fn fill_locators(s: &[u8], series: Series, list: &mut [u64]) -> usize
-    ensures { λ r. ⌜ r ≡ seriesEnd placeRow series (now (list .entry)) ⌝ }
-    ensures { λ r. ⌜ now (list .exit) ≡ seriesFilled placeRow (locatorNext (now (s .entry))) (locatorStored (now (s .entry))) series (now (list .entry)) ⌝ }
+    ensures { λ r. ⌜ r ≡ seriesEnd locatorRow series (now (list .entry)) ⌝ }
+    ensures { λ r. ⌜ now (list .exit) ≡ seriesFilled locatorRow (locatorNext (now (s .entry))) (locatorStored (now (s .entry))) series (now (list .entry)) ⌝ }
 {
     let many = series.many;
-    let room = list.len() / 5;
+    let room = list.len() / LOCATOR_ROW;
     if (room as u64) < many {
         return list.len() + 1;
     }
@@ -69,12 +71,12 @@ fn fill_locators(s: &[u8], series: Series, list: &mut [u64]) -> usize
     for i in 0..n {
         at = fill_locator(s, at, i, list);
     }
-    5 * n
+    LOCATOR_ROW * n
 }
 
 // The locator at `at` in row i; the answer is the place after it.
 fn fill_locator(s: &[u8], at: usize, i: usize, list: &mut [u64]) -> usize
-    requires { ⌜ placeRow * i + placeRow ≤ length (now list) ⌝ }
+    requires { ⌜ locatorRow * i + locatorRow ≤ length (now list) ⌝ }
     ensures { λ r. ⌜ r ≡ locatorNext (now (s .entry)) at ⌝ }
     ensures { λ r. ⌜ now (list .exit) ≡ locatorStored (now (s .entry)) at i (now (list .entry)) ⌝ }
 {
@@ -83,7 +85,7 @@ fn fill_locator(s: &[u8], at: usize, i: usize, list: &mut [u64]) -> usize
         LocatorRead::Bad(_) => at,
         LocatorRead::Got { locator, size, .. } => {
             let n = locator::numbers_of(locator);
-            put_numbers(list, 5 * i, &n);
+            put_numbers(list, LOCATOR_ROW * i, &n);
             at + size
         }
     }
@@ -94,7 +96,7 @@ fn fill_pairs(s: &[u8], series: Series, list: &mut [u64]) -> usize
     ensures { λ r. ⌜ now (list .exit) ≡ seriesFilled pairRow (pairNext (now (s .entry))) (pairStored (now (s .entry))) series (now (list .entry)) ⌝ }
 {
     let many = series.many;
-    let room = list.len() / 12;
+    let room = list.len() / PAIR_ROW;
     if (room as u64) < many {
         return list.len() + 1;
     }
@@ -103,7 +105,7 @@ fn fill_pairs(s: &[u8], series: Series, list: &mut [u64]) -> usize
     for i in 0..n {
         at = fill_pair(s, at, i, list);
     }
-    12 * n
+    PAIR_ROW * n
 }
 
 // The pair at `at` in row i, with 0 for the place of the count's head; the answer is the place after it.
@@ -123,7 +125,7 @@ fn fill_pair(s: &[u8], at: usize, i: usize, list: &mut [u64]) -> usize
         } => {
             let mut n = pair::numbers_of(objective, tag);
             n[4] = 0;
-            put_numbers(list, 12 * i, &n);
+            put_numbers(list, PAIR_ROW * i, &n);
             at + size
         }
     }

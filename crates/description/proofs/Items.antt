@@ -1,23 +1,17 @@
 -- How many items the parts of a description are.
 -- Assumes nothing.
-use Prim.Native.Nat.{ℕ, zero, suc, _+_, _/_, _≤_}
-use mathlib.Core.Path.{_≡_, refl, sym, ap, _∙_}
-use mathlib.Core.Bool.{false}
+use Prim.Native.Nat.{ℕ, zero, suc, _+_, _≤_}
+use mathlib.Core.Path.{_≡_, refl, ap, _∙_}
 use mathlib.Core.List.{List, [], _∷_}
-use mathlib.Core.Option.{Option, none, some}
 use native.Mathlib.Omega.{arith}
 use lib.ListN.{length, length-append}
-use Rattle.description.specs.Encoding.{oneMore, howMany, targetItems}
-use Rattle.description.specs.Describe.{placeRow, listOf, locsOf, targetsOf}
+use Rattle.description.specs.Encoding.{oneMore}
+use Rattle.description.specs.Describe.{listOf}
 
 pub length-up : {A : Type 0} (f : ℕ → A) (n : ℕ) → length (listOf f n) ≡ n
 unfolding listOf
 length-up f zero = refl
 length-up f (suc n) = length-append (listOf f n) (f n ∷ []) ∙ ap (λ (k : ℕ). k + 1) (length-up f n) ∙ omega arith
-
-pub rows-many : (list : List ℕ) → length list / placeRow ≡ targetItems (targetsOf [] list false)
-unfolding targetsOf targetItems locsOf
-rows-many list = sym (length-up _ _)
 
 pub more-none : (bs : List ℕ) (n : ℕ) → n ≡ length bs → n ≡ 0 → 0 ≡ oneMore bs
 unfolding oneMore
@@ -34,8 +28,3 @@ pub more-le : (bs : List ℕ) → oneMore bs ≤ 1
 unfolding oneMore
 more-le [] = omega arith
 more-le (x ∷ bs) = omega arith
-
-pub many-le : {A : Type 0} (m : Option A) → howMany m ≤ 1
-unfolding howMany
-many-le none = omega arith
-many-le (some x) = omega arith

@@ -13,7 +13,7 @@ use Rattle.syntax.specs.Message as Syntax
 use Rattle.syntax.specs.Message.{Loc, orNull, Obj, Pair, Aim, Msg}
 use Rattle.description.specs.declared.Goal.{Goal}
 use Rattle.description.specs.declared.rows.Entry.{Entry}
-use Rattle.description.specs.declared.rows.Place.{Place}
+use Rattle.description.specs.declared.rows.LocatorRow.{LocatorRow}
 use Rattle.description.specs.declared.Extra.{Extra}
 use Rattle.description.specs.declared.Extra.the-variants as X
 use Rattle.options.specs.declared.Outcome.{Outcome}
@@ -22,8 +22,8 @@ use Rattle.description.specs.declared.Description.{Description}
 use Rattle.description.specs.declared.Description.the-variants as D
 
 -- how many numbers a row has: a locator's, a pair's, and a pair's before its locator
-abbrev pub placeRow : ℕ
-placeRow = 5
+abbrev pub locatorRow : ℕ
+locatorRow = 5
 
 abbrev pub pairRow : ℕ
 pairRow = 12
@@ -40,20 +40,21 @@ listOf f (suc n) = listOf f n ++ (f n ∷ [])
 unfoldable pub entryOf : Goal → Entry
 entryOf o = record { name = o .name; flags = o .flags; count = o .count; value = o .value }
 
+-- the objective that it speaks of
 unfoldable pub objOf : List ℕ → Entry → Obj (List ℕ)
 objOf source o = record { name = held source (o .name); flags = o .flags; count = o .count; value = held source (o .value) }
 
--- protocol 0 and port 65,536 stand for null in a URI
-unfoldable pub placeLoc : List ℕ → Place → Loc
-placeLoc source p =
+-- the locator that a row speaks of; protocol 0 and port 65,536 stand for null in a URI
+unfoldable pub locatorRowLoc : List ℕ → LocatorRow → Loc
+locatorRowLoc source p =
     pick (eqb (p .kind) 103) (Loc.v6 (held source (p .content)) (p .protocol) (p .port))
     (pick (eqb (p .kind) 104) (Loc.v4 (held source (p .content)) (p .protocol) (p .port))
     (pick (eqb (p .kind) 105) (Loc.domain (held source (p .content)) (p .protocol) (p .port))
     (Loc.uri (held source (p .content)) (orNull nullProtocol (p .protocol)) (orNull nullPort (p .port)))))
 
 -- a locator in five numbers, from place k on: kind, place and length of its address or text, protocol, port
-unfoldable pub placeAt : List ℕ → ℕ → Place
-placeAt list k =
+unfoldable pub locatorRowAt : List ℕ → ℕ → LocatorRow
+locatorRowAt list k =
     record {
       kind = getD list k 0;
       content = record { at = getD list (k + 1) 0; len = getD list (k + 2) 0 };
@@ -61,19 +62,33 @@ placeAt list k =
       port = getD list (k + 4) 0;
     }
 
+-- the locator of row i
 unfoldable pub rowLoc : List ℕ → List ℕ → ℕ → Loc
-rowLoc source list i = placeLoc source (placeAt list (placeRow * i))
+rowLoc source list i = locatorRowLoc source (locatorRowAt list (locatorRow * i))
 
+-- those of all rows
 unfoldable pub locsOf : List ℕ → List ℕ → List Loc
-locsOf source list = listOf (rowLoc source list) (length list / placeRow)
+locsOf source list = listOf (rowLoc source list) (length list / locatorRow)
 
+-- a Response's locators, or its divert's
 unfoldable pub targetsOf : List ℕ → List ℕ → Bool → Aim
 targetsOf source list true = Aim.divert (locsOf source list)
 targetsOf source list false = Aim.locators (locsOf source list)
 
+-- how many items of the Response they are
+unfoldable pub targetsMany : List ℕ → Bool → ℕ
+targetsMany list true = 1
+targetsMany list false = length list / locatorRow
+
+-- a Response's objective, which may be left out
 unfoldable pub extraOf : List ℕ → Extra → Option (Obj (List ℕ))
 extraOf source X.Without = none
 extraOf source (X.With o) = some (objOf source (entryOf o))
+
+-- how many items of the Response it is
+unfoldable pub extraMany : Extra → ℕ
+extraMany X.Without = 0
+extraMany (X.With o) = 1
 
 -- an objective in seven numbers, from place k on: place and length of its name, flags, count, 0, place and length of its value
 unfoldable pub entryAt : List ℕ → ℕ → Entry
@@ -86,20 +101,24 @@ entryAt list k =
     }
 
 -- no locator where its kind is 0
-unfoldable pub locOrNone : List ℕ → Place → Option Loc
-locOrNone source p = pick (eqb (p .kind) 0) none (some (placeLoc source p))
+unfoldable pub locOrNone : List ℕ → LocatorRow → Option Loc
+locOrNone source p = pick (eqb (p .kind) 0) none (some (locatorRowLoc source p))
 
+-- the pair of row i
 unfoldable pub rowPair : List ℕ → List ℕ → ℕ → Pair (List ℕ)
-rowPair source list i = (objOf source (entryAt list (pairRow * i)), locOrNone source (placeAt list (pairRow * i + entryRow)))
+rowPair source list i = (objOf source (entryAt list (pairRow * i)), locOrNone source (locatorRowAt list (pairRow * i + entryRow)))
 
+-- those of all rows
 unfoldable pub pairsOf : List ℕ → List ℕ → List (Pair (List ℕ))
 pairsOf source list = listOf (rowPair source list) (length list / pairRow)
 
+-- how a negotiation ends
 unfoldable pub endOf : List ℕ → Outcome → Syntax.Ending
 endOf source E.Accept = Syntax.Ending.accept
 endOf source E.Decline = Syntax.Ending.decline
 endOf source (E.Reason t) = Syntax.Ending.reason (held source t)
 
+-- the message that a description speaks of
 unfoldable pub msgOf : List ℕ → List ℕ → Description → Msg (List ℕ)
 msgOf source list D.Noop = Msg.noop
 msgOf source list (D.Discovery s i o) = Msg.discovery s (held source i) (objOf source (entryOf o))

@@ -72,22 +72,22 @@ encodeEnding Ending.decline = head 4 1 ++ head 0 102
 encodeEnding (Ending.reason t) = head 4 2 ++ head 0 102 ++ string 3 t
 
 -- an array of n items, the kind and the session
-unfoldable pub opening : ℕ → ℕ → ℕ → List ℕ
-opening n kind session = head 4 n ++ head 0 kind ++ head 0 session
+unfoldable pub preamble : ℕ → ℕ → ℕ → List ℕ
+preamble n kind session = head 4 n ++ head 0 kind ++ head 0 session
 
 -- kinds 3, 4, 5 and 8
 unfoldable pub exchange : ℕ → ℕ → Obj (List ℕ) → List ℕ
-exchange kind session o = opening 3 kind session ++ encodeObj o
+exchange kind session o = preamble 3 kind session ++ encodeObj o
 
 unfoldable pub encodeMsg : Msg (List ℕ) → List ℕ
 encodeMsg Msg.noop = head 4 1 ++ head 0 0
-encodeMsg (Msg.discovery s i o) = opening 4 1 s ++ string 2 i ++ encodeObj o
-encodeMsg (Msg.response s i t x o) = opening (4 + (targetItems x + howMany o)) 2 s ++ string 2 i ++ head 0 t ++ encodeTargets x ++ maybeObj o
+encodeMsg (Msg.discovery s i o) = preamble 4 1 s ++ string 2 i ++ encodeObj o
+encodeMsg (Msg.response s i t x o) = preamble (4 + (targetItems x + howMany o)) 2 s ++ string 2 i ++ head 0 t ++ encodeTargets x ++ maybeObj o
 encodeMsg (Msg.request-negotiation s o) = exchange 3 s o
 encodeMsg (Msg.request-synchronization s o) = exchange 4 s o
 encodeMsg (Msg.negotiate s o) = exchange 5 s o
-encodeMsg (Msg.end s e) = opening 3 6 s ++ encodeEnding e
-encodeMsg (Msg.wait s t) = opening 3 7 s ++ head 0 t
+encodeMsg (Msg.end s e) = preamble 3 6 s ++ encodeEnding e
+encodeMsg (Msg.wait s t) = preamble 3 7 s ++ head 0 t
 encodeMsg (Msg.synch s o) = exchange 8 s o
-encodeMsg (Msg.flood s i t ps) = opening (4 + length ps) 9 s ++ string 2 i ++ head 0 t ++ flatMap encodePair ps
-encodeMsg (Msg.invalid s v) = opening (2 + oneMore v) 99 s ++ v
+encodeMsg (Msg.flood s i t ps) = preamble (4 + length ps) 9 s ++ string 2 i ++ head 0 t ++ flatMap encodePair ps
+encodeMsg (Msg.invalid s v) = preamble (2 + oneMore v) 99 s ++ v

@@ -11,22 +11,24 @@ use Rattle.cbor.specs.declared.item.ItemRead.{ItemRead}
 use Rattle.cbor.specs.Item.{firstItem, framedBy}
 use Rattle.options.specs.declared.Span.{Span}
 use Rattle.description.specs.declared.rows.Entry.{Entry}
-use Rattle.description.specs.declared.rows.Place.{Place}
+use Rattle.description.specs.declared.rows.LocatorRow.{LocatorRow}
 use Rattle.description.specs.declared.Extra.{Extra}
 use Rattle.description.specs.declared.Extra.the-variants as X
 use Rattle.options.specs.declared.Outcome.{Outcome}
 use Rattle.options.specs.declared.Outcome.the-variants as E
 use Rattle.description.specs.declared.Description.{Description}
 use Rattle.description.specs.declared.Description.the-variants as D
-use Rattle.description.specs.Describe.{placeRow, pairRow, entryRow, entryOf, placeAt, entryAt}
+use Rattle.description.specs.Describe.{locatorRow, pairRow, entryRow, entryOf, locatorRowAt, entryAt}
 
--- the bytes are one item and nothing else
+-- what was read of n bytes is one item and nothing else
 unfoldable pub alone : ℕ → ItemRead → Bool
 alone n r = framedBy (λ number place. false) true n r
 
+-- the bytes are one item and nothing else
 unfoldable pub whole : List ℕ → Bool
 whole bs = alone (length bs) (firstItem 0 bs)
 
+-- the source has all bytes of the span
 unfoldable pub inside : List ℕ → Span → Bool
 inside source s = eqb (length (held source s)) (s .len)
 
@@ -34,22 +36,26 @@ inside source s = eqb (length (held source s)) (s .len)
 unfoldable pub okValue : List ℕ → Bool
 okValue bs = pick (eqb (length bs) 0) true (whole bs)
 
+-- an objective's value, or Invalid's item
 unfoldable pub okItem : List ℕ → Span → Bool
 okItem source v = pick (inside source v) (okValue (held source v)) false
 
+-- an objective's name and value
 unfoldable pub okEntry : List ℕ → Entry → Bool
 okEntry source o = pick (inside source (o .name)) (okItem source (o .value)) false
 
-unfoldable pub okPlace : List ℕ → Place → Bool
-okPlace source p = pick (ltb (p .kind) 103) false (pick (ltb 106 (p .kind)) false (inside source (p .content)))
+-- one of the four locators, and its address or text
+unfoldable pub okLocatorRow : List ℕ → LocatorRow → Bool
+okLocatorRow source p = pick (ltb (p .kind) 103) false (pick (ltb 106 (p .kind)) false (inside source (p .content)))
 
 -- the four numbers after a kind of 0 are 0 too
-unfoldable pub blankPlace : Place → Bool
-blankPlace p =
+unfoldable pub blankLocatorRow : LocatorRow → Bool
+blankLocatorRow p =
     pick (eqb (p .content .at) 0) (pick (eqb (p .content .len) 0) (pick (eqb (p .protocol) 0) (eqb (p .port) 0) false) false) false
 
-unfoldable pub okNoneOr : List ℕ → Place → Bool
-okNoneOr source p = pick (eqb (p .kind) 0) (blankPlace p) (okPlace source p)
+-- five zeros for no locator, or a locator
+unfoldable pub okNoneOr : List ℕ → LocatorRow → Bool
+okNoneOr source p = pick (eqb (p .kind) 0) (blankLocatorRow p) (okLocatorRow source p)
 
 -- n numbers from i on, each of which passes
 unfoldable pub allFrom : (ℕ → Bool) → ℕ → ℕ → Bool
@@ -60,31 +66,37 @@ allFrom p (suc n) i = pick (p i) (allFrom p n (suc i)) false
 unfoldable pub okEach : ℕ → (ℕ → Bool) → List ℕ → Bool
 okEach size ok list = pick (eqb (length list % size) 0) (allFrom ok (length list / size) 0) false
 
+-- row i of a list of locators
 unfoldable pub okRow : List ℕ → List ℕ → ℕ → Bool
-okRow source list i = okPlace source (placeAt list (placeRow * i))
+okRow source list i = okLocatorRow source (locatorRowAt list (locatorRow * i))
 
+-- a list of locators
 unfoldable pub okRows : List ℕ → List ℕ → Bool
-okRows source list = okEach placeRow (okRow source list) list
+okRows source list = okEach locatorRow (okRow source list) list
 
--- the number between the count and the value is kept for later, and 0
+-- row i of a list of pairs; the place of the count's head, which only a reader gives, is 0
 unfoldable pub okPair : List ℕ → List ℕ → ℕ → Bool
 okPair source list i =
     pick (eqb (getD list (pairRow * i + 4) 0) 0)
-    (pick (okEntry source (entryAt list (pairRow * i))) (okNoneOr source (placeAt list (pairRow * i + entryRow))) false)
+    (pick (okEntry source (entryAt list (pairRow * i))) (okNoneOr source (locatorRowAt list (pairRow * i + entryRow))) false)
     false
 
+-- a list of pairs
 unfoldable pub okPairs : List ℕ → List ℕ → Bool
 okPairs source list = okEach pairRow (okPair source list) list
 
+-- an objective that may be left out
 unfoldable pub okExtra : List ℕ → Extra → Bool
 okExtra source X.Without = true
 okExtra source (X.With o) = okEntry source (entryOf o)
 
+-- how a negotiation ends
 unfoldable pub okOutcome : List ℕ → Outcome → Bool
 okOutcome source E.Accept = true
 okOutcome source E.Decline = true
 okOutcome source (E.Reason t) = inside source t
 
+-- the three kinds that have an initiator
 unfoldable pub okDiscovery : List ℕ → Span → Entry → Bool
 okDiscovery source i o = pick (inside source i) (okEntry source o) false
 
@@ -122,6 +134,7 @@ hasList (D.Synch s o) = false
 hasList (D.Flood s i t) = true
 hasList (D.Invalid s v) = false
 
+-- no list where the kind has none
 unfoldable pub okList : List ℕ → Description → Bool
 okList list m = pick (hasList m) true (eqb (length list) 0)
 

@@ -1,27 +1,26 @@
 // How many items of an array the parts of a description are.
 ghost use mathlib.Core.Path.{_≡_};
-ghost use mathlib.Core.List.{[]};
 ghost use Rattle.options.specs.Text.{held};
-ghost use Rattle.description.specs.Encoding.{oneMore, howMany, targetItems};
-ghost use Rattle.description.specs.Describe.{targetsOf, extraOf};
+ghost use Rattle.description.specs.Encoding.{oneMore};
+ghost use Rattle.description.specs.Describe.{targetsMany, extraMany};
 use crate::Extra;
-use crate::rows::PLACE_ROW;
+use crate::rows::LOCATOR_ROW;
 use crate::spans;
 use options::Span;
 
 // How many items of a Response its locators are, or its divert is.
 pub fn target_items(list: &[u64], divert: bool) -> u64
-    ensures { λ r. ⌜ r ≡ targetItems (targetsOf [] (now (list .entry)) divert) ⌝ }
+    ensures { λ r. ⌜ r ≡ targetsMany (now (list .entry)) divert ⌝ }
 {
     if divert {
         return 1;
     }
-    (list.len() / PLACE_ROW) as u64
+    (list.len() / LOCATOR_ROW) as u64
 }
 
 // 1 for an objective that is there, else 0.
 pub fn how_many(extra: Extra) -> u64
-    ensures { λ r. ⌜ r ≡ howMany (extraOf [] extra) ⌝ }
+    ensures { λ r. ⌜ r ≡ extraMany extra ⌝ }
 {
     match extra {
         Extra::Without => 0,

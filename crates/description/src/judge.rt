@@ -3,17 +3,17 @@ ghost use mathlib.Core.Path.{_≡_};
 ghost use Prim.Native.Nat.{_+_, _*_, _≤_};
 ghost use lib.ListN.{length};
 ghost use Rattle.options.specs.Text.{held};
-ghost use Rattle.description.specs.Describe.{placeRow, pairRow, entryOf};
-ghost use Rattle.description.specs.Judge.{whole, inside, okValue, okItem, okEntry, okPlace, blankPlace, okNoneOr, okRow, okRows, okPair, okPairs, okExtra, okOutcome, okDiscovery, okResponse, okFlood, okParts, hasList, okList, okDescribed};
+ghost use Rattle.description.specs.Describe.{locatorRow, pairRow, entryOf};
+ghost use Rattle.description.specs.Judge.{whole, inside, okValue, okItem, okEntry, okLocatorRow, blankLocatorRow, okNoneOr, okRow, okRows, okPair, okPairs, okExtra, okOutcome, okDiscovery, okResponse, okFlood, okParts, hasList, okList, okDescribed};
 use crate::Description;
 use crate::Extra;
 use crate::Goal;
 use crate::rows;
 use crate::rows::ENTRY_ROW;
 use crate::rows::Entry;
+use crate::rows::LOCATOR_ROW;
+use crate::rows::LocatorRow;
 use crate::rows::PAIR_ROW;
-use crate::rows::PLACE_ROW;
-use crate::rows::Place;
 use crate::spans;
 use cbor::item;
 use cbor::item::ItemRead;
@@ -135,10 +135,10 @@ fn ok_flood(source: &[u8], list: &[u64], initiator: Span) -> bool
 fn ok_rows(source: &[u8], list: &[u64]) -> bool
     ensures { λ r. ⌜ r ≡ okRows (now (source .entry)) (now (list .entry)) ⌝ }
 {
-    if list.len() % PLACE_ROW != 0 {
+    if list.len() % LOCATOR_ROW != 0 {
         return false;
     }
-    let rows = list.len() / PLACE_ROW;
+    let rows = list.len() / LOCATOR_ROW;
     let mut i: usize = 0;
     while i < rows {
         if !ok_row(source, list, i) {
@@ -150,11 +150,11 @@ fn ok_rows(source: &[u8], list: &[u64]) -> bool
 }
 
 fn ok_row(source: &[u8], list: &[u64], i: usize) -> bool
-    requires { ⌜ placeRow * i + placeRow ≤ length (now list) ⌝ }
+    requires { ⌜ locatorRow * i + locatorRow ≤ length (now list) ⌝ }
     ensures { λ r. ⌜ r ≡ okRow (now (source .entry)) (now (list .entry)) i ⌝ }
 {
-    let p = rows::place_at(list, PLACE_ROW * i);
-    ok_place(source, p)
+    let p = rows::locator_row_at(list, LOCATOR_ROW * i);
+    ok_locator_row(source, p)
 }
 
 fn ok_pairs(source: &[u8], list: &[u64]) -> bool
@@ -182,7 +182,7 @@ fn ok_pair(source: &[u8], list: &[u64], i: usize) -> bool
         return false;
     }
     let o = rows::entry_at(list, PAIR_ROW * i);
-    let p = rows::place_at(list, PAIR_ROW * i + ENTRY_ROW);
+    let p = rows::locator_row_at(list, PAIR_ROW * i + ENTRY_ROW);
     if ok_entry(source, o) {
         return ok_none_or(source, p);
     }
@@ -190,18 +190,18 @@ fn ok_pair(source: &[u8], list: &[u64], i: usize) -> bool
 }
 
 // A pair's locator: none, which is five zeros, or one of a known kind.
-fn ok_none_or(source: &[u8], p: Place) -> bool
+fn ok_none_or(source: &[u8], p: LocatorRow) -> bool
     ensures { λ r. ⌜ r ≡ okNoneOr (now (source .entry)) p ⌝ }
 {
     let kind = p.kind;
     if kind == 0 {
         return is_blank(p);
     }
-    ok_place(source, p)
+    ok_locator_row(source, p)
 }
 
-fn is_blank(p: Place) -> bool
-    ensures { λ r. ⌜ r ≡ blankPlace p ⌝ }
+fn is_blank(p: LocatorRow) -> bool
+    ensures { λ r. ⌜ r ≡ blankLocatorRow p ⌝ }
 {
     if p.content.at != 0 {
         return false;
@@ -215,8 +215,8 @@ fn is_blank(p: Place) -> bool
     p.port == 0
 }
 
-fn ok_place(source: &[u8], p: Place) -> bool
-    ensures { λ r. ⌜ r ≡ okPlace (now (source .entry)) p ⌝ }
+fn ok_locator_row(source: &[u8], p: LocatorRow) -> bool
+    ensures { λ r. ⌜ r ≡ okLocatorRow (now (source .entry)) p ⌝ }
 {
     let kind = p.kind;
     if kind < 103 {

@@ -1,15 +1,15 @@
 // The rows of a list: locators of five numbers, pairs of twelve.
 ghost use mathlib.Core.Path.{_≡_};
 ghost use lib.ListN.{getD};
-ghost use Rattle.description.specs.Describe.{entryOf, entryAt, placeAt};
+ghost use Rattle.description.specs.Describe.{entryOf, entryAt, locatorRowAt};
 use crate::Goal;
 use options::Span;
 
 // How many numbers a locator's row has.
-pub const PLACE_ROW: usize = 5;
+pub const LOCATOR_ROW: usize = 5;
 
 // A locator: 103 to 106, its address or text, protocol and port; for 106 protocol 0 and port 65,536 stand for null.
-pub struct Place {
+pub struct LocatorRow {
     pub kind: u64,
     pub content: Span,
     pub protocol: u64,
@@ -43,11 +43,11 @@ pub fn entry_of(o: Goal) -> Entry
 }
 
 // The locator of the five numbers from place k on; a number past the list's end is 0.
-pub fn place_at(list: &[u64], k: usize) -> Place
-    ensures { λ r. ⌜ r ≡ placeAt (now (list .entry)) k ⌝ }
+pub fn locator_row_at(list: &[u64], k: usize) -> LocatorRow
+    ensures { λ r. ⌜ r ≡ locatorRowAt (now (list .entry)) k ⌝ }
 {
     if list.len() <= k {
-        return Place {
+        return LocatorRow {
             kind: 0,
             content: Span { at: 0, len: 0 },
             protocol: 0,
@@ -59,7 +59,7 @@ pub fn place_at(list: &[u64], k: usize) -> Place
     let len = number(list, k + 2) as usize;
     let protocol = number(list, k + 3);
     let port = number(list, k + 4);
-    Place {
+    LocatorRow {
         kind,
         content: Span { at, len },
         protocol,

@@ -12,8 +12,8 @@ use Rattle.encode.specs.Put.{Wrote}
 use Rattle.description.specs.Encoding.{targetItems, howMany}
 use Rattle.description.specs.declared.Extra.{Extra}
 use Rattle.description.specs.declared.Extra.the-variants as X
-use Rattle.description.specs.Describe.{placeRow, pairRow, listOf, rowLoc, locsOf, pairsOf, targetsOf, extraOf}
-use Rattle.description.proofs.Items.{length-up, many-le}
+use Rattle.description.specs.Describe.{locatorRow, pairRow, listOf, locsOf, pairsOf, targetsOf, targetsMany, extraOf, extraMany}
+use Rattle.description.proofs.Items.{length-up}
 use Rattle.encode.proofs.Puts.{then, still}
 
 -- one more
@@ -40,31 +40,30 @@ module _ {A : Type 0} (encode : A → List ℕ) (row : ℕ → A) where
   unfolding firstRows
   rows-done i n p q v = rw (le-antisymm p q) at v
 
--- how many items the targets are doesn't depend on the source
-pub targets-many : (source list : List ℕ) (d : Bool) → targetItems (targetsOf [] list d) ≡ targetItems (targetsOf source list d)
-unfolding targetsOf targetItems locsOf
+-- how many items a Response's parts are
+pub targets-many : (source list : List ℕ) (d : Bool) → targetsMany list d ≡ targetItems (targetsOf source list d)
+unfolding targetsMany targetsOf targetItems locsOf
 targets-many source list true = refl
-targets-many source list false = length-up _ _ ∙ sym (length-up _ _)
+targets-many source list false = sym (length-up _ _)
 
-pub targets-le : (source list : List ℕ) (d : Bool) → targetItems (targetsOf source list d) ≤ 1 + length list
-unfolding targetsOf targetItems locsOf
-targets-le source list true = omega arith
-targets-le source list false = omega (arith, length-up (rowLoc source list) (length list / placeRow))
-
-pub extra-many : (source : List ℕ) (m : Extra) → howMany (extraOf [] m) ≡ howMany (extraOf source m)
-unfolding howMany extraOf
+pub extra-many : (source : List ℕ) (m : Extra) → extraMany m ≡ howMany (extraOf source m)
+unfolding extraMany howMany extraOf
 extra-many source X.Without = refl
 extra-many source (X.With o) = refl
 
-pub length-locs : (source list : List ℕ) → length (locsOf source list) ≡ length list / placeRow
+pub length-locs : (source list : List ℕ) → length (locsOf source list) ≡ length list / locatorRow
 unfolding locsOf
 length-locs source list = length-up _ _
 
-pub targets-few : (list : List ℕ) (d : Bool) (t : ℕ) → t ≡ targetItems (targetsOf [] list d) → t ≤ 1 + length list
-targets-few list d t e = rw e (targets-le [] list d)
+pub targets-few : (list : List ℕ) (d : Bool) (t : ℕ) → t ≡ targetsMany list d → t ≤ 1 + length list
+unfolding targetsMany
+targets-few list true t e = omega arith
+targets-few list false t e = omega arith
 
-pub extra-few : (m : Extra) (t : ℕ) → t ≡ howMany (extraOf [] m) → t ≤ 1
-extra-few m t e = rw e (many-le (extraOf [] m))
+pub extra-few : (m : Extra) (t : ℕ) → t ≡ extraMany m → t ≤ 1
+unfolding extraMany
+extra-few X.Without t e = omega arith
+extra-few (X.With o) t e = omega arith
 
 pub length-pairs : (source list : List ℕ) → length (pairsOf source list) ≡ length list / pairRow
 unfolding pairsOf

@@ -3,7 +3,7 @@ ghost use Rattle.options.specs.Text.{held};
 ghost use Rattle.encode.specs.Put.{Wrote};
 ghost use Rattle.syntax.specs.Message.{Msg};
 ghost use Rattle.syntax.specs.Message as Syntax;
-ghost use Rattle.description.specs.Encoding.{opening, exchange, encodeMsg, encodeObj, encodeTargets, maybeObj};
+ghost use Rattle.description.specs.Encoding.{preamble, exchange, encodeMsg, encodeObj, encodeTargets, maybeObj};
 ghost use Rattle.description.specs.Describe.{entryOf, objOf, targetsOf, pairsOf, extraOf, endOf, msgOf};
 use crate::locator;
 use crate::objective;
@@ -14,8 +14,8 @@ use description::Extra;
 use description::Goal;
 use description::counts;
 use description::rows;
+use description::rows::LOCATOR_ROW;
 use description::rows::PAIR_ROW;
-use description::rows::PLACE_ROW;
 use options::Outcome;
 use options::Span;
 
@@ -61,8 +61,8 @@ pub(crate) fn put_message(out: &mut [u8], source: &[u8], list: &[u64], m: Descri
 }
 
 // The head of n items, the kind and the session.
-pub(crate) fn put_opening(out: &mut [u8], n: u64, kind: u64, session: u32) -> usize
-    ensures { λ r. ⌜ Wrote (now (out .entry)) (now (out .exit)) 0 (opening n kind session) r ⌝ }
+pub(crate) fn put_preamble(out: &mut [u8], n: u64, kind: u64, session: u32) -> usize
+    ensures { λ r. ⌜ Wrote (now (out .entry)) (now (out .exit)) 0 (preamble n kind session) r ⌝ }
 {
     let a = put::head(out, 0, 4, n);
     let b = put::head(out, a, 0, kind);
@@ -92,7 +92,7 @@ pub(crate) fn put_discovery(
 ) -> usize
     ensures { λ r. ⌜ Wrote (now (out .entry)) (now (out .exit)) 0 (encodeMsg (Msg.discovery session (held (now (source .entry)) initiator) (objOf (now (source .entry)) (entryOf o)))) r ⌝ }
 {
-    let a = put_opening(out, 4, 1, session);
+    let a = put_preamble(out, 4, 1, session);
     let b = put::part_string(out, a, 2, source, initiator);
     put_goal(out, b, source, o)
 }
@@ -111,7 +111,7 @@ pub(crate) fn put_response(
 {
     let targets = counts::target_items(list, divert);
     let more = counts::how_many(extra);
-    let a = put_opening(out, 4 + (targets + more), 2, session);
+    let a = put_preamble(out, 4 + (targets + more), 2, session);
     let b = put::part_string(out, a, 2, source, initiator);
     let c = put::head(out, b, 0, ttl as u64);
     let d = put_targets(out, c, source, list, divert);
@@ -128,7 +128,7 @@ pub(crate) fn put_targets(
     ensures { λ r. ⌜ Wrote (now (out .entry)) (now (out .exit)) at (encodeTargets (targetsOf (now (source .entry)) (now (list .entry)) divert)) r ⌝ }
 {
     if divert {
-        let rows = (list.len() / PLACE_ROW) as u64;
+        let rows = (list.len() / LOCATOR_ROW) as u64;
         let a = put::head(out, at, 4, 1 + rows);
         let b = put::head(out, a, 0, 100);
         return locator::put_rows(out, b, source, list);
@@ -149,7 +149,7 @@ pub(crate) fn put_extra(out: &mut [u8], at: usize, source: &[u8], extra: Extra) 
 pub(crate) fn put_exchange(out: &mut [u8], source: &[u8], kind: u64, session: u32, o: Goal) -> usize
     ensures { λ r. ⌜ Wrote (now (out .entry)) (now (out .exit)) 0 (exchange kind session (objOf (now (source .entry)) (entryOf o))) r ⌝ }
 {
-    let a = put_opening(out, 3, kind, session);
+    let a = put_preamble(out, 3, kind, session);
     put_goal(out, a, source, o)
 }
 
@@ -166,7 +166,7 @@ pub(crate) fn put_end(out: &mut [u8], source: &[u8], session: u32, outcome: Outc
 pub(crate) fn put_accept(out: &mut [u8], session: u32) -> usize
     ensures { λ r. ⌜ Wrote (now (out .entry)) (now (out .exit)) 0 (encodeMsg (Msg.end session Syntax.Ending.accept)) r ⌝ }
 {
-    let a = put_opening(out, 3, 6, session);
+    let a = put_preamble(out, 3, 6, session);
     let b = put::head(out, a, 4, 1);
     put::head(out, b, 0, 101)
 }
@@ -174,7 +174,7 @@ pub(crate) fn put_accept(out: &mut [u8], session: u32) -> usize
 pub(crate) fn put_decline(out: &mut [u8], session: u32) -> usize
     ensures { λ r. ⌜ Wrote (now (out .entry)) (now (out .exit)) 0 (encodeMsg (Msg.end session Syntax.Ending.decline)) r ⌝ }
 {
-    let a = put_opening(out, 3, 6, session);
+    let a = put_preamble(out, 3, 6, session);
     let b = put::head(out, a, 4, 1);
     put::head(out, b, 0, 102)
 }
@@ -182,7 +182,7 @@ pub(crate) fn put_decline(out: &mut [u8], session: u32) -> usize
 pub(crate) fn put_reason(out: &mut [u8], source: &[u8], session: u32, text: Span) -> usize
     ensures { λ r. ⌜ Wrote (now (out .entry)) (now (out .exit)) 0 (encodeMsg (Msg.end session (Syntax.Ending.reason (held (now (source .entry)) text)))) r ⌝ }
 {
-    let a = put_opening(out, 3, 6, session);
+    let a = put_preamble(out, 3, 6, session);
     let b = put::head(out, a, 4, 2);
     let c = put::head(out, b, 0, 102);
     put::part_string(out, c, 3, source, text)
@@ -191,7 +191,7 @@ pub(crate) fn put_reason(out: &mut [u8], source: &[u8], session: u32, text: Span
 pub(crate) fn put_wait(out: &mut [u8], session: u32, time: u32) -> usize
     ensures { λ r. ⌜ Wrote (now (out .entry)) (now (out .exit)) 0 (encodeMsg (Msg.wait session time)) r ⌝ }
 {
-    let a = put_opening(out, 3, 7, session);
+    let a = put_preamble(out, 3, 7, session);
     put::head(out, a, 0, time as u64)
 }
 
@@ -206,7 +206,7 @@ pub(crate) fn put_flood(
     ensures { λ r. ⌜ Wrote (now (out .entry)) (now (out .exit)) 0 (encodeMsg (Msg.flood session (held (now (source .entry)) initiator) ttl (pairsOf (now (source .entry)) (now (list .entry))))) r ⌝ }
 {
     let rows = (list.len() / PAIR_ROW) as u64;
-    let a = put_opening(out, 4 + rows, 9, session);
+    let a = put_preamble(out, 4 + rows, 9, session);
     let b = put::part_string(out, a, 2, source, initiator);
     let c = put::head(out, b, 0, ttl as u64);
     pair::put_pairs(out, c, source, list)
@@ -216,6 +216,6 @@ pub(crate) fn put_invalid(out: &mut [u8], source: &[u8], session: u32, item: Spa
     ensures { λ r. ⌜ Wrote (now (out .entry)) (now (out .exit)) 0 (encodeMsg (Msg.invalid session (held (now (source .entry)) item))) r ⌝ }
 {
     let more = counts::one_more(source, item);
-    let a = put_opening(out, 2 + more, 99, session);
+    let a = put_preamble(out, 2 + more, 99, session);
     put::part(out, a, source, item)
 }

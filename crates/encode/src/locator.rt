@@ -6,18 +6,18 @@ ghost use Rattle.options.specs.Text.{held};
 ghost use Rattle.encode.specs.Put.{Wrote};
 ghost use Rattle.syntax.specs.Message.{orNull};
 ghost use Rattle.description.specs.Encoding.{numberOrNull, reached, fixed, encodeLoc};
-ghost use Rattle.description.specs.Describe.{placeRow, placeLoc, rowLoc, locsOf};
+ghost use Rattle.description.specs.Describe.{locatorRow, locatorRowLoc, rowLoc, locsOf};
 use crate::put;
 use description::rows;
-use description::rows::PLACE_ROW;
-use description::rows::Place;
+use description::rows::LOCATOR_ROW;
+use description::rows::LocatorRow;
 use options::Span;
 
 // The locators of the list.
 pub(crate) fn put_rows(out: &mut [u8], at: usize, source: &[u8], list: &[u64]) -> usize
     ensures { λ r. ⌜ Wrote (now (out .entry)) (now (out .exit)) at (flatMap encodeLoc (locsOf (now (source .entry)) (now (list .entry)))) r ⌝ }
 {
-    let rows = list.len() / PLACE_ROW;
+    let rows = list.len() / LOCATOR_ROW;
     let mut end = at;
     let mut i: usize = 0;
     while i < rows {
@@ -28,15 +28,15 @@ pub(crate) fn put_rows(out: &mut [u8], at: usize, source: &[u8], list: &[u64]) -
 }
 
 pub(crate) fn put_row(out: &mut [u8], at: usize, source: &[u8], list: &[u64], i: usize) -> usize
-    requires { ⌜ placeRow * i + placeRow ≤ length (now list) ⌝ }
+    requires { ⌜ locatorRow * i + locatorRow ≤ length (now list) ⌝ }
     ensures { λ r. ⌜ Wrote (now (out .entry)) (now (out .exit)) at (encodeLoc (rowLoc (now (source .entry)) (now (list .entry)) i)) r ⌝ }
 {
-    let p = rows::place_at(list, PLACE_ROW * i);
-    put_place(out, at, source, p)
+    let p = rows::locator_row_at(list, LOCATOR_ROW * i);
+    put_locator_row(out, at, source, p)
 }
 
-pub(crate) fn put_place(out: &mut [u8], at: usize, source: &[u8], p: Place) -> usize
-    ensures { λ r. ⌜ Wrote (now (out .entry)) (now (out .exit)) at (encodeLoc (placeLoc (now (source .entry)) p)) r ⌝ }
+pub(crate) fn put_locator_row(out: &mut [u8], at: usize, source: &[u8], p: LocatorRow) -> usize
+    ensures { λ r. ⌜ Wrote (now (out .entry)) (now (out .exit)) at (encodeLoc (locatorRowLoc (now (source .entry)) p)) r ⌝ }
 {
     let kind = p.kind;
     if kind == 103 {
@@ -60,7 +60,7 @@ pub(crate) fn put_fixed(
     kind: u64,
     major: u8,
     source: &[u8],
-    p: Place,
+    p: LocatorRow,
 ) -> usize
     requires { ⌜ major < 7 ⌝ }
     ensures { λ r. ⌜ Wrote (now (out .entry)) (now (out .exit)) at (fixed kind major (held (now (source .entry)) (p .content)) (p .protocol) (p .port)) r ⌝ }

@@ -10,8 +10,8 @@ use crate::objective;
 use crate::put;
 use description::rows;
 use description::rows::ENTRY_ROW;
+use description::rows::LocatorRow;
 use description::rows::PAIR_ROW;
-use description::rows::Place;
 
 // The pairs of the list.
 pub(crate) fn put_pairs(out: &mut [u8], at: usize, source: &[u8], list: &[u64]) -> usize
@@ -32,19 +32,24 @@ pub(crate) fn put_pair(out: &mut [u8], at: usize, source: &[u8], list: &[u64], i
     ensures { λ r. ⌜ Wrote (now (out .entry)) (now (out .exit)) at (encodePair (rowPair (now (source .entry)) (now (list .entry)) i)) r ⌝ }
 {
     let o = rows::entry_at(list, PAIR_ROW * i);
-    let p = rows::place_at(list, PAIR_ROW * i + ENTRY_ROW);
+    let p = rows::locator_row_at(list, PAIR_ROW * i + ENTRY_ROW);
     let a = put::head(out, at, 4, 2);
     let b = objective::put_entry(out, a, source, o);
-    put_place_or_empty(out, b, source, p)
+    put_locator_row_or_empty(out, b, source, p)
 }
 
 // A locator, or an empty array where its kind is 0.
-pub(crate) fn put_place_or_empty(out: &mut [u8], at: usize, source: &[u8], p: Place) -> usize
+pub(crate) fn put_locator_row_or_empty(
+    out: &mut [u8],
+    at: usize,
+    source: &[u8],
+    p: LocatorRow,
+) -> usize
     ensures { λ r. ⌜ Wrote (now (out .entry)) (now (out .exit)) at (locOrEmpty (locOrNone (now (source .entry)) p)) r ⌝ }
 {
     let kind = p.kind;
     if kind == 0 {
         return put::head(out, at, 4, 0);
     }
-    locator::put_place(out, at, source, p)
+    locator::put_locator_row(out, at, source, p)
 }

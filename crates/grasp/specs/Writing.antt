@@ -8,31 +8,39 @@ use Rattle.blocks.specs.declared.told.Told.{Told}
 use Rattle.blocks.specs.declared.told.Told.the-variants.{Nothing, Says}
 use Rattle.blocks.specs.Told.{toldBy}
 
+-- a refusal's number, and 0 where there is none
 unfoldable pub numberOf : Written → ℕ
 numberOf (Written.Refused number) = number
 numberOf (Written.Length n) = 0
 
+-- the length that is left: the new one, and on a refusal the one before
 unfoldable pub lengthAfter : Written → ℕ → ℕ
 lengthAfter (Written.Refused number) before = before
 lengthAfter (Written.Length n) before = n
 
+-- the same of what a block says: 18, and nothing changes, where it says nothing that could be written
 unfoldable pub numberBy : List ℕ → List ℕ → List ℕ → Told → ℕ
 numberBy source list out Nothing = 18
 numberBy source list out (Says d) = numberOf (writeAnswer source list d out)
 
+-- the output that is left
 unfoldable pub bytesBy : List ℕ → List ℕ → List ℕ → Told → List ℕ
 bytesBy source list out Nothing = out
 bytesBy source list out (Says d) = writeOut source list d out
 
+-- and the length
 unfoldable pub lengthBy : List ℕ → List ℕ → List ℕ → ℕ → Told → ℕ
 lengthBy source list out before Nothing = before
 lengthBy source list out before (Says d) = lengthAfter (writeAnswer source list d out) before
 
+-- what `grasp_write` answers: a refusal's number, or 0
 unfoldable pub writeNumber : List ℕ → List ℕ → List ℕ → List ℕ → ℕ
 writeNumber source list fields out = numberBy source list out (toldBy fields (length list))
 
+-- the output that it leaves
 unfoldable pub writeBytes : List ℕ → List ℕ → List ℕ → List ℕ → List ℕ
 writeBytes source list fields out = bytesBy source list out (toldBy fields (length list))
 
+-- and the length
 unfoldable pub writeLength : List ℕ → List ℕ → List ℕ → List ℕ → ℕ → ℕ
 writeLength source list fields out before = lengthBy source list out before (toldBy fields (length list))

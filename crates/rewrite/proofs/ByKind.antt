@@ -20,16 +20,16 @@ use Rattle.options.specs.declared.Outcome.{Outcome}
 use Rattle.message.specs.declared.Message.{Message}
 use Rattle.exact.specs.Describes.{SeriesIs, AimIs, ExtraIs, OutcomeIs, Describes}
 use Rattle.exact.proofs.Described.{locators-count, pairs-count}
-use Rattle.description.specs.Describe.{placeRow, pairRow, placeLoc, placeAt, rowLoc, locsOf, targetsOf, extraOf, rowPair, pairsOf, endOf, msgOf}
+use Rattle.description.specs.Describe.{locatorRow, pairRow, locatorRowLoc, locatorRowAt, rowLoc, locsOf, targetsOf, extraOf, rowPair, pairsOf, endOf, msgOf}
 use Rattle.describe.specs.Describe as D
 use Rattle.describe.specs.Rows as R
 use Rattle.roundtrip.specs.Plain.{valueBytes, plain}
-use Rattle.roundtrip.specs.Says.{PlaceSays, PairSays, Rows, ExtraSays, OutcomeSays, Says}
+use Rattle.roundtrip.specs.Says.{LocatorRowSays, PairSays, Rows, ExtraSays, OutcomeSays, Says}
 use Rattle.roundtrip.proofs.Encodes.{pairs-many}
 use Rattle.rewrite.specs.Lent.{rowsLent}
 use Rattle.rewrite.proofs.Filled.{joined, rows-many, lent, told-rows}
 use Rattle.rewrite.proofs.Spans.{string-cuts, value-cuts, end-cuts, objective-goals}
-use Rattle.rewrite.proofs.Locators.{placeOf, place-behind, Locators, locators-rows}
+use Rattle.rewrite.proofs.Locators.{locatorRowOf, locator-row-behind, Locators, locators-rows}
 use Rattle.rewrite.proofs.Pairs.{rowAt, rowOf, row-behind, pairOf, InOrder, Pairs, pairs-rows}
 
 -- ---- how many levels the items of pairs have: as many as any others of the same pairs
@@ -53,14 +53,14 @@ pairs-deep (PairItems.more i is) (PairItems.more j js) = rw (pair-deep i j, pair
 
 module _ (s : List ℕ) where
   -- a list of locators
-  record Placed (list : List ℕ) (ls : List Loc) : Type 0 where
-    says : Rows list placeRow (λ k. PlaceSays s (placeAt list (placeRow * k)))
+  record LocatorsTold (list : List ℕ) (ls : List Loc) : Type 0 where
+    says : Rows list locatorRow (λ k. LocatorRowSays s (locatorRowAt list (locatorRow * k)))
     are : locsOf s list ≡ ls
 
-  placed-rows : {at : ℕ} {rows : List (List ℕ)} {ls : List Loc} → Locators s at rows ls → Placed (joined rows) ls
+  locators-told : {at : ℕ} {rows : List (List ℕ)} {ls : List Loc} → Locators s at rows ls → LocatorsTold (joined rows) ls
   unfolding locsOf rowLoc
-  placed-rows chain =
-      let (says, are) = told-rows placeOf (placeLoc s) (PlaceSays s) place-behind (lit< tt) chain in
+  locators-told chain =
+      let (says, are) = told-rows locatorRowOf (locatorRowLoc s) (LocatorRowSays s) locator-row-behind (lit< tt) chain in
       record { says = says; are = are }
 
   -- a list of pairs
@@ -73,19 +73,19 @@ module _ (s : List ℕ) where
   paired-rows chain =
       let (says, are) = told-rows rowOf (pairOf s) (InOrder s) row-behind (lit< tt) chain in
       record {
-        says = record { whole = says .whole; each = λ i h. let r = says .each i h in record { kept = r .kept; objective = r .objective; locator = r .locator } };
+        says = record { whole = says .whole; each = λ i h. let r = says .each i h in record { count-at = r .count-at; objective = r .objective; locator = r .locator } };
         are = are;
       }
 
   -- ---- a list that is lent
   -- of a series of locators
-  locators-lent : {e : ℕ} {series : Series} {ls : List Loc} (list : List ℕ) → SeriesIs s series e (λ xs. LocatorItems xs ls) → R.seriesEnd placeRow series list ≤ length list
-      → Placed (take (R.seriesEnd placeRow series list) (R.seriesFilled placeRow (R.locatorNext s) (R.locatorStored s) series list)) ls
+  locators-lent : {e : ℕ} {series : Series} {ls : List Loc} (list : List ℕ) → SeriesIs s series e (λ xs. LocatorItems xs ls) → R.seriesEnd locatorRow series list ≤ length list
+      → LocatorsTold (take (R.seriesEnd locatorRow series list) (R.seriesFilled locatorRow (R.locatorNext s) (R.locatorStored s) series list)) ls
   unfolding R.seriesEnd R.seriesFilled
   locators-lent {series = series} {ls} list i room =
       let (rows, chain) = locators-rows s (i .stand) (i .are) in
       let many = i .many ∙ locators-count (i .are) ∙ sym (rows-many chain) in
-      subst (λ (l : List ℕ). Placed l ls) (sym (lent chain (series .many) list (ltb (length list / placeRow) (series .many)) many room)) (placed-rows chain)
+      subst (λ (l : List ℕ). LocatorsTold l ls) (sym (lent chain (series .many) list (ltb (length list / locatorRow) (series .many)) many room)) (locators-told chain)
 
   -- of a series of pairs
   pairs-lent : {e : ℕ} {series : Series} {xs : Items} {ps : List (Pair Value)} (list : List ℕ) → depths xs ≤ leftUnder 1 → StandAll s (series .at) e xs → PairItems xs ps
@@ -98,7 +98,7 @@ module _ (s : List ℕ) where
   -- ---- the parts of a description
   -- a Response's locators
   aim-lent : {p e : ℕ} {targets : Targets} {aim : Aim} (list : List ℕ) → AimIs s p e targets aim → R.endBy list (R.targetRows targets) ≤ length list
-      → (ls : List Loc) × Placed (take (R.endBy list (R.targetRows targets)) (R.filledBy s list (R.targetRows targets))) ls
+      → (ls : List Loc) × LocatorsTold (take (R.endBy list (R.targetRows targets)) (R.filledBy s list (R.targetRows targets))) ls
       × ((l : List ℕ) → locsOf s l ≡ ls → targetsOf s l (D.isDivert targets) ≡ aim)
   unfolding R.endBy R.filledBy R.targetRows D.isDivert targetsOf
   aim-lent list (AimIs.locators {ls = ls} at i) room = (ls, locators-lent list i room, λ l e. ap Aim.locators e)

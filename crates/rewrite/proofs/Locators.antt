@@ -27,10 +27,10 @@ use Rattle.grammar.specs.Stands as S
 use Rattle.grammar.specs.Stands.{Stands, StandAll}
 use Rattle.grammar.proofs.Bridge.{split, advances}
 use Rattle.grammar.proofs.Locators.{locator-read}
-use Rattle.description.specs.declared.rows.Place.{Place}
-use Rattle.description.specs.Describe.{placeRow, placeLoc, placeAt}
+use Rattle.description.specs.declared.rows.LocatorRow.{LocatorRow}
+use Rattle.description.specs.Describe.{locatorRow, locatorRowLoc, locatorRowAt}
 use Rattle.describe.specs.Rows.{locatorNextFrom, locatorStoredFrom, locatorNext, locatorStored}
-use Rattle.roundtrip.specs.Says.{Inside, PlaceSays}
+use Rattle.roundtrip.specs.Says.{Inside, LocatorRowSays}
 use Rattle.rewrite.proofs.Filled.{Tells, Chain}
 
 -- ---- the text of a locator lies in the message
@@ -65,7 +65,7 @@ text-ok m base s h =
 
 -- ---- a row
 -- a locator's numbers are so many
-locator-five : (l : Locator) → length (locatorNumbers l) ≡ placeRow
+locator-five : (l : Locator) → length (locatorNumbers l) ≡ locatorRow
 unfolding locatorNumbers
 locator-five (L.V6 at protocol port) = refl
 locator-five (L.V4 at protocol port) = refl
@@ -73,13 +73,13 @@ locator-five (L.Domain name protocol port) = refl
 locator-five (L.Uri uri protocol port) = refl
 
 -- the numbers behind others
-place-shift : (a b : List ℕ) (k : ℕ) → placeAt (a ++ b) (length a + k) ≡ placeAt b k
-unfolding placeAt
-place-shift a b k = simp (add-assoc, getD-append-add)
+locator-row-shift : (a b : List ℕ) (k : ℕ) → locatorRowAt (a ++ b) (length a + k) ≡ locatorRowAt b k
+unfolding locatorRowAt
+locator-row-shift a b k = simp (add-assoc, getD-append-add)
 
 -- row i + 1, behind the first, is row i
-pub place-behind : (ns rest : List ℕ) (i : ℕ) → length ns ≡ placeRow → placeAt (ns ++ rest) (placeRow * suc i) ≡ placeAt rest (placeRow * i)
-place-behind ns rest i e = let sum : placeRow * suc i ≡ length ns + placeRow * i = omega arith in ap (placeAt (ns ++ rest)) sum ∙ place-shift ns rest (placeRow * i)
+pub locator-row-behind : (ns rest : List ℕ) (i : ℕ) → length ns ≡ locatorRow → locatorRowAt (ns ++ rest) (locatorRow * suc i) ≡ locatorRowAt rest (locatorRow * i)
+locator-row-behind ns rest i e = let sum : locatorRow * suc i ≡ length ns + locatorRow * i = omega arith in ap (locatorRowAt (ns ++ rest)) sum ∙ locator-row-shift ns rest (locatorRow * i)
 
 -- ---- what it tells
 -- an address of so many bytes lies in the message
@@ -87,34 +87,34 @@ address-in : (m : List ℕ) (at n : ℕ) → length (take n (drop at m)) ≡ n �
 address-in m at n e =
     elim (decLt 0 n) [ yes h ↦ inr (omega (arith, length-take n (drop at m), length-drop at m)) | no h ↦ inl (omega arith) ]
 
--- a locator that was read is the place of its numbers
-pub record PlaceIs (m : List ℕ) (p : Place) (loc : Loc) : Type 0 where
-  pub is : placeLoc m p ≡ loc
-  pub says : PlaceSays m p
+-- a locator that was read is what the row of its numbers says
+pub record LocatorRowIs (m : List ℕ) (p : LocatorRow) (loc : Loc) : Type 0 where
+  pub is : locatorRowLoc m p ≡ loc
+  pub says : LocatorRowSays m p
 
-pub placed : {m : List ℕ} {x : Item} (l : Locator) → TextIn m l → LocatorItem x (S.locOf m l) → (rest : List ℕ) → PlaceIs m (placeAt (locatorNumbers l ++ rest) 0) (S.locOf m l)
-unfolding locatorNumbers placeAt placeLoc S.locOf pick
-placed (L.V6 at protocol port) t (LocatorItem.v6 n _ _) rest =
+pub locator-told : {m : List ℕ} {x : Item} (l : Locator) → TextIn m l → LocatorItem x (S.locOf m l) → (rest : List ℕ) → LocatorRowIs m (locatorRowAt (locatorNumbers l ++ rest) 0) (S.locOf m l)
+unfolding locatorNumbers locatorRowAt locatorRowLoc S.locOf pick
+locator-told (L.V6 at protocol port) t (LocatorItem.v6 n _ _) rest =
     record { is = refl; says = record { least = lit≤ tt; most = lit≤ tt; content = address-in _ at 16 n } }
-placed (L.V4 at protocol port) t (LocatorItem.v4 n _ _) rest =
+locator-told (L.V4 at protocol port) t (LocatorItem.v4 n _ _) rest =
     record { is = refl; says = record { least = lit≤ tt; most = lit≤ tt; content = address-in _ at 4 n } }
-placed (L.Domain name protocol port) t i rest = record { is = refl; says = record { least = lit≤ tt; most = lit≤ tt; content = t } }
-placed (L.Uri uri protocol port) t i rest =
+locator-told (L.Domain name protocol port) t i rest = record { is = refl; says = record { least = lit≤ tt; most = lit≤ tt; content = t } }
+locator-told (L.Uri uri protocol port) t i rest =
     record { is = refl; says = record { least = lit≤ tt; most = lit≤ tt; content = t } }
 
 -- ---- the rows of all
 -- what a row is, and what is told of it
-abbrev pub placeOf : List ℕ → ℕ → Place
-placeOf list i = placeAt list (placeRow * i)
+abbrev pub locatorRowOf : List ℕ → ℕ → LocatorRow
+locatorRowOf list i = locatorRowAt list (locatorRow * i)
 
 module _ (s : List ℕ) where
   -- rows of locators
   abbrev pub Locators : ℕ → List (List ℕ) → List Loc → Type 0
-  Locators = Chain placeRow (locatorNext s) (locatorStored s) (Tells placeOf (placeLoc s) (PlaceSays s))
+  Locators = Chain locatorRow (locatorNext s) (locatorStored s) (Tells locatorRowOf (locatorRowLoc s) (LocatorRowSays s))
 
   -- one row
   locator-row : (p : ℕ) {l : Locator} {size bad : ℕ} (i : ℕ) (list : List ℕ) → locatorAt s p ≡ LocatorRead.Got l size bad
-      → locatorStored s p i list ≡ sets list (placeRow * i) (locatorNumbers l)
+      → locatorStored s p i list ≡ sets list (locatorRow * i) (locatorNumbers l)
   unfolding locatorStored locatorStoredFrom
   locator-row p i list e = ap (locatorStoredFrom i list) e
 
@@ -130,7 +130,7 @@ module _ (s : List ℕ) where
       let c = split a in
       let (l, bad, read, described) = locator-read (c .first) i in
       let text : TextIn s l = subst (TextOk s) read (text-ok s p (drop p s) (omega (arith, length-drop p s, c .first .within, advances (c .first)))) in
-      let told = placed l text (subst (LocatorItem x) (sym described) i) in
+      let told = locator-told l text (subst (LocatorItem x) (sym described) i) in
       let (rows, more) = locators-rows (c .rest) is in (
         locatorNumbers l ∷ rows,
         Chain.step (locator-five l) (λ i list. locator-row p i list read) (λ rest. (told rest .is ∙ described, told rest .says))

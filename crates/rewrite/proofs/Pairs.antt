@@ -36,15 +36,15 @@ use Rattle.grammar.specs.Stands.{StandAll, tagLoc}
 use Rattle.grammar.proofs.Bridge.{split, advances}
 use Rattle.grammar.proofs.Pairs.{pair-read}
 use Rattle.description.specs.declared.rows.Entry.{Entry}
-use Rattle.description.specs.declared.rows.Place.{Place}
-use Rattle.description.specs.Describe.{pairRow, entryRow, entryOf, objOf, entryAt, placeLoc, placeAt, locOrNone}
+use Rattle.description.specs.declared.rows.LocatorRow.{LocatorRow}
+use Rattle.description.specs.Describe.{pairRow, entryRow, entryOf, objOf, entryAt, locatorRowLoc, locatorRowAt, locOrNone}
 use Rattle.describe.specs.Describe.{goalOf}
 use Rattle.describe.specs.Rows as R
 use Rattle.roundtrip.specs.Plain.{valueBytes}
-use Rattle.roundtrip.specs.Says.{EntrySays, PlaceSays, Blank}
+use Rattle.roundtrip.specs.Says.{EntrySays, LocatorRowSays, Blank}
 use Rattle.rewrite.proofs.Filled.{Tells, Chain}
 use Rattle.rewrite.proofs.Spans.{Goals, objective-goals}
-use Rattle.rewrite.proofs.Locators.{TextIn, TextOk, text-ok, placed}
+use Rattle.rewrite.proofs.Locators.{TextIn, TextOk, text-ok, locator-told}
 
 -- ---- the text of a pair's locator lies in the message
 abbrev TagIn : List ℕ → Tag → Type 0
@@ -105,18 +105,18 @@ pair-twelve : (o : Objective) (tag : Tag) → length (R.pairCells o tag) ≡ pai
 unfolding R.pairCells pairNumbers
 pair-twelve o tag = refl
 
--- what a row is: the number that is kept, the objective and the place
+-- what a row is: the place of the count's head, the objective and the locator
 pub record Row : Type 0 where
-  pub kept : ℕ
+  pub count-at : ℕ
   pub entry : Entry
-  pub place : Place
+  pub locator : LocatorRow
 
 unfoldable pub rowAt : List ℕ → ℕ → Row
-rowAt list k = record { kept = getD list (k + 4) 0; entry = entryAt list k; place = placeAt list (k + entryRow) }
+rowAt list k = record { count-at = getD list (k + 4) 0; entry = entryAt list k; locator = locatorRowAt list (k + entryRow) }
 
 -- the numbers behind others
 row-shift : (a b : List ℕ) (k : ℕ) → rowAt (a ++ b) (length a + k) ≡ rowAt b k
-unfolding rowAt entryAt placeAt
+unfolding rowAt entryAt locatorRowAt
 row-shift a b k = simp (add-assoc, getD-append-add)
 
 -- row i + 1, behind the first, is row i
@@ -124,36 +124,36 @@ pub row-behind : (ns rest : List ℕ) (i : ℕ) → length ns ≡ pairRow → ro
 row-behind ns rest i e = let sum : pairRow * suc i ≡ length ns + pairRow * i = omega arith in ap (rowAt (ns ++ rest)) sum ∙ row-shift ns rest (pairRow * i)
 
 -- ---- what it tells
--- a pair's place: five zeros, or its locator's numbers
-pub record TagPlaceIs (m : List ℕ) (p : Place) (tag : Option Loc) : Type 0 where
+-- a pair's locator: five zeros, or its locator's numbers
+pub record TagRowIs (m : List ℕ) (p : LocatorRow) (tag : Option Loc) : Type 0 where
   pub is : locOrNone m p ≡ tag
-  pub says : Blank p ⊎ PlaceSays m p
+  pub says : Blank p ⊎ LocatorRowSays m p
 
 -- none
-tag-empty : (m rest : List ℕ) → TagPlaceIs m (placeAt (tagNumbers Tag.Empty ++ rest) 0) none
-unfolding tagNumbers placeAt locOrNone pick
+tag-empty : (m rest : List ℕ) → TagRowIs m (locatorRowAt (tagNumbers Tag.Empty ++ rest) 0) none
+unfolding tagNumbers locatorRowAt locOrNone pick
 tag-empty m rest = record { is = refl; says = inl (record { kind = refl; at = refl; len = refl; protocol = refl; port = refl }) }
 
 -- a locator of a known kind isn't none
-known : {m : List ℕ} {p : Place} → PlaceSays m p → locOrNone m p ≡ some (placeLoc m p)
+known : {m : List ℕ} {p : LocatorRow} → LocatorRowSays m p → locOrNone m p ≡ some (locatorRowLoc m p)
 unfolding locOrNone pick
 known {p = p} says = rw (ne-eqb (p .kind) 0 (λ e. omega (arith, says .least)))
 
 tag-locator : {m : List ℕ} {x : Item} (l : Locator) → TextIn m l → LocatorItem x (S.locOf m l) → (rest : List ℕ)
-    → TagPlaceIs m (placeAt (tagNumbers (Tag.At l) ++ rest) 0) (some (S.locOf m l))
+    → TagRowIs m (locatorRowAt (tagNumbers (Tag.At l) ++ rest) 0) (some (S.locOf m l))
 unfolding tagNumbers
-tag-locator l t i rest = let told = placed l t i rest in record { is = known (told .says) ∙ ap some (told .is); says = inr (told .says) }
+tag-locator l t i rest = let told = locator-told l t i rest in record { is = known (told .says) ∙ ap some (told .is); says = inr (told .says) }
 
 -- of what was read
 tag-tells : {m : List ℕ} {x : Item} {pair : Pair Value} (tag : Tag) → TagIn m tag → PairItem x pair → tagLoc m tag ≡ pair .1 → (rest : List ℕ)
-    → TagPlaceIs m (placeAt (tagNumbers tag ++ rest) 0) (pair .1)
+    → TagRowIs m (locatorRowAt (tagNumbers tag ++ rest) 0) (pair .1)
 unfolding tagLoc
 tag-tells Tag.Empty t (PairItem.untagged o) e rest = tag-empty _ rest
 tag-tells Tag.Empty t (PairItem.tagged o l) e rest = absurd (let z : _≡_ {A = ℕ} 0 1 = cc in omega arith)
 tag-tells (Tag.At l) t (PairItem.untagged o) e rest = absurd (let z : _≡_ {A = ℕ} 0 1 = cc in omega arith)
 tag-tells {m} (Tag.At l) t (PairItem.tagged {y = y} {loc = loc} o i) e rest =
     let same : S.locOf m l ≡ loc = cc in
-    subst (λ (k : Loc). TagPlaceIs m (placeAt (tagNumbers (Tag.At l) ++ rest) 0) (some k)) same (tag-locator l t (subst (LocatorItem y) (sym same) i) rest)
+    subst (λ (k : Loc). TagRowIs m (locatorRowAt (tagNumbers (Tag.At l) ++ rest) 0) (some k)) same (tag-locator l t (subst (LocatorItem y) (sym same) i) rest)
 
 -- ---- the rows of all
 -- what a row is, what it tells, and that it is in order
@@ -161,12 +161,12 @@ abbrev pub rowOf : List ℕ → ℕ → Row
 rowOf list i = rowAt list (pairRow * i)
 
 abbrev pub pairOf : List ℕ → Row → Pair (List ℕ)
-pairOf s r = (objOf s (r .entry), locOrNone s (r .place))
+pairOf s r = (objOf s (r .entry), locOrNone s (r .locator))
 
 pub record InOrder (s : List ℕ) (r : Row) : Type 0 where
-  pub kept : r .kept ≡ 0
+  pub count-at : r .count-at ≡ 0
   pub objective : EntrySays s (r .entry)
-  pub locator : Blank (r .place) ⊎ PlaceSays s (r .place)
+  pub locator : Blank (r .locator) ⊎ LocatorRowSays s (r .locator)
 
 module _ (s : List ℕ) where
   -- rows of pairs
@@ -185,12 +185,12 @@ module _ (s : List ℕ) where
   pair-next p {e} {o} {tag} {bad} {long} q = ap (R.pairNextFrom p) q ∙ omega (arith, pair-within s p p _ (PairRead.Got o tag (e - p) bad long) refl q .1)
 
   -- what the numbers tell
-  pair-tells : {obj : Obj Value} {loc : Option Loc} (o : Objective) (tag : Tag) → Goals s o obj → ((rest : List ℕ) → TagPlaceIs s (placeAt (tagNumbers tag ++ rest) 0) loc) → (rest : List ℕ)
+  pair-tells : {obj : Obj Value} {loc : Option Loc} (o : Objective) (tag : Tag) → Goals s o obj → ((rest : List ℕ) → TagRowIs s (locatorRowAt (tagNumbers tag ++ rest) 0) loc) → (rest : List ℕ)
       → Tells rowOf (pairOf s) (InOrder s) (R.pairCells o tag ++ rest) (valuedPair valueBytes (obj, loc))
-  unfolding R.pairCells pairNumbers rowAt entryAt placeAt entryOf goalOf valuedPair
+  unfolding R.pairCells pairNumbers rowAt entryAt locatorRowAt entryOf goalOf valuedPair
   pair-tells {loc = loc} o tag goal told rest =
-      let tag-is = subst (λ (ns : List ℕ). TagPlaceIs s (placeAt (ns ++ rest) 0) loc) (sym (tag-five tag)) (told rest) in
-      (ap₂ (λ (x : Obj (List ℕ)) (y : Option Loc). (x, y)) (goal .is) (tag-is .is), record { kept = refl; objective = goal .says; locator = tag-is .says })
+      let tag-is = subst (λ (ns : List ℕ). TagRowIs s (locatorRowAt (ns ++ rest) 0) loc) (sym (tag-five tag)) (told rest) in
+      (ap₂ (λ (x : Obj (List ℕ)) (y : Option Loc). (x, y)) (goal .is) (tag-is .is), record { count-at = refl; objective = goal .says; locator = tag-is .says })
 
   -- the pairs that stand in a message
   pub pairs-rows : {p e : ℕ} {xs : Items} {ps : List (Pair Value)} → depths xs ≤ leftUnder 1 → StandAll s p e xs → PairItems xs ps → (rows : List (List ℕ)) × Pairs p rows (map (valuedPair valueBytes) ps)

@@ -16,7 +16,7 @@ use Rattle.message.specs.declared.Targets.{Targets}
 use Rattle.message.specs.declared.Reading.{Reading}
 use Rattle.message.specs.Read.{mostBytes, readOf}
 use Rattle.message.proofs.Parts.{Six, MessageParts, read-parts}
-use Rattle.description.specs.Describe.{placeRow, pairRow}
+use Rattle.description.specs.Describe.{locatorRow, pairRow}
 use Rattle.describe.specs.Rows as R
 use Rattle.rewrite.specs.Lent.{mostNumbers}
 
@@ -28,7 +28,7 @@ fits list size many h = rw (le-ltb (length list / size) many h) (le-trans (mul-l
 
 module _ (s : List ℕ) (few : length s ≤ mostBytes) (list : List ℕ) (long : mostNumbers ≤ length list) where
   -- of locators, which have six bytes at least, in five numbers
-  locators-fit : (series : Series) → Six s series → R.seriesEnd placeRow series list ≤ length list
+  locators-fit : (series : Series) → Six s series → R.seriesEnd locatorRow series list ≤ length list
   unfolding R.seriesEnd
   locators-fit series six = fits list 5 (series .many) (omega arith)
 

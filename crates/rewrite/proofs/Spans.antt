@@ -18,6 +18,7 @@ use Rattle.grammar.specs.Stands.{Stands, ValueIs, ObjectiveIs}
 use Rattle.grammar.proofs.Bridge.{text-token}
 use Rattle.description.specs.Describe.{entryOf, objOf}
 use Rattle.describe.specs.Describe.{goalOf}
+use Rattle.roundtrip.proofs.Once.{objective-ext}
 use Rattle.roundtrip.specs.Plain.{valueBytes}
 use Rattle.roundtrip.specs.Says.{Inside, EntrySays}
 
@@ -64,10 +65,4 @@ unfolding entryOf goalOf objOf valuedObj
 objective-goals {o = o} {obj} i =
     let name = string-cuts (i .name-item) (i .name) in
     let value = value-cuts (i .value) in
-    record { says = record { name = name .inside; value = value .inside }; is = same (name .is) (i .flags) (i .count) (value .is) }
-  where
-    of : List ℕ → ℕ → ℕ → List ℕ → Obj (List ℕ)
-    of name flags count value = record { name = name; flags = flags; count = count; value = value }
-
-    same : {n n′ v v′ : List ℕ} {f f′ c c′ : ℕ} → n ≡ n′ → f ≡ f′ → c ≡ c′ → v ≡ v′ → of n f c v ≡ of n′ f′ c′ v′
-    same a b c d = cc
+    record { says = record { name = name .inside; value = value .inside }; is = objective-ext (name .is) (i .flags) (i .count) (value .is) }

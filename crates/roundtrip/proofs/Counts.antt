@@ -5,7 +5,6 @@ use mathlib.Core.List.{List, [], _∷_, _++_, append-assoc, append-nil}
 use mathlib.Core.Option.{Option, none, some}
 use Prim.Native.Nat.{ℕ, suc, _+_, _-_, _≤_}
 use native.Mathlib.Omega.{arith}
-use lib.Dec.{lit<}
 use lib.ListN.{length, length-append}
 use Rattle.cbor.specs.Item.{mostLevels}
 use Rattle.cbor.specs.Put.{head}
@@ -111,10 +110,10 @@ objective-long : {s : List ℕ} {p e : ℕ} {x : Item} {o : Objective} {obj : Ob
 unfolding encode encodeObj string valuedObj
 objective-long {p = p} {e} {o = o} {obj} i g item =
     let opened : length (headBytes 4 (i .opened .width) (itemsWith (obj .value))) ≡ length (head 4 (3 + oneMore (valueBytes (obj .value)))) =
-    ap length (short-head (lit< tt) (i .opened .right) ∙ ap (head 4) (items-with (obj .value))) in
-    let name : length (headBytes 3 (i .name-width) (length (obj .name))) ≡ length (head 3 (length (obj .name))) = ap length (short-head (lit< tt) (i .name-item .good .0)) in
-    let flags : length (headBytes 0 (i .flags-width) (obj .flags)) ≡ length (head 0 (obj .flags)) = ap length (short-head (lit< tt) (i .flags-item .good)) in
-    let count : length (headBytes 0 (i .count-width) (obj .count)) ≡ length (head 0 (obj .count)) = ap length (short-head (lit< tt) (i .count-item .good)) in
+    ap length (short-head tt (i .opened .right) ∙ ap (head 4) (items-with (obj .value))) in
+    let name : length (headBytes 3 (i .name-width) (length (obj .name))) ≡ length (head 3 (length (obj .name))) = ap length (short-head tt (i .name-item .good .0)) in
+    let flags : length (headBytes 0 (i .flags-width) (obj .flags)) ≡ length (head 0 (obj .flags)) = ap length (short-head tt (i .flags-item .good)) in
+    let count : length (headBytes 0 (i .count-width) (obj .count)) ≡ length (head 0 (obj .count)) = ap length (short-head tt (i .count-item .good)) in
     rw (objective-encodes g item)
     (simp length-append
     (omega (

@@ -16,15 +16,15 @@ use Rattle.cbor.specs.Tree.{infoOf, shortest, headBytes}
 use Rattle.options.specs.declared.Span.{Span}
 use Rattle.syntax.specs.Message.{orNull}
 use Rattle.description.specs.declared.rows.Entry.{Entry}
-use Rattle.description.specs.declared.rows.Place.{Place}
+use Rattle.description.specs.declared.rows.LocatorRow.{LocatorRow}
 use Rattle.description.specs.declared.Extra.{Extra}
 use Rattle.description.specs.declared.Extra.the-variants as X
 use Rattle.options.specs.declared.Outcome.{Outcome}
 use Rattle.options.specs.declared.Outcome.the-variants as E
 use Rattle.description.specs.declared.Description.{Description}
 use Rattle.description.specs.declared.Description.the-variants as D
-use Rattle.description.specs.Encoding.{string, numberOrNull, reached, fixed, encodeLoc, encodeObj, maybeObj, locOrEmpty, encodePair, encodeTargets, encodeEnding, opening, exchange, encodeMsg}
-use Rattle.description.specs.Describe.{placeRow, pairRow, entryRow, entryOf, objOf, placeLoc, placeAt, entryAt, rowLoc, locsOf, targetsOf, extraOf, locOrNone, rowPair, pairsOf, endOf, msgOf}
+use Rattle.description.specs.Encoding.{string, numberOrNull, reached, fixed, encodeLoc, encodeObj, maybeObj, locOrEmpty, encodePair, encodeTargets, encodeEnding, preamble, exchange, encodeMsg}
+use Rattle.description.specs.Describe.{locatorRow, pairRow, entryRow, entryOf, objOf, locatorRowLoc, locatorRowAt, entryAt, rowLoc, locsOf, targetsOf, extraOf, locOrNone, rowPair, pairsOf, endOf, msgOf}
 use Rattle.exact.proofs.Bytes.{bytes-append, bytes-more, bytes-none, bytes-of}
 use Rattle.roundtrip.proofs.Script.{info-least}
 use Rattle.roundtrip.proofs.Judged.{bytes-held, up-to-exactly}
@@ -67,9 +67,9 @@ all-bytes encode [] h = no-bytes
 all-bytes encode (x ∷ xs) h = then (h .0) (all-bytes encode xs (h .1))
 
 -- a message's first items
-opening-bytes : (n kind session : ℕ) → AllBytes (opening n kind session)
-unfolding opening
-opening-bytes n kind session = then (then (array-bytes n) (number-bytes kind)) (number-bytes session)
+preamble-bytes : (n kind session : ℕ) → AllBytes (preamble n kind session)
+unfolding preamble
+preamble-bytes n kind session = then (then (array-bytes n) (number-bytes kind)) (number-bytes session)
 
 module _ (source : List ℕ) (b : Bytes source) where
   -- strings of the source
@@ -91,8 +91,8 @@ module _ (source : List ℕ) (b : Bytes source) where
   fixed-bytes kind major s p q h = then (then (then (then (array-bytes 4) (number-bytes kind)) (string-bytes major s h)) (number-bytes p)) (number-bytes q)
 
   -- a described locator
-  locator-bytes : (p : Place) → AllBytes (encodeLoc (placeLoc source p))
-  unfolding placeLoc encodeLoc reached
+  locator-bytes : (p : LocatorRow) → AllBytes (encodeLoc (locatorRowLoc source p))
+  unfolding locatorRowLoc encodeLoc reached
   locator-bytes p =
       both (λ l. AllBytes (encodeLoc l)) (eqb (p .kind) 103) (fixed-bytes 103 2 (p .content) (p .protocol) (p .port) (lit< tt))
       (both (λ l. AllBytes (encodeLoc l)) (eqb (p .kind) 104) (fixed-bytes 104 2 (p .content) (p .protocol) (p .port) (lit< tt))
@@ -110,17 +110,17 @@ module _ (source : List ℕ) (b : Bytes source) where
   unfolding locsOf rowLoc
   rows-bytes list =
       all-bytes encodeLoc (locsOf source list)
-      (up-to-exactly (λ l. AllBytes (encodeLoc l)) (rowLoc source list) (length list / placeRow) .1 (λ i l. locator-bytes (placeAt list (placeRow * i))))
+      (up-to-exactly (λ l. AllBytes (encodeLoc l)) (rowLoc source list) (length list / locatorRow) .1 (λ i l. locator-bytes (locatorRowAt list (locatorRow * i))))
 
   -- a pair's locator or none
-  tag-bytes : (p : Place) → AllBytes (locOrEmpty (locOrNone source p))
+  tag-bytes : (p : LocatorRow) → AllBytes (locOrEmpty (locOrNone source p))
   unfolding locOrNone locOrEmpty
   tag-bytes p = both (λ l. AllBytes (locOrEmpty l)) (eqb (p .kind) 0) (array-bytes 0) (locator-bytes p)
 
   -- a described pair
   pair-bytes : (list : List ℕ) (i : ℕ) → AllBytes (encodePair (rowPair source list i))
   unfolding rowPair encodePair
-  pair-bytes list i = then (then (array-bytes 2) (objective-bytes (entryAt list (pairRow * i)))) (tag-bytes (placeAt list (pairRow * i + entryRow)))
+  pair-bytes list i = then (then (array-bytes 2) (objective-bytes (entryAt list (pairRow * i)))) (tag-bytes (locatorRowAt list (pairRow * i + entryRow)))
 
   -- an objective that may be left out
   extra-bytes : (o : Extra) → AllBytes (maybeObj (extraOf source o))
@@ -131,7 +131,7 @@ module _ (source : List ℕ) (b : Bytes source) where
   -- kinds 3, 4, 5 and 8
   exchange-bytes : (kind session : ℕ) (o : Entry) → AllBytes (exchange kind session (objOf source o))
   unfolding exchange
-  exchange-bytes kind session o = then (opening-bytes 3 kind session) (objective-bytes o)
+  exchange-bytes kind session o = then (preamble-bytes 3 kind session) (objective-bytes o)
 
   -- how a negotiation ends
   ending-bytes : (e : Outcome) → AllBytes (encodeEnding (endOf source e))
@@ -144,22 +144,22 @@ module _ (source : List ℕ) (b : Bytes source) where
   message-bytes : (list : List ℕ) (d : Description) → AllBytes (encodeMsg (msgOf source list d))
   unfolding msgOf encodeMsg pairsOf targetsOf encodeTargets
   message-bytes list D.Noop = then (array-bytes 1) (number-bytes 0)
-  message-bytes list (D.Discovery s i o) = then (then (opening-bytes 4 1 s) (address-bytes i)) (objective-bytes (entryOf o))
+  message-bytes list (D.Discovery s i o) = then (then (preamble-bytes 4 1 s) (address-bytes i)) (objective-bytes (entryOf o))
   message-bytes list (D.Response s i t false o) =
-      then (then (then (then (opening-bytes _ 2 s) (address-bytes i)) (number-bytes t)) (rows-bytes list)) (extra-bytes o)
+      then (then (then (then (preamble-bytes _ 2 s) (address-bytes i)) (number-bytes t)) (rows-bytes list)) (extra-bytes o)
   message-bytes list (D.Response s i t true o) =
-      then (then (then (then (opening-bytes _ 2 s) (address-bytes i)) (number-bytes t)) (then (then (array-bytes _) (number-bytes 100)) (rows-bytes list))) (extra-bytes o)
+      then (then (then (then (preamble-bytes _ 2 s) (address-bytes i)) (number-bytes t)) (then (then (array-bytes _) (number-bytes 100)) (rows-bytes list))) (extra-bytes o)
   message-bytes list (D.RequestNegotiation s o) = exchange-bytes 3 s (entryOf o)
   message-bytes list (D.RequestSynchronization s o) = exchange-bytes 4 s (entryOf o)
   message-bytes list (D.Negotiate s o) = exchange-bytes 5 s (entryOf o)
-  message-bytes list (D.End s e) = then (opening-bytes 3 6 s) (ending-bytes e)
-  message-bytes list (D.Wait s t) = then (opening-bytes 3 7 s) (number-bytes t)
+  message-bytes list (D.End s e) = then (preamble-bytes 3 6 s) (ending-bytes e)
+  message-bytes list (D.Wait s t) = then (preamble-bytes 3 7 s) (number-bytes t)
   message-bytes list (D.Synch s o) = exchange-bytes 8 s (entryOf o)
   message-bytes list (D.Flood s i t) =
-      then (then (then (opening-bytes _ 9 s) (address-bytes i)) (number-bytes t))
+      then (then (then (preamble-bytes _ 9 s) (address-bytes i)) (number-bytes t))
       (all-bytes encodePair (pairsOf source list)
       (up-to-exactly (λ p. AllBytes (encodePair p)) (rowPair source list) (length list / pairRow) .1 (λ i l. pair-bytes list i)))
-  message-bytes list (D.Invalid s v) = then (opening-bytes _ 99 s) (record { are = bytes-held source v b })
+  message-bytes list (D.Invalid s v) = then (preamble-bytes _ 99 s) (record { are = bytes-held source v b })
 
   -- What is written for a source of bytes is made of bytes.
   pub draft-bytes : (list : List ℕ) (d : Description) → Bytes (encodeMsg (msgOf source list d))

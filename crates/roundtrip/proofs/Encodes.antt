@@ -3,10 +3,10 @@
 use mathlib.Core.Path.{_≡_, refl, ap, _∙_}
 use mathlib.Core.List.{List, [], _∷_, _++_, map, flatMap, append-assoc, append-nil}
 use mathlib.Core.Option.{Option, Option·map}
-use Prim.Native.Nat.{ℕ, suc, _+_, _<_}
+use Prim.Native.Nat.{ℕ, suc, _+_}
 use native.Mathlib.Numerals.{one-add}
 use native.Mathlib.Omega.{arith}
-use lib.Dec.{lit<}
+use lib.Dec.{T, ltb, lit<}
 use lib.ListN.{length}
 use Rattle.base.specs.Pick.{pick}
 use Rattle.cbor.specs.Put.{head}
@@ -14,32 +14,16 @@ use Rattle.cbor.specs.Tree.{Item, Items, Right, infoOf, headBytes, count, encod
 use Rattle.base.specs.BigEndian.{bytesOf}
 use Rattle.syntax.specs.Message.{Loc, Obj, Pair, Aim, Ending, Msg, valuedObj, valuedPair, valued}
 use Rattle.grammar.specs.Cddl.{uint, list, array, Protocol, Port, OrNull, LocatorItem, LocatorItems, Value, ObjectiveItem, PairItem, PairItems, Number, Initiator, OptionalItems, joined, AimItems, EndingItem, MessageItem}
-use Rattle.description.specs.Encoding.{string, numberOrNull, reached, fixed, encodeLoc, oneMore, encodeObj, maybeObj, howMany, locOrEmpty, encodePair, targetItems, encodeTargets, encodeEnding, opening, exchange, encodeMsg}
+use Rattle.description.specs.Encoding.{string, numberOrNull, reached, fixed, encodeLoc, oneMore, encodeObj, maybeObj, howMany, locOrEmpty, encodePair, targetItems, encodeTargets, encodeEnding, preamble, exchange, encodeMsg}
 use Rattle.exact.proofs.Response.{count-joined}
 use Rattle.exact.proofs.Described.{short-width, locators-count, pairs-count}
 use Rattle.roundtrip.specs.Plain.{valueBytes, plain}
 
 -- ---- heads
 -- a head without fault is the shortest
-pub short-head : {major width arg : ℕ} → major < 7 → Right major width arg → headBytes major width arg ≡ head major arg
+pub short-head : {major width arg : ℕ} → T (ltb major 7) → Right major width arg → headBytes major width arg ≡ head major arg
 unfolding head
-short-head {major} {arg = n} m r = ap (λ w. headBytes major w n) (short-width (r .sized) (r .short (λ e. omega arith)))
-
--- a number's
-number-head : {w n : ℕ} → Right 0 w n → headBytes 0 w n ≡ head 0 n
-number-head = short-head (lit< tt)
-
--- a byte string's
-bytes-head : {w n : ℕ} → Right 2 w n → headBytes 2 w n ≡ head 2 n
-bytes-head = short-head (lit< tt)
-
--- a text's
-text-head : {w n : ℕ} → Right 3 w n → headBytes 3 w n ≡ head 3 n
-text-head = short-head (lit< tt)
-
--- an array's
-array-head : {w n : ℕ} → Right 4 w n → headBytes 4 w n ≡ head 4 n
-array-head = short-head (lit< tt)
+short-head {major} {arg = n} low r = ap (λ w. headBytes major w n) (short-width (r .sized) (r .short (λ e. omega (arith, lit< {m = major} {n = 7} low))))
 
 -- an item has bytes
 pub has-bytes : (x : Item) → oneMore (encode x) ≡ 1
@@ -55,31 +39,31 @@ has-bytes (Item.simple a b) = refl
 -- a session, a TTL or a waiting time
 number-encodes : {x : Item} {n : ℕ} → Good x → Number x n → encode x ≡ head 0 n
 unfolding encode
-number-encodes g (Number.number _) = number-head g
+number-encodes g (Number.number _) = short-head tt g
 
 -- an initiator
 initiator-encodes : {x : Item} {bs : List ℕ} → Good x → Initiator x bs → encode x ≡ string 2 bs
 unfolding encode string
-initiator-encodes g (Initiator.initiator _) = rw (bytes-head (g .0))
+initiator-encodes g (Initiator.initiator _) = rw (short-head tt (g .0))
 
 -- an objective, with or without a value
 pub objective-encodes : {x : Item} {o : Obj Value} → Good x → ObjectiveItem x o → encode x ≡ encodeObj (valuedObj valueBytes o)
 unfolding encode count encodeObj string valuedObj valueBytes oneMore
 objective-encodes g (ObjectiveItem.bare _ _) =
-    rw (array-head (g .0), text-head (g .1 .0 .0), number-head (g .1 .1 .0), number-head (g .1 .1 .1 .0)) (simp (append-assoc, append-nil))
+    rw (short-head tt (g .0), short-head tt (g .1 .0 .0), short-head tt (g .1 .1 .0), short-head tt (g .1 .1 .1 .0)) (simp (append-assoc, append-nil))
 objective-encodes g (ObjectiveItem.valued {x = x} _ _) =
-    rw (array-head (g .0), text-head (g .1 .0 .0), number-head (g .1 .1 .0), number-head (g .1 .1 .1 .0), has-bytes x) (simp (append-assoc, append-nil))
+    rw (short-head tt (g .0), short-head tt (g .1 .0 .0), short-head tt (g .1 .1 .0), short-head tt (g .1 .1 .1 .0), has-bytes x) (simp (append-assoc, append-nil))
 
 -- a locator's protocol
 protocol-encodes : {x : Item} {n : ℕ} → Good x → Protocol x n → encode x ≡ head 0 n
 unfolding encode
-protocol-encodes g Protocol.tcp = number-head g
-protocol-encodes g Protocol.udp = number-head g
+protocol-encodes g Protocol.tcp = short-head tt g
+protocol-encodes g Protocol.udp = short-head tt g
 
 -- and its port
 port-encodes : {x : Item} {n : ℕ} → Good x → Port x n → encode x ≡ head 0 n
 unfolding encode
-port-encodes g (Port.port _) = number-head g
+port-encodes g (Port.port _) = short-head tt g
 
 -- or null, in one byte
 or-null-encodes : {P : Item → ℕ → Type 0} {x : Item} {n : Option ℕ} → ((m : ℕ) → P x m → encode x ≡ head 0 m) → OrNull P x n → encode x ≡ numberOrNull n
@@ -91,13 +75,13 @@ or-null-encodes f (OrNull.is {n = n} i) = f n i
 locator-encodes : {x : Item} {l : Loc} → Good x → LocatorItem x l → encode x ≡ encodeLoc l
 unfolding encode count encodeLoc fixed reached string
 locator-encodes g (LocatorItem.v6 _ i j) =
-    rw (array-head (g .0), number-head (g .1 .0), bytes-head (g .1 .1 .0 .0), protocol-encodes (g .1 .1 .1 .0) i, port-encodes (g .1 .1 .1 .1 .0) j) (simp (append-assoc, append-nil))
+    rw (short-head tt (g .0), short-head tt (g .1 .0), short-head tt (g .1 .1 .0 .0), protocol-encodes (g .1 .1 .1 .0) i, port-encodes (g .1 .1 .1 .1 .0) j) (simp (append-assoc, append-nil))
 locator-encodes g (LocatorItem.v4 _ i j) =
-    rw (array-head (g .0), number-head (g .1 .0), bytes-head (g .1 .1 .0 .0), protocol-encodes (g .1 .1 .1 .0) i, port-encodes (g .1 .1 .1 .1 .0) j) (simp (append-assoc, append-nil))
+    rw (short-head tt (g .0), short-head tt (g .1 .0), short-head tt (g .1 .1 .0 .0), protocol-encodes (g .1 .1 .1 .0) i, port-encodes (g .1 .1 .1 .1 .0) j) (simp (append-assoc, append-nil))
 locator-encodes g (LocatorItem.domain i j) =
-    rw (array-head (g .0), number-head (g .1 .0), text-head (g .1 .1 .0 .0), protocol-encodes (g .1 .1 .1 .0) i, port-encodes (g .1 .1 .1 .1 .0) j) (simp (append-assoc, append-nil))
+    rw (short-head tt (g .0), short-head tt (g .1 .0), short-head tt (g .1 .1 .0 .0), protocol-encodes (g .1 .1 .1 .0) i, port-encodes (g .1 .1 .1 .1 .0) j) (simp (append-assoc, append-nil))
 locator-encodes g (LocatorItem.uri i j) =
-    rw (array-head (g .0), number-head (g .1 .0), text-head (g .1 .1 .0 .0), or-null-encodes (λ n. protocol-encodes (g .1 .1 .1 .0)) i, or-null-encodes (λ n. port-encodes (g .1 .1 .1 .1 .0)) j)
+    rw (short-head tt (g .0), short-head tt (g .1 .0), short-head tt (g .1 .1 .0 .0), or-null-encodes (λ n. protocol-encodes (g .1 .1 .1 .0)) i, or-null-encodes (λ n. port-encodes (g .1 .1 .1 .1 .0)) j)
     (simp (append-assoc, append-nil))
 
 -- ---- lists
@@ -110,8 +94,8 @@ locators-encode g (LocatorItems.more i is) = rw (locator-encodes (g .0) i, locat
 -- a pair, with a locator or an empty array
 pair-encodes : {x : Item} {p : Pair Value} → Good x → PairItem x p → encode x ≡ encodePair (valuedPair valueBytes p)
 unfolding encode count encodePair locOrEmpty valuedPair
-pair-encodes g (PairItem.untagged o) = rw (array-head (g .0), objective-encodes (g .1 .0) o, array-head (g .1 .1 .0 .0)) (simp (append-assoc, append-nil))
-pair-encodes g (PairItem.tagged o l) = rw (array-head (g .0), objective-encodes (g .1 .0) o, locator-encodes (g .1 .1 .0) l) (simp (append-assoc, append-nil))
+pair-encodes g (PairItem.untagged o) = rw (short-head tt (g .0), objective-encodes (g .1 .0) o, short-head tt (g .1 .1 .0 .0)) (simp (append-assoc, append-nil))
+pair-encodes g (PairItem.tagged o l) = rw (short-head tt (g .0), objective-encodes (g .1 .0) o, locator-encodes (g .1 .1 .0) l) (simp (append-assoc, append-nil))
 
 -- pairs
 pairs-encode : {xs : Items} {ps : List (Pair Value)} → Goods xs → PairItems xs ps → encodes xs ≡ flatMap encodePair (map (valuedPair valueBytes) ps)
@@ -153,28 +137,28 @@ aim-encodes g (AimItems.locators {xs = xs} {ys = ys} is i) =
     (rw (joined-encodes xs ys, locators-encode gs is, bytes), rw (count-joined xs ys, locators-count is, many))
 aim-encodes g (AimItems.divert is i) =
     let (bytes, many) = optional-encodes (g .1) i in (
-      rw (array-head (g .0 .0), number-head (g .0 .1 .0), locators-encode (g .0 .1 .1) is, bytes, locators-count is, one-add) (simp append-assoc),
+      rw (short-head tt (g .0 .0), short-head tt (g .0 .1 .0), locators-encode (g .0 .1 .1) is, bytes, locators-count is, one-add) (simp append-assoc),
       ap suc many ∙ omega arith,
     )
 
 -- how a negotiation ends
 ending-encodes : {x : Item} {e : Ending} → Good x → EndingItem x e → encode x ≡ encodeEnding e
 unfolding encode count encodeEnding string
-ending-encodes g EndingItem.accept = rw (array-head (g .0), number-head (g .1 .0)) (simp append-nil)
-ending-encodes g EndingItem.decline = rw (array-head (g .0), number-head (g .1 .0)) (simp append-nil)
-ending-encodes g EndingItem.reason = rw (array-head (g .0), number-head (g .1 .0), text-head (g .1 .1 .0 .0)) (simp (append-assoc, append-nil))
+ending-encodes g EndingItem.accept = rw (short-head tt (g .0), short-head tt (g .1 .0)) (simp append-nil)
+ending-encodes g EndingItem.decline = rw (short-head tt (g .0), short-head tt (g .1 .0)) (simp append-nil)
+ending-encodes g EndingItem.reason = rw (short-head tt (g .0), short-head tt (g .1 .0), short-head tt (g .1 .1 .0 .0)) (simp (append-assoc, append-nil))
 
 -- an array whose first items are a kind and a session
-opening-encodes : {w k kind session : ℕ} {s : Item} (xs : Items) → Good (Item.array w (Items.more (uint k kind) (Items.more s xs))) → Number s session
-    → encode (Item.array w (Items.more (uint k kind) (Items.more s xs))) ≡ opening (suc (suc (count xs))) kind session ++ encodes xs
-unfolding encode count opening
-opening-encodes xs g i = rw (array-head (g .0), number-head (g .1 .0), number-encodes (g .1 .1 .0) i) (simp append-assoc)
+preamble-encodes : {w k kind session : ℕ} {s : Item} (xs : Items) → Good (Item.array w (Items.more (uint k kind) (Items.more s xs))) → Number s session
+    → encode (Item.array w (Items.more (uint k kind) (Items.more s xs))) ≡ preamble (suc (suc (count xs))) kind session ++ encodes xs
+unfolding encode count preamble
+preamble-encodes xs g i = rw (short-head tt (g .0), short-head tt (g .1 .0), number-encodes (g .1 .1 .0) i) (simp append-assoc)
 
 -- a kind, a session and an objective
 exchange-encodes : {w k kind session : ℕ} {s x : Item} {o : Obj Value} → Good (array w (uint k kind ∷ s ∷ x ∷ [])) → Number s session → ObjectiveItem x o
     → encode (array w (uint k kind ∷ s ∷ x ∷ [])) ≡ exchange kind session (valuedObj valueBytes o)
 unfolding encode count exchange
-exchange-encodes {x = x} g i o = opening-encodes (list (x ∷ [])) g i ∙ rw (objective-encodes (g .1 .1 .1 .0) o) (simp append-nil)
+exchange-encodes {x = x} g i o = preamble-encodes (list (x ∷ [])) g i ∙ rw (objective-encodes (g .1 .1 .1 .0) o) (simp append-nil)
 
 -- four items, and n more
 four-more : (n : ℕ) → 4 + n ≡ suc (suc (suc (suc n)))
@@ -185,21 +169,21 @@ four-more n = omega arith
 -- A message's item without fault has the bytes that the writer gives the message.
 pub plain-encodes : {x : Item} {msg : Msg Value} → Good x → MessageItem x msg → encode x ≡ encodeMsg (plain msg)
 unfolding encode count encodeMsg oneMore plain valued valueBytes
-plain-encodes g MessageItem.noop = rw (array-head (g .0), number-head (g .1 .0)) (simp append-nil)
+plain-encodes g MessageItem.noop = rw (short-head tt (g .0), short-head tt (g .1 .0)) (simp append-nil)
 plain-encodes g (MessageItem.discovery {i = y} {x = x} i j o) =
-    opening-encodes (list (y ∷ x ∷ [])) g i ∙ rw (initiator-encodes (g .1 .1 .1 .0) j, objective-encodes (g .1 .1 .1 .1 .0) o) (simp (append-assoc, append-nil))
+    preamble-encodes (list (y ∷ x ∷ [])) g i ∙ rw (initiator-encodes (g .1 .1 .1 .0) j, objective-encodes (g .1 .1 .1 .1 .0) o) (simp (append-assoc, append-nil))
 plain-encodes g (MessageItem.response {i = y} {t = z} {xs = xs} i j t is) =
     let (bytes, many) = aim-encodes (g .1 .1 .1 .1 .1) is in
-    opening-encodes (Items.more y (Items.more z xs)) g i
+    preamble-encodes (Items.more y (Items.more z xs)) g i
     ∙ rw (initiator-encodes (g .1 .1 .1 .0) j, number-encodes (g .1 .1 .1 .1 .0) t, bytes, many) (simp (append-assoc, four-more))
 plain-encodes g (MessageItem.request-negotiation i o) = exchange-encodes g i o
 plain-encodes g (MessageItem.request-synchronization i o) = exchange-encodes g i o
 plain-encodes g (MessageItem.negotiate i o) = exchange-encodes g i o
-plain-encodes g (MessageItem.end {x = x} i e) = opening-encodes (list (x ∷ [])) g i ∙ rw (ending-encodes (g .1 .1 .1 .0) e) (simp append-nil)
-plain-encodes g (MessageItem.wait {t = x} i t) = opening-encodes (list (x ∷ [])) g i ∙ rw (number-encodes (g .1 .1 .1 .0) t) (simp append-nil)
+plain-encodes g (MessageItem.end {x = x} i e) = preamble-encodes (list (x ∷ [])) g i ∙ rw (ending-encodes (g .1 .1 .1 .0) e) (simp append-nil)
+plain-encodes g (MessageItem.wait {t = x} i t) = preamble-encodes (list (x ∷ [])) g i ∙ rw (number-encodes (g .1 .1 .1 .0) t) (simp append-nil)
 plain-encodes g (MessageItem.synch i o) = exchange-encodes g i o
 plain-encodes g (MessageItem.flood {i = y} {t = z} {xs = xs} i j t is) =
-    opening-encodes (Items.more y (Items.more z xs)) g i
+    preamble-encodes (Items.more y (Items.more z xs)) g i
     ∙ rw (initiator-encodes (g .1 .1 .1 .0) j, number-encodes (g .1 .1 .1 .1 .0) t, pairs-encode (g .1 .1 .1 .1 .1) is, pairs-count is, pairs-many) (simp (append-assoc, four-more))
-plain-encodes g (MessageItem.invalid i) = opening-encodes Items.done g i ∙ simp append-nil
-plain-encodes g (MessageItem.invalid-with {x = x} i) = opening-encodes (list (x ∷ [])) g i ∙ rw (has-bytes x) (simp append-nil)
+plain-encodes g (MessageItem.invalid i) = preamble-encodes Items.done g i ∙ simp append-nil
+plain-encodes g (MessageItem.invalid-with {x = x} i) = preamble-encodes (list (x ∷ [])) g i ∙ rw (has-bytes x) (simp append-nil)

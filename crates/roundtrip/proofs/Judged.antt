@@ -2,14 +2,14 @@
 -- Assumes nothing.
 use mathlib.Core.Path.{_≡_, refl, sym, ap, _∙_, subst}
 use mathlib.Core.Logic.{_↔_, _⊎_, inl, inr}
-use mathlib.Core.Bool.{Bool, true, false}
+use mathlib.Core.Bool.{Bool, true, false, false≢true}
 use mathlib.Core.List.{List, [], _∷_, append-nil}
 use Prim.Native.Nat.{ℕ, zero, suc, _+_, _*_, _/_, _%_, _≤_, _<_}
 use native.Mathlib.Decide.{decLt}
 use native.Mathlib.Omega.{arith}
 use native.Mathlib.Nat.{add-zero, zero-add}
 use lib.Dec.{ltb, eqb}
-use lib.ListN.{length, take, drop, getD, length-take, length-drop}
+use lib.ListN.{length, take, drop, getD, length-take, length-drop, drop-of-length-le}
 use lib.Seq.{take-length}
 use borrow.Author.Tests.{ltb-false, eqb-true, eqb-false, le-ltb, eq-eqb}
 use Rattle.options.specs.Text.{held}
@@ -26,24 +26,20 @@ use Rattle.cbor.proofs.Accepts.{item-accepts}
 use Rattle.cbor.proofs.Exact.{item-exact}
 use Rattle.options.specs.declared.Span.{Span}
 use Rattle.description.specs.declared.rows.Entry.{Entry}
-use Rattle.description.specs.declared.rows.Place.{Place}
+use Rattle.description.specs.declared.rows.LocatorRow.{LocatorRow}
 use Rattle.description.specs.declared.Extra.{Extra}
 use Rattle.description.specs.declared.Extra.the-variants as X
 use Rattle.options.specs.declared.Outcome.{Outcome}
 use Rattle.options.specs.declared.Outcome.the-variants as E
 use Rattle.description.specs.declared.Description.{Description}
 use Rattle.description.specs.declared.Description.the-variants as D
-use Rattle.description.specs.Describe.{placeRow, pairRow, entryRow, listOf, entryOf, objOf, placeAt, entryAt, rowPair, pairsOf, extraOf, msgOf}
-use Rattle.description.specs.Judge.{okDiscovery, okResponse, okFlood, okParts, okList, okDescribed, alone, whole, inside, okValue, okItem, okEntry, okPlace, blankPlace, okNoneOr, allFrom, okEach, okRow, okRows, okPair, okPairs, okExtra, okOutcome}
-use Rattle.roundtrip.specs.Says.{Inside, EntrySays, PlaceSays, Blank, PairSays, Rows, ExtraSays, OutcomeSays, PartsSay}
+use Rattle.description.specs.Describe.{locatorRow, pairRow, entryRow, listOf, entryOf, objOf, locatorRowAt, entryAt, rowPair, pairsOf, extraOf, msgOf}
+use Rattle.description.specs.Judge.{okDiscovery, okResponse, okFlood, okParts, okList, okDescribed, alone, whole, inside, okValue, okItem, okEntry, okLocatorRow, blankLocatorRow, okNoneOr, allFrom, okEach, okRow, okRows, okPair, okPairs, okExtra, okOutcome}
+use Rattle.roundtrip.specs.Says.{Inside, EntrySays, LocatorRowSays, Blank, PairSays, Rows, ExtraSays, OutcomeSays, PartsSay}
 use Rattle.roundtrip.proofs.Script.{Each, Valued}
 use Rattle.roundtrip.proofs.Once.{ValuedObj, ValuedPair, ValuedMsg}
 
 -- ---- tests
--- no test is both
-pub never : false ≡ true → ⊥
-never e = let z : _≡_ {A = ℕ} 0 1 = cc in omega arith
-
 -- P says A, where G is given, and A says P
 abbrev Tells : Type 0 → Type 0 → Type 0 → Type 0
 Tells G P A = (G → P → A) × (A → P)
@@ -52,12 +48,12 @@ Tells G P A = (G → P → A) × (A → P)
 and-exactly : {t u : Bool} {G A B : Type 0} → Tells G (t ≡ true) A → Tells G (u ≡ true) B → Tells G (pick t u false ≡ true) (A × B)
 unfolding pick
 and-exactly {t = true} f g = (λ b h. (f .0 b refl, g .0 b h), λ h. g .1 (h .1))
-and-exactly {t = false} f g = (λ b h. absurd (never h), λ h. absurd (never (f .1 (h .0))))
+and-exactly {t = false} f g = (λ b h. absurd (false≢true h), λ h. absurd (false≢true (f .1 (h .0))))
 
 -- the second test, where the first fails
 unless-exactly : {t u : Bool} {G A B : Type 0} → Tells G (t ≡ false) A → Tells G (u ≡ true) B → Tells G (pick t false u ≡ true) (A × B)
 unfolding pick
-unless-exactly {t = true} f g = (λ b h. absurd (never h), λ h. absurd (never (sym (f .1 (h .0)))))
+unless-exactly {t = true} f g = (λ b h. absurd (false≢true h), λ h. absurd (false≢true (sym (f .1 (h .0)))))
 unless-exactly {t = false} f g = (λ b h. (f .0 b refl, g .0 b h), λ h. g .1 (h .1))
 
 -- equal numbers
@@ -105,7 +101,7 @@ whole-is bs b = go (firstItem 0 bs) refl
         subst Valued (sym all) (Valued.one (i .item) (i .good) (i .shallow))
 
     go : (r : ItemRead) → firstItem 0 bs ≡ r → alone (length bs) r ≡ true → Valued bs
-    go (ItemRead.Refused number place) q h = absurd (never h)
+    go (ItemRead.Refused number place) q h = absurd (false≢true h)
     go (ItemRead.Ends e) q h = found e q (eqb-true e (length bs) (sym (pick-same _) ∙ h))
 
 -- and an item is
@@ -116,16 +112,11 @@ value-ok _ (Valued.one x g d) =
     let ends : firstItem 0 (encode x) ≡ ItemRead.Ends (length (encode x)) = ap (firstItem 0) (sym (append-nil (encode x))) ∙ item-accepts 0 x [] g d in
     both (λ r. r ≡ true) (eqb (length (encode x)) 0) refl (rw (ends, eq-eqb (length (encode x)) (length (encode x)) refl) refl)
 
--- no bytes are the empty list
-no-bytes : (bs : List ℕ) → length bs ≡ 0 → bs ≡ []
-no-bytes [] e = refl
-no-bytes (x ∷ bs) e = absurd (omega arith)
-
 -- a value: none, or an item
 value-is : (bs : List ℕ) → Bytes bs → okValue bs ≡ true → Valued bs
 unfolding okValue
 value-is bs b =
-    pick-case (λ r. r ≡ true → Valued bs) (eqb (length bs) 0) (λ e h. subst Valued (sym (no-bytes bs (eqb-true (length bs) 0 e))) Valued.none) (λ e h. whole-is bs b h)
+    pick-case (λ r. r ≡ true → Valued bs) (eqb (length bs) 0) (λ e h. subst Valued (sym (drop-of-length-le bs {i = 0} (omega (arith, eqb-true (length bs) 0 e)))) Valued.none) (λ e h. whole-is bs b h)
 
 -- the bytes of a span are bytes
 pub bytes-held : (source : List ℕ) (s : Span) → Bytes source → Bytes (held source s)
@@ -170,15 +161,15 @@ up-to-exactly P f (suc n) =
     last h i e = rw e (h .1 .0)
 
 -- five zeros
-blank-exactly : {G : Type 0} (p : Place) → Tells G (blankPlace p ≡ true) ((p .content .at ≡ 0) × ((p .content .len ≡ 0) × ((p .protocol ≡ 0) × (p .port ≡ 0))))
-unfolding blankPlace
+blank-exactly : {G : Type 0} (p : LocatorRow) → Tells G (blankLocatorRow p ≡ true) ((p .content .at ≡ 0) × ((p .content .len ≡ 0) × ((p .protocol ≡ 0) × (p .port ≡ 0))))
+unfolding blankLocatorRow
 blank-exactly p =
     and-exactly (equal-exactly (p .content .at) 0)
     (and-exactly (equal-exactly (p .content .len) 0) (and-exactly (equal-exactly (p .protocol) 0) (equal-exactly (p .port) 0)))
 
 -- a list where there is none to be
 list-exactly : {G : Type 0} (list : List ℕ) → Tells G (eqb (length list) 0 ≡ true) (list ≡ [])
-list-exactly list = retold (equal-exactly (length list) 0) (no-bytes list) (ap length)
+list-exactly list = retold (equal-exactly (length list) 0) (λ e. drop-of-length-le list {i = 0} (omega arith)) (ap length)
 
 module _ (source : List ℕ) where
   -- what a test says of a source of bytes; what says so much passes the test, whatever the source's elements are
@@ -200,34 +191,34 @@ module _ (source : List ℕ) where
       (λ h. (h .0 .name, (h .0 .value, h .1)))
 
   -- a locator
-  place-exactly : {G : Type 0} (p : Place) → Tells G (okPlace source p ≡ true) (PlaceSays source p)
-  unfolding okPlace
-  place-exactly p =
+  locator-row-exactly : {G : Type 0} (p : LocatorRow) → Tells G (okLocatorRow source p ≡ true) (LocatorRowSays source p)
+  unfolding okLocatorRow
+  locator-row-exactly p =
       retold (unless-exactly (least-exactly (p .kind) 103) (unless-exactly (least-exactly 106 (p .kind)) (inside-exactly source (p .content))))
       (λ h. record { least = h .0; most = h .1 .0; content = h .1 .1 })
       (λ h. (h .least, (h .most, h .content)))
 
   -- a pair's locator or none
-  tag-exactly : {G : Type 0} (p : Place) → Tells G (okNoneOr source p ≡ true) (Blank p ⊎ PlaceSays source p)
+  tag-exactly : {G : Type 0} (p : LocatorRow) → Tells G (okNoneOr source p ≡ true) (Blank p ⊎ LocatorRowSays source p)
   unfolding okNoneOr
   tag-exactly {G} p = (
-    λ b. pick-case (λ r. r ≡ true → Blank p ⊎ PlaceSays source p) (eqb (p .kind) 0)
+    λ b. pick-case (λ r. r ≡ true → Blank p ⊎ LocatorRowSays source p) (eqb (p .kind) 0)
         (λ e h. let f = blank-exactly p .0 b h in inl (record { kind = eqb-true (p .kind) 0 e; at = f .0; len = f .1 .0; protocol = f .1 .1 .0; port = f .1 .1 .1 }))
-        (λ e h. inr (place-exactly p .0 b h)),
+        (λ e h. inr (locator-row-exactly p .0 b h)),
     back,
   )
     where
-      back : Blank p ⊎ PlaceSays source p → pick (eqb (p .kind) 0) (blankPlace p) (okPlace source p) ≡ true
+      back : Blank p ⊎ LocatorRowSays source p → pick (eqb (p .kind) 0) (blankLocatorRow p) (okLocatorRow source p) ≡ true
       back (inl h) =
           pick-case (λ r. r ≡ true) (eqb (p .kind) 0) (λ e. blank-exactly {G = G} p .1 (h .at, (h .len, (h .protocol, h .port)))) (λ e. absurd (eqb-false (p .kind) 0 e (h .kind)))
       back (inr h) =
-          pick-case (λ r. r ≡ true) (eqb (p .kind) 0) (λ e. absurd (omega (arith, eqb-true (p .kind) 0 e, h .least))) (λ e. place-exactly {G = G} p .1 h)
+          pick-case (λ r. r ≡ true) (eqb (p .kind) 0) (λ e. absurd (omega (arith, eqb-true (p .kind) 0 e, h .least))) (λ e. locator-row-exactly {G = G} p .1 h)
 
   -- the locators of a list
-  rows-exactly : {G : Type 0} (list : List ℕ) → Tells G (okRows source list ≡ true) (Rows list placeRow (λ k. PlaceSays source (placeAt list (placeRow * k))))
+  rows-exactly : {G : Type 0} (list : List ℕ) → Tells G (okRows source list ≡ true) (Rows list locatorRow (λ k. LocatorRowSays source (locatorRowAt list (locatorRow * k))))
   unfolding okRows okRow
   rows-exactly list =
-      each-exactly placeRow (okRow source list) (λ k. PlaceSays source (placeAt list (placeRow * k))) (λ k. place-exactly (placeAt list (placeRow * k))) list
+      each-exactly locatorRow (okRow source list) (λ k. LocatorRowSays source (locatorRowAt list (locatorRow * k))) (λ k. locator-row-exactly (locatorRowAt list (locatorRow * k))) list
 
   -- a pair's row, with its value
   pair-exactly : (list : List ℕ) (i : ℕ) → Judges (okPair source list i) (PairSays source list i × ValuedPair (rowPair source list i))
@@ -235,9 +226,9 @@ module _ (source : List ℕ) where
   pair-exactly list i =
       retold
       (and-exactly (equal-exactly (getD list (pairRow * i + 4) 0) 0)
-      (and-exactly (entry-exactly (entryAt list (pairRow * i))) (tag-exactly (placeAt list (pairRow * i + entryRow)))))
-      (λ h. (record { kept = h .0; objective = h .1 .0 .0; locator = h .1 .1 }, h .1 .0 .1))
-      (λ h. (h .0 .kept, ((h .0 .objective, h .1), h .0 .locator)))
+      (and-exactly (entry-exactly (entryAt list (pairRow * i))) (tag-exactly (locatorRowAt list (pairRow * i + entryRow)))))
+      (λ h. (record { count-at = h .0; objective = h .1 .0 .0; locator = h .1 .1 }, h .1 .0 .1))
+      (λ h. (h .0 .count-at, ((h .0 .objective, h .1), h .0 .locator)))
 
   -- the pairs of a list
   pairs-exactly : (list : List ℕ) → Judges (okPairs source list) (Rows list pairRow (PairSays source list) × Every ValuedPair (pairsOf source list))

@@ -4,17 +4,17 @@ pub mod Read
 pub mod Relay
 pub mod Write
 pub mod Answer
--- For callers' proofs: items that are messages, encoded; where a message's items stand.
+-- For callers' proofs: items that are messages, encoded; where a message's items stand; messages that are encoded alike are the same.
 pub mod Encodes
 pub mod Places
--- For the proofs of this crate: pairs read at another place, a count's head replaced in a part and in a message, where the count stands; messages
--- that are encoded alike are the same; what the judge passes; bytes handed over.
+pub mod Once
+-- For the proofs of this crate: pairs read at another place, a count's head replaced in a part and in a message, where the count stands;
+-- what the judge passes; bytes handed over.
 mod Moved
 mod Recounted
 mod Lowered
 mod Counts
 mod Script
-mod Once
 mod Within
 mod Judged
 mod Drafts

@@ -52,7 +52,7 @@ no-shape q = let z : _≡_ {A = ℕ} 0 1 = cc in omega arith
 -- a shape that is accepted has no fault
 judged-good : (x : Shape) {m : Message} {end : ℕ} → judgedShape x ≡ E.Accepted m end → x ≡ S.Good m end 0 0
 unfolding judgedShape
-judged-good (S.Bad place) = λ q. absurd (let z : _≡_ {A = ℕ} 0 1 = cc in omega arith)
+judged-good (S.Bad place) = λ q. cc
 judged-good (S.Good m′ end′ bad long) {m} {end} =
     pick-case P (eqb bad 0)
     (λ e. pick-case P (eqb long 0)
@@ -60,8 +60,8 @@ judged-good (S.Good m′ end′ bad long) {m} {end} =
     let same : m′ ≡ m = cc in
     let same′ : end′ ≡ end = cc in
     rw (same, same′, eqb-true bad 0 e, eqb-true long 0 f))
-    (λ _ q. absurd (let z : _≡_ {A = ℕ} 0 1 = cc in omega arith)))
-    (λ _ q. absurd (let z : _≡_ {A = ℕ} 0 1 = cc in omega arith))
+    (λ _ q. cc))
+    (λ _ q. cc)
   where
     P : Examined → Type 0
     P r = r ≡ E.Accepted m end → S.Good m′ end′ bad long ≡ S.Good m end 0 0

@@ -23,7 +23,7 @@ none-before s (suc n) at bad long end q = by (pairAt s at) (none-before s n) q
   where
     by : (x : PairRead) → ((at bad long end : ℕ) → pairsFrom s n at bad long ≡ PairsRead.Ran end 0 0 → (bad ≡ 0) × (long ≡ 0))
         → pairThen (pairsFrom s n) at bad long x ≡ PairsRead.Ran end 0 0 → (bad ≡ 0) × (long ≡ 0)
-    by (PairRead.Bad place) before q = absurd (let z : _≡_ {A = ℕ} 0 1 = cc in omega arith)
+    by (PairRead.Bad place) before q = (cc, cc)
     by (PairRead.Got o t size bad′ long′) before q =
         let (z, z′) = before (at + size) (firstOf bad bad′) (firstOf long long′) end q in
         (none-first bad bad′ z .0, none-first long long′ z′ .0)

@@ -12,14 +12,14 @@ use Rattle.cbor.specs.Put.{head}
 use Rattle.cbor.specs.Tree.{headBytes}
 use Rattle.message.specs.Read.{mostBytes}
 use Rattle.syntax.specs.Message.{Loc, Obj, Pair, Aim, Ending, Msg}
-use Rattle.description.specs.Encoding.{string, numberOrNull, reached, fixed, encodeLoc, oneMore, encodeObj, maybeObj, howMany, locOrEmpty, encodePair, targetItems, encodeTargets, encodeEnding, opening, exchange, encodeMsg}
+use Rattle.description.specs.Encoding.{string, numberOrNull, reached, fixed, encodeLoc, oneMore, encodeObj, maybeObj, howMany, locOrEmpty, encodePair, targetItems, encodeTargets, encodeEnding, preamble, exchange, encodeMsg}
 use Rattle.description.proofs.Items.{more-le}
-use Rattle.roundtrip.proofs.Script.{Small, Piece, spell, spells, Like, Valued, array-rest, array-next, number-next, string-next, array-none, none-array, text-number, number-text, perhaps, Each, perhaps-next, value-next}
+use Rattle.roundtrip.proofs.Script.{Small, Piece, spell, spells, Like, Valued, array-rest, array-next, number-next, string-next, array-none, none-array, text-number, number-text, turned, perhaps, Each, perhaps-next, value-next}
 
--- a head first
-array-spelt : (n : ℕ) (ts : List Piece) → spells (Piece.array n ∷ ts) ≡ head 4 n ++ spells ts
-unfolding spells spell
-array-spelt n ts = refl
+-- a piece, and then others
+piece-spelt : (t : Piece) (ts : List Piece) → spells (t ∷ ts) ≡ spell t ++ spells ts
+unfolding spells
+piece-spelt t ts = refl
 
 -- ---- lists
 module _ {A : Type 0} (one : A → List Piece → List Piece) where
@@ -60,14 +60,11 @@ unfolding spells spell encodeObj
 objective-spelt o ts = simp append-assoc
 
 -- objectives by their parts
-objective-ext : (o o′ : Obj (List ℕ)) → o .name ≡ o′ .name → o .flags ≡ o′ .flags → o .count ≡ o′ .count → o .value ≡ o′ .value → o ≡ o′
-objective-ext o o′ a b c d = same a b c d
-  where
-    of : List ℕ → ℕ → ℕ → List ℕ → Obj (List ℕ)
-    of name flags count value = record { name = name; flags = flags; count = count; value = value }
+abbrev pub objectiveOf : List ℕ → ℕ → ℕ → List ℕ → Obj (List ℕ)
+objectiveOf name flags count value = record { name = name; flags = flags; count = count; value = value }
 
-    same : {n n′ v v′ : List ℕ} {f f′ c c′ : ℕ} → n ≡ n′ → f ≡ f′ → c ≡ c′ → v ≡ v′ → of n f c v ≡ of n′ f′ c′ v′
-    same a b c d = cc
+pub objective-ext : {n n′ v v′ : List ℕ} {f f′ c c′ : ℕ} → n ≡ n′ → f ≡ f′ → c ≡ c′ → v ≡ v′ → objectiveOf n f c v ≡ objectiveOf n′ f′ c′ v′
+objective-ext a b c d = cc
 
 -- an objective passed
 objective-next : {o o′ : Obj (List ℕ)} {ts ts′ : List Piece} → SmallObj o → ValuedObj o → ValuedObj o′ → Like (objective o ts) (objective o′ ts′) → (o ≡ o′) × Like ts ts′
@@ -77,7 +74,7 @@ objective-next {o} {o′} (hf, hc) v v′ l =
     let (flags, l₃) = number-next hf l₂ in
     let (count, l₄) = number-next hc l₃ in
     let (value, l₅) = value-next v v′ (omega arith) l₄ in
-    (objective-ext o o′ name flags count value, l₅)
+    (objective-ext name flags count value, l₅)
 
 -- a value that is the last piece
 value-last : {v v′ : List ℕ} → Like (Piece.value v ∷ []) (Piece.value v′ ∷ []) → v ≡ v′
@@ -90,7 +87,7 @@ objective-last {o} {o′} (hf, hc) l =
     let (name, l₁) = string-next (array-rest l) in
     let (flags, l₂) = number-next hf l₁ in
     let (count, l₃) = number-next hc l₂ in
-    objective-ext o o′ name flags count (value-last l₃)
+    objective-ext name flags count (value-last l₃)
 
 -- ---- locators
 -- a locator's kind
@@ -245,11 +242,8 @@ ValuedPair p = ValuedObj (p .0)
 
 -- its pieces spell it
 pair-spelt : (p : Pair (List ℕ)) (ts : List Piece) → spells (pair p ts) ≡ encodePair p ++ spells ts
-unfolding encodePair
-pair-spelt p ts = first ∙ rw (objective-spelt (p .0) (tagged (p .1) ts), tagged-spelt (p .1) ts) (simp append-assoc)
-  where
-    first : spells (pair p ts) ≡ head 4 2 ++ spells (objective (p .0) (tagged (p .1) ts))
-    first = array-spelt 2 (objective (p .0) (tagged (p .1) ts))
+unfolding spell encodePair
+pair-spelt p ts = piece-spelt (Piece.array 2) (objective (p .0) (tagged (p .1) ts)) ∙ rw (objective-spelt (p .0) (tagged (p .1) ts), tagged-spelt (p .1) ts) (simp append-assoc)
 
 -- pairs by their parts
 pair-ext : (p p′ : Pair (List ℕ)) → p .0 ≡ p′ .0 → p .1 ≡ p′ .1 → p ≡ p′
@@ -306,17 +300,12 @@ abbrev pub SmallTargets : Aim → Type 0
 SmallTargets (Aim.locators ls) = Every SmallLoc ls
 SmallTargets (Aim.divert ls) = Every SmallLoc ls
 
--- a number first
-number-spelt : (n : ℕ) (ts : List Piece) → spells (Piece.number n ∷ ts) ≡ head 0 n ++ spells ts
-unfolding spells spell
-number-spelt n ts = refl
-
 -- their pieces spell them
 targets-spelt : (x : Aim) (ts : List Piece) → spells (targets x ts) ≡ encodeTargets x ++ spells ts
-unfolding targets encodeTargets
+unfolding spell targets encodeTargets
 targets-spelt (Aim.locators ls) ts = locators-spelt ls ts
 targets-spelt (Aim.divert ls) ts =
-    array-spelt (1 + length ls) (Piece.number 100 ∷ locators ls ts) ∙ rw (number-spelt 100 (locators ls ts), locators-spelt ls ts) (simp append-assoc)
+    piece-spelt (Piece.array (1 + length ls)) (Piece.number 100 ∷ locators ls ts) ∙ rw (piece-spelt (Piece.number 100) (locators ls ts), locators-spelt ls ts) (simp append-assoc)
 
 -- locators, and then an objective or none: no objective is a locator
 aimed-once : (ls ls′ : List Loc) (o o′ : Option (Obj (List ℕ))) → Every SmallLoc ls → Each SmallObj o → Like (locators ls (extra o)) (locators ls′ (extra o′)) → (ls ≡ ls′) × (o ≡ o′)
@@ -331,16 +320,12 @@ aimed-once (x ∷ ls) (x′ ∷ ls′) o o′ (h, hs) ho l =
     let (rest, obj) = aimed-once ls ls′ o o′ hs ho l₁ in
     (ap₂ (λ (l : Loc) (ls : List Loc). l ∷ ls) same rest, obj)
 
--- the lead of a divert is no locator's
-led-apart : (l : Loc) → (locatorKind l ≡ 100 → ⊥) × (100 ≡ locatorKind l → ⊥)
-led-apart l = (λ e. omega (arith, kind-range l), λ e. omega (arith, kind-range l))
-
--- locators are no divert
+-- locators are no divert, whose lead is no locator's
 mixed : (ls ls′ : List Loc) (o o′ : Option (Obj (List ℕ))) → Like (targets (Aim.locators ls) (extra o)) (targets (Aim.divert ls′) (extra o′)) → ⊥
 unfolding targets all
 mixed [] ls′ none o′ l = none-array l
 mixed [] ls′ (some o) o′ l = text-number (array-rest l)
-mixed (x ∷ ls) ls′ o o′ l = led-apart x .0 (number-next (omega (arith, kind-range x)) (array-rest l) .0)
+mixed (x ∷ ls) ls′ o o′ l = omega (arith, kind-range x, number-next (omega (arith, kind-range x)) (array-rest l) .0)
 
 -- so many locators as have bytes
 divert-few : (ls : List Loc) → length ls ≤ length (encodeTargets (Aim.divert ls))
@@ -352,13 +337,6 @@ many-small : (ls : List Loc) {us : List Piece} (ts : List Piece) → Like (targe
 many-small ls ts l =
     omega (arith, l .few, ap length (targets-spelt (Aim.divert ls) ts), length-append (encodeTargets (Aim.divert ls)) (spells ts), divert-few ls)
 
--- and no divert is locators
-mixed-back : (ls ls′ : List Loc) (o o′ : Option (Obj (List ℕ))) → Like (targets (Aim.divert ls) (extra o)) (targets (Aim.locators ls′) (extra o′)) → ⊥
-unfolding targets all
-mixed-back ls [] o none l = array-none l
-mixed-back ls [] o (some o′) l = number-text (array-rest l)
-mixed-back ls (x′ ∷ ls′) o o′ l = led-apart x′ .1 (number-next (lit< tt) (array-rest l) .0)
-
 -- so they are the same
 targets-once : (x x′ : Aim) (o o′ : Option (Obj (List ℕ))) → SmallTargets x → Each SmallObj o → Like (targets x (extra o)) (targets x′ (extra o′)) → (x ≡ x′) × (o ≡ o′)
 unfolding targets
@@ -366,7 +344,7 @@ targets-once (Aim.locators ls) (Aim.locators ls′) o o′ h ho l =
     let (same, obj) = aimed-once ls ls′ o o′ h ho l in
     (ap Aim.locators same, obj)
 targets-once (Aim.locators ls) (Aim.divert ls′) o o′ h ho l = absurd (mixed ls ls′ o o′ l)
-targets-once (Aim.divert ls) (Aim.locators ls′) o o′ h ho l = absurd (mixed-back ls ls′ o o′ l)
+targets-once (Aim.divert ls) (Aim.locators ls′) o o′ h ho l = absurd (mixed ls′ ls o′ o (turned l))
 targets-once (Aim.divert ls) (Aim.divert ls′) o o′ h ho l =
     let (many, l₁) = array-next (many-small ls (extra o) l) l in
     let (_, l₂) = number-next (lit< tt) l₁ in
@@ -460,12 +438,12 @@ pieces m = Piece.array (itemsOf m) ∷ Piece.number (kindOf m) ∷ rest m
 
 -- those of a session and an objective spell them
 exchange-spelt : (k s : ℕ) (o : Obj (List ℕ)) → spells (Piece.array 3 ∷ Piece.number k ∷ exchanged s o) ≡ exchange k s o
-unfolding spells spell exchange opening encodeObj
+unfolding spells spell exchange preamble encodeObj
 exchange-spelt k s o = simp (append-assoc, append-nil)
 
 -- the pieces of a message spell it
 pieces-spelt : (m : Msg (List ℕ)) → spells (pieces m) ≡ encodeMsg m
-unfolding spells spell itemsOf kindOf rest encodeMsg opening encodeObj
+unfolding spells spell itemsOf kindOf rest encodeMsg preamble encodeObj
 pieces-spelt Msg.noop = simp append-nil
 pieces-spelt (Msg.discovery s i o) = simp (append-assoc, append-nil)
 pieces-spelt (Msg.response s i t x o) = rw (targets-spelt x (extra o), extra-spelt o) (simp append-assoc)

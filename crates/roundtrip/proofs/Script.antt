@@ -160,7 +160,7 @@ unfolding spells spell head headBytes
 array-none l = omega (arith, ap length (l .same))
 
 -- the other way round
-turned : {ts ts′ : List Piece} → Like ts ts′ → Like ts′ ts
+pub turned : {ts ts′ : List Piece} → Like ts ts′ → Like ts′ ts
 turned l = record { same = sym (l .same); few = rw (sym (l .same)) (l .few) }
 
 -- nor is nothing an array's head

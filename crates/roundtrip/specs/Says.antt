@@ -12,14 +12,14 @@ use Rattle.message.specs.declared.Reading.{Reading}
 use Rattle.message.specs.Read.{readOf}
 use Rattle.exact.specs.Accepted.{Accepted}
 use Rattle.description.specs.declared.rows.Entry.{Entry}
-use Rattle.description.specs.declared.rows.Place.{Place}
+use Rattle.description.specs.declared.rows.LocatorRow.{LocatorRow}
 use Rattle.description.specs.declared.Extra.{Extra}
 use Rattle.description.specs.declared.Extra.the-variants as X
 use Rattle.options.specs.declared.Outcome.{Outcome}
 use Rattle.options.specs.declared.Outcome.the-variants as E
 use Rattle.description.specs.declared.Description.{Description}
 use Rattle.description.specs.declared.Description.the-variants as D
-use Rattle.description.specs.Describe.{placeRow, pairRow, entryRow, entryOf, placeAt, entryAt, msgOf}
+use Rattle.description.specs.Describe.{locatorRow, pairRow, entryRow, entryOf, locatorRowAt, entryAt, msgOf}
 use Rattle.writer.specs.Write.{draftOf}
 use Rattle.roundtrip.specs.Plain.{plain}
 
@@ -33,24 +33,24 @@ pub record EntrySays (source : List ℕ) (o : Entry) : Type 0 where
   pub value : Inside source (o .value)
 
 -- one of the four locators
-pub record PlaceSays (source : List ℕ) (p : Place) : Type 0 where
+pub record LocatorRowSays (source : List ℕ) (p : LocatorRow) : Type 0 where
   pub least : 103 ≤ p .kind
   pub most : p .kind ≤ 106
   pub content : Inside source (p .content)
 
 -- five zeros
-pub record Blank (p : Place) : Type 0 where
+pub record Blank (p : LocatorRow) : Type 0 where
   pub kind : p .kind ≡ 0
   pub at : p .content .at ≡ 0
   pub len : p .content .len ≡ 0
   pub protocol : p .protocol ≡ 0
   pub port : p .port ≡ 0
 
--- row i of a list of pairs; the number between count and value is 0
+-- row i of a list of pairs; the place of the count's head, which only a reader gives, is 0
 pub record PairSays (source list : List ℕ) (i : ℕ) : Type 0 where
-  pub kept : getD list (pairRow * i + 4) 0 ≡ 0
+  pub count-at : getD list (pairRow * i + 4) 0 ≡ 0
   pub objective : EntrySays source (entryAt list (pairRow * i))
-  pub locator : Blank (placeAt list (pairRow * i + entryRow)) ⊎ PlaceSays source (placeAt list (pairRow * i + entryRow))
+  pub locator : Blank (locatorRowAt list (pairRow * i + entryRow)) ⊎ LocatorRowSays source (locatorRowAt list (pairRow * i + entryRow))
 
 -- whole rows of so many numbers, and what holds of each
 pub record Rows (list : List ℕ) (size : ℕ) (P : ℕ → Type 0) : Type 0 where
@@ -72,7 +72,7 @@ OutcomeSays source (E.Reason t) = Inside source t
 abbrev pub PartsSay : List ℕ → List ℕ → Description → Type 0
 PartsSay source list D.Noop = list ≡ []
 PartsSay source list (D.Discovery s i o) = (list ≡ []) × Inside source i × EntrySays source (entryOf o)
-PartsSay source list (D.Response s i t d o) = Inside source i × Rows list placeRow (λ k. PlaceSays source (placeAt list (placeRow * k))) × ExtraSays source o
+PartsSay source list (D.Response s i t d o) = Inside source i × Rows list locatorRow (λ k. LocatorRowSays source (locatorRowAt list (locatorRow * k))) × ExtraSays source o
 PartsSay source list (D.RequestNegotiation s o) = (list ≡ []) × EntrySays source (entryOf o)
 PartsSay source list (D.RequestSynchronization s o) = (list ≡ []) × EntrySays source (entryOf o)
 PartsSay source list (D.Negotiate s o) = (list ≡ []) × EntrySays source (entryOf o)

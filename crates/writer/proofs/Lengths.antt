@@ -17,9 +17,9 @@ use Rattle.cbor.proofs.Stores.{length-shortest}
 use Rattle.cbor.specs.Put.{head}
 use Rattle.cbor.proofs.HeadExact.{shortest-case}
 use Rattle.message.specs.Read.{mostBytes}
-use Rattle.description.specs.Encoding.{string, reached, fixed, opening}
+use Rattle.description.specs.Encoding.{string, reached, fixed, preamble}
 use Rattle.writer.specs.Write.{lowered, answerOf, okInitiator}
-use Rattle.writer.proofs.Home.{answer-is}
+use Rattle.writer.proofs.Response.{answer-is}
 
 -- a head is of at most nine bytes
 shortest-few : (arg : ℕ) → shortest arg ≤ 8
@@ -50,7 +50,7 @@ same-heads = (refl, refl, refl, refl, refl)
 pub answer-length : (session : ℕ) (initiator : List ℕ) (ttl : ℕ) (address : List ℕ) (port : ℕ) (a b c d e : ℕ)
     → a ≡ 1 + shortest session → b ≡ length (string 2 initiator) → c ≡ 1 + shortest ttl → d ≡ length (string 2 address) → e ≡ 1 + shortest port
     → 6 + a + c + d + e + b ≡ length (answerOf session initiator ttl address port)
-unfolding opening fixed reached
+unfolding preamble fixed reached
 answer-length session initiator ttl address port a b c d e ea eb ec ed ee =
     simp (answer-is, length-append, length-shortest, ← ea, ← eb, ← ec, ← ed, ← ee)
     (omega (arith, same-heads .0, same-heads .1, same-heads .2, same-heads .3, same-heads .4))

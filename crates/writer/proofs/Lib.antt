@@ -1,6 +1,5 @@
--- For readers: `Edges`, messages at the edges. For the proofs of this crate: `Home`, a node's answer. `Lengths`, how many bytes are written.
--- `Verdicts`, the writer's answers.
-pub mod Edges
-pub mod Home
+-- For callers' proofs: `Lengths`, how many bytes are written. For the proofs of this crate: `Response`, a node's answer.
+-- `Answers`, the writer's answers.
 pub mod Lengths
-pub mod Verdicts
+mod Response
+mod Answers

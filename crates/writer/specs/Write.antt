@@ -21,6 +21,7 @@ use Rattle.description.specs.Judge.{okDescribed}
 unfoldable pub handAnswer : List ℕ → List ℕ → Written
 handAnswer bs out = pick (ltb (length out) (length bs)) (Written.Refused 19) (Written.Length (length bs))
 
+-- the output that is left
 unfoldable pub handOut : List ℕ → List ℕ → List ℕ
 handOut bs out = pick (ltb (length out) (length bs)) out (written bs out)
 
@@ -28,28 +29,34 @@ handOut bs out = pick (ltb (length out) (length bs)) out (written bs out)
 unfoldable pub passes : Bool → List ℕ → Bool
 passes test bs = pick (ltb mostBytes (length bs)) false test
 
+-- 18 for what doesn't pass; what passes is handed over
 unfoldable pub passAnswer : Bool → List ℕ → List ℕ → Written
 passAnswer test bs out = pick (passes test bs) (handAnswer bs out) (Written.Refused 18)
 
+-- the output that is left
 unfoldable pub passOut : Bool → List ℕ → List ℕ → List ℕ
 passOut test bs out = pick (passes test bs) (handOut bs out) out
 
--- the reader accepts the bytes
+-- what was read is a message
 abbrev pub accepted : Reading → Bool
 accepted (Reading.Refused number) = false
 accepted (Reading.Read m) = true
 
+-- the reader accepts the bytes
 unfoldable pub accepts : List ℕ → Bool
 accepts bs = accepted (readOf bs)
 
 -- ---- `write`: the description by itself, at most 2,048 bytes, and the reader accepts them
+-- the bytes of the message that a description speaks of
 unfoldable pub draftOf : List ℕ → List ℕ → Description → List ℕ
 draftOf source list m = encodeMsg (msgOf source list m)
 
+-- what `write` answers
 unfoldable pub writeAnswer : List ℕ → List ℕ → Description → List ℕ → Written
 writeAnswer source list m out =
     pick (okDescribed source list m) (passAnswer (accepts (draftOf source list m)) (draftOf source list m) out) (Written.Refused 18)
 
+-- the output that it leaves
 unfoldable pub writeOut : List ℕ → List ℕ → Description → List ℕ → List ℕ
 writeOut source list m out =
     pick (okDescribed source list m) (passOut (accepts (draftOf source list m)) (draftOf source list m) out) out
@@ -62,10 +69,12 @@ lowered message at end count = take at message ++ head 0 (count - 1) ++ drop end
 unfoldable pub okLower : List ℕ → ℕ → ℕ → ℕ → Bool
 okLower message at end count = pick (eqb count 0) false (pick (ltb end at) false (pick (ltb (length message) end) false true))
 
+-- what `lower` answers
 unfoldable pub lowerAnswer : List ℕ → ℕ → ℕ → ℕ → List ℕ → Written
 lowerAnswer message at end count out =
     pick (okLower message at end count) (passAnswer true (lowered message at end count) out) (Written.Refused 18)
 
+-- the output that it leaves
 unfoldable pub lowerOut : List ℕ → ℕ → ℕ → ℕ → List ℕ → List ℕ
 lowerOut message at end count out = pick (okLower message at end count) (passOut true (lowered message at end count) out) out
 
@@ -81,8 +90,10 @@ answerOf session initiator ttl address port = encodeMsg (answerMsg session initi
 unfoldable pub okInitiator : List ℕ → Bool
 okInitiator initiator = pick (eqb (length initiator) 4) true (eqb (length initiator) 16)
 
+-- what `answer` answers
 unfoldable pub answerAnswer : ℕ → List ℕ → ℕ → List ℕ → ℕ → List ℕ → Written
 answerAnswer session initiator ttl address port out = passAnswer (okInitiator initiator) (answerOf session initiator ttl address port) out
 
+-- the output that it leaves
 unfoldable pub answerOut : ℕ → List ℕ → ℕ → List ℕ → ℕ → List ℕ → List ℕ
 answerOut session initiator ttl address port out = passOut (okInitiator initiator) (answerOf session initiator ttl address port) out

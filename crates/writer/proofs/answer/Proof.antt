@@ -3,7 +3,7 @@
 use mathlib.Core.Path.{sym, _∙_}
 use borrow.Author.Tests.{not-true, not-false}
 use Rattle.writer.specs.Write.{answerAnswer, answerOut}
-use Rattle.writer.proofs.Verdicts.{pass-not, pass-put, by-length, not-passed}
+use Rattle.writer.proofs.Answers.{pass-not, pass-put, by-length, not-passed}
 use borrow.Author.Needs.{needs}
 use Rattle.writer.proofs.answer.Statement.{statement}
 use Rattle.writer.proofs.answer.Tie as tie

@@ -2,7 +2,7 @@
 -- Assumes nothing.
 use mathlib.Core.Path.{refl}
 use Rattle.encode.proofs.Puts.{all-in}
-use Rattle.writer.proofs.Verdicts.{pass-not, pass-put, in-length}
+use Rattle.writer.proofs.Answers.{pass-not, pass-put, in-length}
 use borrow.Author.Needs.{needs}
 use Rattle.writer.proofs.hand.Statement.{statement}
 use Rattle.writer.proofs.hand.Tie as tie

@@ -7,7 +7,7 @@ use borrow.Author.Tests.{lt-ltb, le-ltb, eq-eqb, ne-eqb}
 use Rattle.base.specs.Pick.{pick}
 use Rattle.writer.specs.Write.{okLower, lowerAnswer, lowerOut}
 use Rattle.writer.proofs.Lengths.{head-few, lowered-length}
-use Rattle.writer.proofs.Verdicts.{pass-not, pass-put, by-length}
+use Rattle.writer.proofs.Answers.{pass-not, pass-put, by-length}
 use borrow.Author.Needs.{needs}
 use Rattle.writer.proofs.lower.Statement.{statement}
 use Rattle.writer.proofs.lower.Tie as tie

@@ -1,10 +1,10 @@
 -- `writer::put_answer` meets its contract.
 -- Assumes nothing.
 use lib.Dec.{lit<}
-use Rattle.description.specs.Encoding.{opening}
+use Rattle.description.specs.Encoding.{preamble}
 use Rattle.encode.proofs.Puts.{then, head-in}
 use borrow.Author.Needs.{needs}
-use Rattle.writer.proofs.Home.{answer-is}
+use Rattle.writer.proofs.Response.{answer-is}
 use Rattle.writer.proofs.put_answer.Statement.{statement}
 use Rattle.writer.proofs.put_answer.Tie as tie
 
@@ -30,7 +30,7 @@ same-length : tie.Need-same-length
 same-length c = search needs
 
 returns : tie.Need-returns
-unfolding opening
+unfolding preamble
 returns c =
     rw answer-is
     (then (then (then (then (then

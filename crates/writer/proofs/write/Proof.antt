@@ -8,7 +8,7 @@ use lib.Seq.{length-take-le}
 use borrow.Author.Tests.{not-true, not-false}
 use Rattle.encode.proofs.Puts.{front-step}
 use Rattle.writer.specs.Write.{draftOf}
-use Rattle.writer.proofs.Verdicts.{not-described, described, pass-long, passed, few}
+use Rattle.writer.proofs.Answers.{not-described, described, pass-long, passed, few}
 use borrow.Author.Needs.{needs}
 use Rattle.writer.proofs.write.Statement.{statement}
 use Rattle.writer.proofs.write.Tie as tie

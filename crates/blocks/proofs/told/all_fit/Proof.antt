@@ -6,7 +6,7 @@ use native.Mathlib.Omega.{arith}
 use borrow.Author.Needs.{needs}
 use borrow.Author.Tests.{not-true, not-false}
 use Rattle.description.specs.Judge.{allFrom}
-use Rattle.description.proofs.Verdicts.{all-step, all-stop, all-end}
+use Rattle.description.proofs.Judging.{all-step, all-stop, all-end}
 use Rattle.blocks.specs.Block.{mostPlaces}
 use Rattle.blocks.specs.Told.{fieldFits, allFit}
 use Rattle.blocks.proofs.told.all_fit.Statement.{statement}

@@ -1,7 +1,6 @@
 -- `description::counts::how_many` meets its contract.
 -- Assumes nothing.
-use Rattle.description.specs.Encoding.{howMany}
-use Rattle.description.specs.Describe.{extraOf}
+use Rattle.description.specs.Describe.{extraMany}
 use borrow.Author.Needs.{needs}
 use Rattle.description.proofs.counts.how_many.Statement.{statement}
 use Rattle.description.proofs.counts.how_many.Tie as tie
@@ -15,11 +14,11 @@ enum-told-2 : tie.Need-enum-told-2
 enum-told-2 c = search needs
 
 returns : tie.Need-returns
-unfolding howMany extraOf
+unfolding extraMany
 returns c = rw (c .enum-told .given .1)
 
 returns-2 : tie.Need-returns-2
-unfolding howMany extraOf
+unfolding extraMany
 returns-2 c = rw (c .enum-told2 .given .1)
 
 pub how-many-spec : {M : Type 1} → statement M

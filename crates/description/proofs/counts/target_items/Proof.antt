@@ -1,8 +1,6 @@
 -- `description::counts::target_items` meets its contract.
 -- Assumes nothing.
-use Rattle.description.specs.Encoding.{targetItems}
-use Rattle.description.specs.Describe.{targetsOf}
-use Rattle.description.proofs.Items.{rows-many}
+use Rattle.description.specs.Describe.{targetsMany}
 use mathlib.Core.Path.{refl}
 use Rattle.description.proofs.counts.target_items.Statement.{statement}
 use Rattle.description.proofs.counts.target_items.Tie as tie
@@ -10,11 +8,12 @@ use Rattle.description.proofs.counts.target_items.Reads as reads
 use Rattle.description.proofs.counts.target_items.Lts as lts
 
 returns : tie.Need-returns
-unfolding targetItems targetsOf
+unfolding targetsMany
 returns c = rw (c .if1 .taken) refl
 
 returns-2 : tie.Need-returns-2
-returns-2 c = rw (c .if1 .left) (rows-many _)
+unfolding targetsMany
+returns-2 c = rw (c .if1 .left) refl
 
 pub target-items-spec : {M : Type 1} → statement M
 target-items-spec = tie.close (tie.spec returns returns-2)

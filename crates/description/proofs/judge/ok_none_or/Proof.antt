@@ -9,7 +9,7 @@ use Rattle.description.proofs.judge.ok_none_or.Tie as tie
 use Rattle.description.proofs.judge.ok_none_or.Reads as reads
 use Rattle.description.proofs.judge.ok_none_or.Lts as lts
 use Rattle.description.proofs.judge.is_blank.Reads as is-blank-reads
-use Rattle.description.proofs.judge.ok_place.Reads as ok-place-reads
+use Rattle.description.proofs.judge.ok_locator_row.Reads as ok-locator-row-reads
 
 is-blank-requires : tie.Need-is-blank-requires
 is-blank-requires c κs = search needs
@@ -18,12 +18,12 @@ returns : tie.Need-returns
 unfolding okNoneOr pick
 returns c = rw (eq-eqb _ _ (c .before .if1 .taken)) (c .is-blank .ensures)
 
-ok-place-requires : tie.Need-ok-place-requires
-ok-place-requires c κs = search needs
+ok-locator-row-requires : tie.Need-ok-locator-row-requires
+ok-locator-row-requires c κs = search needs
 
 returns-2 : tie.Need-returns-2
 unfolding okNoneOr pick
-returns-2 c = rw (ne-eqb _ _ (c .before .if1 .left)) (c .ok-place .ensures)
+returns-2 c = rw (ne-eqb _ _ (c .before .if1 .left)) (c .ok-locator-row .ensures)
 
 pub ok-none-or-spec : {M : Type 1} → statement M
-ok-none-or-spec = tie.close (tie.spec is-blank-requires returns ok-place-requires returns-2)
+ok-none-or-spec = tie.close (tie.spec is-blank-requires returns ok-locator-row-requires returns-2)

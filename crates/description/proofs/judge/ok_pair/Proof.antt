@@ -10,7 +10,7 @@ use Rattle.description.proofs.judge.ok_pair.Reads as reads
 use Rattle.description.proofs.judge.ok_pair.Lts as lts
 use Rattle.description.proofs.judge.ok_entry.Reads as ok-entry-reads
 use Rattle.description.proofs.judge.ok_none_or.Reads as ok-none-or-reads
-use Rattle.description.proofs.rows.place_at.Reads as place-at-reads
+use Rattle.description.proofs.rows.locator_row_at.Reads as locator-row-at-reads
 use Rattle.description.proofs.rows.entry_at.Reads as entry-at-reads
 
 mul-if1 : tie.Need-mul-if1
@@ -35,14 +35,14 @@ mul-entry-at c = search needs
 entry-at-requires : tie.Need-entry-at-requires
 entry-at-requires c κs = search needs
 
-mul-place-at : tie.Need-mul-place-at
-mul-place-at c = search needs
+mul-locator-row-at : tie.Need-mul-locator-row-at
+mul-locator-row-at c = search needs
 
-add-place-at : tie.Need-add-place-at
-add-place-at c = search needs
+add-locator-row-at : tie.Need-add-locator-row-at
+add-locator-row-at c = search needs
 
-place-at-requires : tie.Need-place-at-requires
-place-at-requires c κs = search needs
+locator-row-at-requires : tie.Need-locator-row-at-requires
+locator-row-at-requires c κs = search needs
 
 ok-entry-requires : tie.Need-ok-entry-requires
 ok-entry-requires c κs = search needs
@@ -52,7 +52,7 @@ ok-none-or-requires c κs = search needs
 
 returns-2 : tie.Need-returns-2
 unfolding okPair pick
-returns-2 c = rw (eq-eqb _ _ (c .before .before .before .before .before .if1 .left), ← (c .before .before .before .before .entry-at .ensures), ← (c .before .before .before .place-at .ensures), ← (c .before .before .ok-entry .ensures), (c .before .if2 .taken)) (c .ok-none-or .ensures)
+returns-2 c = rw (eq-eqb _ _ (c .before .before .before .before .before .if1 .left), ← (c .before .before .before .before .entry-at .ensures), ← (c .before .before .before .locator-row-at .ensures), ← (c .before .before .ok-entry .ensures), (c .before .if2 .taken)) (c .ok-none-or .ensures)
 
 returns-3 : tie.Need-returns-3
 unfolding okPair pick
@@ -69,9 +69,9 @@ ok-pair-spec =
     returns
     mul-entry-at
     entry-at-requires
-    mul-place-at
-    add-place-at
-    place-at-requires
+    mul-locator-row-at
+    add-locator-row-at
+    locator-row-at-requires
     ok-entry-requires
     ok-none-or-requires
     returns-2

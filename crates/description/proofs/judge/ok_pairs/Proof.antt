@@ -7,7 +7,7 @@ use lib.ListN.{length}
 use borrow.Author.Tests.{not-true, not-false}
 use Rattle.description.specs.Describe.{pairRow}
 use Rattle.description.specs.Judge.{allFrom, okPair, okPairs}
-use Rattle.description.proofs.Verdicts.{all-step, all-stop, all-end, each-start, each-bad}
+use Rattle.description.proofs.Judging.{all-step, all-stop, all-end, each-start, each-bad}
 use Rattle.description.proofs.judge.ok_pairs.Statement.{statement}
 use Rattle.description.proofs.judge.ok_pairs.Tie as tie
 use Rattle.description.proofs.judge.ok_pairs.Reads as reads

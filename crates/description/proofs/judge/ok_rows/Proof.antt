@@ -5,9 +5,9 @@ use Prim.Native.Nat.{_≤_, _-_, _/_}
 use mathlib.Core.Path.{_≡_, sym, _∙_}
 use lib.ListN.{length}
 use borrow.Author.Tests.{not-true, not-false}
-use Rattle.description.specs.Describe.{placeRow}
+use Rattle.description.specs.Describe.{locatorRow}
 use Rattle.description.specs.Judge.{allFrom, okRow, okRows}
-use Rattle.description.proofs.Verdicts.{all-step, all-stop, all-end, each-start, each-bad}
+use Rattle.description.proofs.Judging.{all-step, all-stop, all-end, each-start, each-bad}
 use Rattle.description.proofs.judge.ok_rows.Statement.{statement}
 use Rattle.description.proofs.judge.ok_rows.Tie as tie
 use Rattle.description.proofs.judge.ok_rows.Reads as reads
@@ -15,10 +15,10 @@ use Rattle.description.proofs.judge.ok_rows.Lts as lts
 use Rattle.description.proofs.judge.ok_row.Reads as ok-row-reads
 
 abbrev Inv-loop : tie.InvT-loop
-Inv-loop source list rows i₀ i = (i ≤ length list / placeRow) × (allFrom (okRow source list) (length list / placeRow - i) i ≡ okRows source list)
+Inv-loop source list rows i₀ i = (i ≤ length list / locatorRow) × (allFrom (okRow source list) (length list / locatorRow - i) i ≡ okRows source list)
 
 abbrev μ-loop : tie.MeasureT-loop
-μ-loop source list rows i₀ i = length list / placeRow - i
+μ-loop source list rows i₀ i = length list / locatorRow - i
 
 returns : tie.Need-returns Inv-loop μ-loop
 unfolding okRows

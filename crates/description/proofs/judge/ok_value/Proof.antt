@@ -1,6 +1,6 @@
 -- `description::judge::ok_value` meets its contract.
 -- Assumes nothing.
-use Rattle.description.proofs.Verdicts.{value-none, value-rest, value-in}
+use Rattle.description.proofs.Judging.{value-none, value-rest, value-in}
 use borrow.Author.Needs.{needs}
 use Rattle.description.proofs.judge.ok_value.Statement.{statement}
 use Rattle.description.proofs.judge.ok_value.Tie as tie

@@ -6,8 +6,8 @@ use borrow.Author.Needs.{needs}
 use Rattle.encode.proofs.kinds.put_accept.Statement.{statement}
 use Rattle.encode.proofs.kinds.put_accept.Tie as tie
 
-put-opening-requires : tie.Need-put-opening-requires
-put-opening-requires c κs = search needs
+put-preamble-requires : tie.Need-put-preamble-requires
+put-preamble-requires c κs = search needs
 
 head-requires : tie.Need-head-requires
 head-requires c κs = search needs
@@ -20,8 +20,8 @@ same-length c = search needs
 
 returns : tie.Need-returns
 unfolding encodeMsg encodeEnding
-returns c = then (c .before .before .before .before .before .before .before .before .before .before .put-opening .ensures) (then (c .before .before .before .before .before .before .head .ensures) (c .before .before .head2 .ensures))
+returns c = then (c .before .before .before .before .before .before .before .before .before .before .put-preamble .ensures) (then (c .before .before .before .before .before .before .head .ensures) (c .before .before .head2 .ensures))
 
 pub put-accept-spec : {M : Type 1} → statement M
 put-accept-spec =
-    tie.close (tie.spec put-opening-requires head-requires head-requires-2 same-length returns)
+    tie.close (tie.spec put-preamble-requires head-requires head-requires-2 same-length returns)

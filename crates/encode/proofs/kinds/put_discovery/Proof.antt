@@ -6,8 +6,8 @@ use borrow.Author.Needs.{needs}
 use Rattle.encode.proofs.kinds.put_discovery.Statement.{statement}
 use Rattle.encode.proofs.kinds.put_discovery.Tie as tie
 
-put-opening-requires : tie.Need-put-opening-requires
-put-opening-requires c κs = search needs
+put-preamble-requires : tie.Need-put-preamble-requires
+put-preamble-requires c κs = search needs
 
 part-string-requires : tie.Need-part-string-requires
 part-string-requires c κs = search needs
@@ -20,9 +20,9 @@ same-length c = search needs
 
 returns : tie.Need-returns
 unfolding encodeMsg
-returns c = then (then (c .before .before .before .before .before .before .before .before .before .before .put-opening .ensures) (c .before .before .before .before .before .before .part-string .ensures)) (c .before .before .put-goal .ensures)
+returns c = then (then (c .before .before .before .before .before .before .before .before .before .before .put-preamble .ensures) (c .before .before .before .before .before .before .part-string .ensures)) (c .before .before .put-goal .ensures)
 
 pub put-discovery-spec : {M : Type 1} → statement M
 put-discovery-spec =
     tie.close
-    (tie.spec put-opening-requires part-string-requires put-goal-requires same-length returns)
+    (tie.spec put-preamble-requires part-string-requires put-goal-requires same-length returns)

@@ -6,8 +6,8 @@ use borrow.Author.Needs.{needs}
 use Rattle.encode.proofs.kinds.put_exchange.Statement.{statement}
 use Rattle.encode.proofs.kinds.put_exchange.Tie as tie
 
-put-opening-requires : tie.Need-put-opening-requires
-put-opening-requires c κs = search needs
+put-preamble-requires : tie.Need-put-preamble-requires
+put-preamble-requires c κs = search needs
 
 put-goal-requires : tie.Need-put-goal-requires
 put-goal-requires c κs = search needs
@@ -17,7 +17,7 @@ same-length c = search needs
 
 returns : tie.Need-returns
 unfolding exchange
-returns c = then (c .before .before .before .before .before .before .put-opening .ensures) (c .before .before .put-goal .ensures)
+returns c = then (c .before .before .before .before .before .before .put-preamble .ensures) (c .before .before .put-goal .ensures)
 
 pub put-exchange-spec : {M : Type 1} → statement M
-put-exchange-spec = tie.close (tie.spec put-opening-requires put-goal-requires same-length returns)
+put-exchange-spec = tie.close (tie.spec put-preamble-requires put-goal-requires same-length returns)

@@ -7,11 +7,11 @@ use borrow.Author.Needs.{needs}
 use Rattle.encode.proofs.kinds.put_flood.Statement.{statement}
 use Rattle.encode.proofs.kinds.put_flood.Tie as tie
 
-add-put-opening : tie.Need-add-put-opening
-add-put-opening c = search needs
+add-put-preamble : tie.Need-add-put-preamble
+add-put-preamble c = search needs
 
-put-opening-requires : tie.Need-put-opening-requires
-put-opening-requires c κs = search needs
+put-preamble-requires : tie.Need-put-preamble-requires
+put-preamble-requires c κs = search needs
 
 part-string-requires : tie.Need-part-string-requires
 part-string-requires c κs = search needs
@@ -27,14 +27,14 @@ same-length c = search needs
 
 returns : tie.Need-returns
 unfolding encodeMsg
-returns c = rw (length-pairs) (then (then (then (c .before .before .before .before .before .before .before .before .before .before .before .before .before .before .put-opening .ensures) (c .before .before .before .before .before .before .before .before .before .before .part-string .ensures)) (c .before .before .before .before .before .before .head .ensures)) (c .before .before .put-pairs .ensures))
+returns c = rw (length-pairs) (then (then (then (c .before .before .before .before .before .before .before .before .before .before .before .before .before .before .put-preamble .ensures) (c .before .before .before .before .before .before .before .before .before .before .part-string .ensures)) (c .before .before .before .before .before .before .head .ensures)) (c .before .before .put-pairs .ensures))
 
 pub put-flood-spec : {M : Type 1} → statement M
 put-flood-spec =
     tie.close
     (tie.spec
-    add-put-opening
-    put-opening-requires
+    add-put-preamble
+    put-preamble-requires
     part-string-requires
     head-requires
     put-pairs-requires

@@ -12,11 +12,11 @@ use Rattle.encode.proofs.kinds.put_invalid.Tie as tie
 one-more-requires : tie.Need-one-more-requires
 one-more-requires c κs = search needs
 
-add-put-opening : tie.Need-add-put-opening
-add-put-opening c = omega (arith, (c .before .one-more .ensures), more-le (held (c .before .before .before .before .args .source .now) (c .before .before .before .before .args .item)))
+add-put-preamble : tie.Need-add-put-preamble
+add-put-preamble c = omega (arith, (c .before .one-more .ensures), more-le (held (c .before .before .before .before .args .source .now) (c .before .before .before .before .args .item)))
 
-put-opening-requires : tie.Need-put-opening-requires
-put-opening-requires c κs = search needs
+put-preamble-requires : tie.Need-put-preamble-requires
+put-preamble-requires c κs = search needs
 
 part-requires : tie.Need-part-requires
 part-requires c κs = search needs
@@ -26,15 +26,15 @@ same-length c = search needs
 
 returns : tie.Need-returns
 unfolding encodeMsg
-returns c = rw (← (c .before .before .before .before .before .before .before .before .one-more .ensures)) (then (c .before .before .before .before .before .before .put-opening .ensures) (c .before .before .part .ensures))
+returns c = rw (← (c .before .before .before .before .before .before .before .before .one-more .ensures)) (then (c .before .before .before .before .before .before .put-preamble .ensures) (c .before .before .part .ensures))
 
 pub put-invalid-spec : {M : Type 1} → statement M
 put-invalid-spec =
     tie.close
     (tie.spec
     one-more-requires
-    add-put-opening
-    put-opening-requires
+    add-put-preamble
+    put-preamble-requires
     part-requires
     same-length
     returns)

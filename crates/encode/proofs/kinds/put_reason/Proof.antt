@@ -6,8 +6,8 @@ use borrow.Author.Needs.{needs}
 use Rattle.encode.proofs.kinds.put_reason.Statement.{statement}
 use Rattle.encode.proofs.kinds.put_reason.Tie as tie
 
-put-opening-requires : tie.Need-put-opening-requires
-put-opening-requires c κs = search needs
+put-preamble-requires : tie.Need-put-preamble-requires
+put-preamble-requires c κs = search needs
 
 head-requires : tie.Need-head-requires
 head-requires c κs = search needs
@@ -23,13 +23,13 @@ same-length c = search needs
 
 returns : tie.Need-returns
 unfolding encodeMsg encodeEnding
-returns c = then (c .before .before .before .before .before .before .before .before .before .before .before .before .before .before .put-opening .ensures) (then (then (c .before .before .before .before .before .before .before .before .before .before .head .ensures) (c .before .before .before .before .before .before .head2 .ensures)) (c .before .before .part-string .ensures))
+returns c = then (c .before .before .before .before .before .before .before .before .before .before .before .before .before .before .put-preamble .ensures) (then (then (c .before .before .before .before .before .before .before .before .before .before .head .ensures) (c .before .before .before .before .before .before .head2 .ensures)) (c .before .before .part-string .ensures))
 
 pub put-reason-spec : {M : Type 1} → statement M
 put-reason-spec =
     tie.close
     (tie.spec
-    put-opening-requires
+    put-preamble-requires
     head-requires
     head-requires-2
     part-string-requires

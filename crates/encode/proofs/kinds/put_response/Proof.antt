@@ -14,14 +14,14 @@ target-items-requires c κs = search needs
 how-many-requires : tie.Need-how-many-requires
 how-many-requires c κs = search needs
 
-add-put-opening : tie.Need-add-put-opening
-add-put-opening c = omega (arith, targets-few _ _ _ (c .before .before .target-items .ensures), extra-few _ _ (c .before .how-many .ensures))
+add-put-preamble : tie.Need-add-put-preamble
+add-put-preamble c = omega (arith, targets-few _ _ _ (c .before .before .target-items .ensures), extra-few _ _ (c .before .how-many .ensures))
 
-add-put-opening-2 : tie.Need-add-put-opening-2
-add-put-opening-2 c = omega (arith, targets-few _ _ _ (c .before .before .target-items .ensures), extra-few _ _ (c .before .how-many .ensures))
+add-put-preamble-2 : tie.Need-add-put-preamble-2
+add-put-preamble-2 c = omega (arith, targets-few _ _ _ (c .before .before .target-items .ensures), extra-few _ _ (c .before .how-many .ensures))
 
-put-opening-requires : tie.Need-put-opening-requires
-put-opening-requires c κs = search needs
+put-preamble-requires : tie.Need-put-preamble-requires
+put-preamble-requires c κs = search needs
 
 part-string-requires : tie.Need-part-string-requires
 part-string-requires c κs = search needs
@@ -40,7 +40,7 @@ same-length c = search needs
 
 returns : tie.Need-returns
 unfolding encodeMsg
-returns c = rw (← targets-many, ← extra-many, ← (c .before .before .before .before .before .before .before .before .before .before .before .before .before .before .before .before .before .before .before .before .before .target-items .ensures), ← (c .before .before .before .before .before .before .before .before .before .before .before .before .before .before .before .before .before .before .before .before .how-many .ensures)) (then (then (then (then (c .before .before .before .before .before .before .before .before .before .before .before .before .before .before .before .before .before .before .put-opening .ensures) (c .before .before .before .before .before .before .before .before .before .before .before .before .before .before .part-string .ensures)) (c .before .before .before .before .before .before .before .before .before .before .head .ensures)) (c .before .before .before .before .before .before .put-targets .ensures)) (c .before .before .put-extra .ensures))
+returns c = rw (← targets-many, ← extra-many, ← (c .before .before .before .before .before .before .before .before .before .before .before .before .before .before .before .before .before .before .before .before .before .target-items .ensures), ← (c .before .before .before .before .before .before .before .before .before .before .before .before .before .before .before .before .before .before .before .before .how-many .ensures)) (then (then (then (then (c .before .before .before .before .before .before .before .before .before .before .before .before .before .before .before .before .before .before .put-preamble .ensures) (c .before .before .before .before .before .before .before .before .before .before .before .before .before .before .part-string .ensures)) (c .before .before .before .before .before .before .before .before .before .before .head .ensures)) (c .before .before .before .before .before .before .put-targets .ensures)) (c .before .before .put-extra .ensures))
 
 pub put-response-spec : {M : Type 1} → statement M
 put-response-spec =
@@ -48,9 +48,9 @@ put-response-spec =
     (tie.spec
     target-items-requires
     how-many-requires
-    add-put-opening
-    add-put-opening-2
-    put-opening-requires
+    add-put-preamble
+    add-put-preamble-2
+    put-preamble-requires
     part-string-requires
     head-requires
     put-targets-requires

@@ -6,8 +6,8 @@ use borrow.Author.Needs.{needs}
 use Rattle.encode.proofs.kinds.put_wait.Statement.{statement}
 use Rattle.encode.proofs.kinds.put_wait.Tie as tie
 
-put-opening-requires : tie.Need-put-opening-requires
-put-opening-requires c κs = search needs
+put-preamble-requires : tie.Need-put-preamble-requires
+put-preamble-requires c κs = search needs
 
 head-requires : tie.Need-head-requires
 head-requires c κs = search needs
@@ -17,7 +17,7 @@ same-length c = search needs
 
 returns : tie.Need-returns
 unfolding encodeMsg
-returns c = then (c .before .before .before .before .before .before .put-opening .ensures) (c .before .before .head .ensures)
+returns c = then (c .before .before .before .before .before .before .put-preamble .ensures) (c .before .before .head .ensures)
 
 pub put-wait-spec : {M : Type 1} → statement M
-put-wait-spec = tie.close (tie.spec put-opening-requires head-requires same-length returns)
+put-wait-spec = tie.close (tie.spec put-preamble-requires head-requires same-length returns)

@@ -5,22 +5,22 @@ use borrow.Author.Needs.{needs}
 use Rattle.encode.proofs.locator.put_row.Statement.{statement}
 use Rattle.encode.proofs.locator.put_row.Tie as tie
 
-mul-place-at : tie.Need-mul-place-at
-mul-place-at c = search needs
+mul-locator-row-at : tie.Need-mul-locator-row-at
+mul-locator-row-at c = search needs
 
-place-at-requires : tie.Need-place-at-requires
-place-at-requires c κs = search needs
+locator-row-at-requires : tie.Need-locator-row-at-requires
+locator-row-at-requires c κs = search needs
 
-put-place-requires : tie.Need-put-place-requires
-put-place-requires c κs = search needs
+put-locator-row-requires : tie.Need-put-locator-row-requires
+put-locator-row-requires c κs = search needs
 
 same-length : tie.Need-same-length
 same-length c = search needs
 
 returns : tie.Need-returns
 unfolding rowLoc
-returns c = rw (← (c .before .before .before .before .place-at .ensures)) (c .before .before .put-place .ensures)
+returns c = rw (← (c .before .before .before .before .locator-row-at .ensures)) (c .before .before .put-locator-row .ensures)
 
 pub put-row-spec : {M : Type 1} → statement M
 put-row-spec =
-    tie.close (tie.spec mul-place-at place-at-requires put-place-requires same-length returns)
+    tie.close (tie.spec mul-locator-row-at locator-row-at-requires put-locator-row-requires same-length returns)

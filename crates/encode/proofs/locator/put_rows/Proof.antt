@@ -6,17 +6,17 @@ use mathlib.Core.Path.{_≡_, refl}
 use lib.ListN.{length}
 use Rattle.encode.specs.Put.{Wrote}
 use Rattle.description.specs.Encoding.{encodeLoc}
-use Rattle.description.specs.Describe.{placeRow, rowLoc, locsOf}
+use Rattle.description.specs.Describe.{locatorRow, rowLoc, locsOf}
 use Rattle.encode.proofs.Rows.{firstRows, rows-none, rows-turn, rows-done}
 use borrow.Author.Needs.{needs}
 use Rattle.encode.proofs.locator.put_rows.Statement.{statement}
 use Rattle.encode.proofs.locator.put_rows.Tie as tie
 
 abbrev Inv-loop : tie.InvT-loop
-Inv-loop out₀ at source list rows end₀ i₀ out end i = (i ≤ length list / placeRow) × (length out ≡ length out₀) × Wrote out₀ out at (firstRows encodeLoc (rowLoc source list) i) end
+Inv-loop out₀ at source list rows end₀ i₀ out end i = (i ≤ length list / locatorRow) × (length out ≡ length out₀) × Wrote out₀ out at (firstRows encodeLoc (rowLoc source list) i) end
 
 abbrev μ-loop : tie.MeasureT-loop
-μ-loop out₀ at source list rows end₀ i₀ out end i = length list / placeRow - i
+μ-loop out₀ at source list rows end₀ i₀ out end i = length list / locatorRow - i
 
 loop-holds : tie.Need-loop-holds Inv-loop μ-loop
 loop-holds c = (omega arith, refl, rows-none _ _ _ _)

@@ -13,14 +13,14 @@ mul-entry-at c = search needs
 entry-at-requires : tie.Need-entry-at-requires
 entry-at-requires c κs = search needs
 
-mul-place-at : tie.Need-mul-place-at
-mul-place-at c = search needs
+mul-locator-row-at : tie.Need-mul-locator-row-at
+mul-locator-row-at c = search needs
 
-add-place-at : tie.Need-add-place-at
-add-place-at c = search needs
+add-locator-row-at : tie.Need-add-locator-row-at
+add-locator-row-at c = search needs
 
-place-at-requires : tie.Need-place-at-requires
-place-at-requires c κs = search needs
+locator-row-at-requires : tie.Need-locator-row-at-requires
+locator-row-at-requires c κs = search needs
 
 head-requires : tie.Need-head-requires
 head-requires c κs = search needs
@@ -28,15 +28,15 @@ head-requires c κs = search needs
 put-entry-requires : tie.Need-put-entry-requires
 put-entry-requires c κs = search needs
 
-put-place-or-empty-requires : tie.Need-put-place-or-empty-requires
-put-place-or-empty-requires c κs = search needs
+put-locator-row-or-empty-requires : tie.Need-put-locator-row-or-empty-requires
+put-locator-row-or-empty-requires c κs = search needs
 
 same-length : tie.Need-same-length
 same-length c = search needs
 
 returns : tie.Need-returns
 unfolding encodePair rowPair
-returns c = rw (← (c .before .before .before .before .before .before .before .before .before .before .before .before .before .entry-at .ensures), ← (c .before .before .before .before .before .before .before .before .before .before .before .before .place-at .ensures)) (then (then (c .before .before .before .before .before .before .before .before .before .before .head .ensures) (c .before .before .before .before .before .before .put-entry .ensures)) (c .before .before .put-place-or-empty .ensures))
+returns c = rw (← (c .before .before .before .before .before .before .before .before .before .before .before .before .before .entry-at .ensures), ← (c .before .before .before .before .before .before .before .before .before .before .before .before .locator-row-at .ensures)) (then (then (c .before .before .before .before .before .before .before .before .before .before .head .ensures) (c .before .before .before .before .before .before .put-entry .ensures)) (c .before .before .put-locator-row-or-empty .ensures))
 
 pub put-pair-spec : {M : Type 1} → statement M
 put-pair-spec =
@@ -44,11 +44,11 @@ put-pair-spec =
     (tie.spec
     mul-entry-at
     entry-at-requires
-    mul-place-at
-    add-place-at
-    place-at-requires
+    mul-locator-row-at
+    add-locator-row-at
+    locator-row-at-requires
     head-requires
     put-entry-requires
-    put-place-or-empty-requires
+    put-locator-row-or-empty-requires
     same-length
     returns)

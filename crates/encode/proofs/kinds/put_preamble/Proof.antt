@@ -1,10 +1,10 @@
--- `encode::kinds::put_opening` meets its contract.
+-- `encode::kinds::put_preamble` meets its contract.
 -- Assumes nothing.
-use Rattle.description.specs.Encoding.{opening}
+use Rattle.description.specs.Encoding.{preamble}
 use Rattle.encode.proofs.Puts.{then}
 use borrow.Author.Needs.{needs}
-use Rattle.encode.proofs.kinds.put_opening.Statement.{statement}
-use Rattle.encode.proofs.kinds.put_opening.Tie as tie
+use Rattle.encode.proofs.kinds.put_preamble.Statement.{statement}
+use Rattle.encode.proofs.kinds.put_preamble.Tie as tie
 
 head-requires : tie.Need-head-requires
 head-requires c κs = search needs
@@ -19,9 +19,9 @@ same-length : tie.Need-same-length
 same-length c = search needs
 
 returns : tie.Need-returns
-unfolding opening
+unfolding preamble
 returns c = then (then (c .before .before .before .before .before .before .before .before .before .before .head .ensures) (c .before .before .before .before .before .before .head2 .ensures)) (c .before .before .head3 .ensures)
 
-pub put-opening-spec : {M : Type 1} → statement M
-put-opening-spec =
+pub put-preamble-spec : {M : Type 1} → statement M
+put-preamble-spec =
     tie.close (tie.spec head-requires head-requires-2 head-requires-3 same-length returns)

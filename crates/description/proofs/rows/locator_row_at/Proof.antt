@@ -1,15 +1,15 @@
--- `description::rows::place_at` meets its contract.
+-- `description::rows::locator_row_at` meets its contract.
 -- Assumes nothing.
-use Rattle.description.proofs.Numbers.{no-place, place-is}
+use Rattle.description.proofs.Numbers.{no-locator-row, locator-row-is}
 use borrow.Author.Needs.{needs}
-use Rattle.description.proofs.rows.place_at.Statement.{statement}
-use Rattle.description.proofs.rows.place_at.Tie as tie
-use Rattle.description.proofs.rows.place_at.Reads as reads
-use Rattle.description.proofs.rows.place_at.Lts as lts
+use Rattle.description.proofs.rows.locator_row_at.Statement.{statement}
+use Rattle.description.proofs.rows.locator_row_at.Tie as tie
+use Rattle.description.proofs.rows.locator_row_at.Reads as reads
+use Rattle.description.proofs.rows.locator_row_at.Lts as lts
 use Rattle.description.proofs.rows.number.Reads as number-reads
 
 returns : tie.Need-returns
-returns c = no-place _ _ (c .if1 .taken)
+returns c = no-locator-row _ _ (c .if1 .taken)
 
 number-requires : tie.Need-number-requires
 number-requires c κs = search needs
@@ -39,10 +39,10 @@ number-requires-5 : tie.Need-number-requires-5
 number-requires-5 c κs = search needs
 
 returns-2 : tie.Need-returns-2
-returns-2 c = place-is _ _ (c .before .before .before .before .number .ensures) (c .before .before .before .number2 .ensures) (c .before .before .number3 .ensures) (c .before .number4 .ensures) (c .number5 .ensures)
+returns-2 c = locator-row-is _ _ (c .before .before .before .before .number .ensures) (c .before .before .before .number2 .ensures) (c .before .before .number3 .ensures) (c .before .number4 .ensures) (c .number5 .ensures)
 
-pub place-at-spec : {M : Type 1} → statement M
-place-at-spec =
+pub locator-row-at-spec : {M : Type 1} → statement M
+locator-row-at-spec =
     tie.close
     (tie.spec
     returns

@@ -1,13 +1,13 @@
--- `encode::locator::put_place` meets its contract.
+-- `encode::locator::put_locator_row` meets its contract.
 -- Assumes nothing.
 use Rattle.description.specs.Encoding.{encodeLoc}
-use Rattle.description.specs.Describe.{placeLoc}
+use Rattle.description.specs.Describe.{locatorRowLoc}
 use Rattle.base.specs.Pick.{pick}
 use borrow.Author.Tests.{eq-eqb, ne-eqb}
 use Rattle.encode.proofs.Puts.{then}
 use borrow.Author.Needs.{needs}
-use Rattle.encode.proofs.locator.put_place.Statement.{statement}
-use Rattle.encode.proofs.locator.put_place.Tie as tie
+use Rattle.encode.proofs.locator.put_locator_row.Statement.{statement}
+use Rattle.encode.proofs.locator.put_locator_row.Tie as tie
 
 put-fixed-requires : tie.Need-put-fixed-requires
 put-fixed-requires c κs = search needs
@@ -16,7 +16,7 @@ same-length : tie.Need-same-length
 same-length c = search needs
 
 returns : tie.Need-returns
-unfolding encodeLoc placeLoc pick
+unfolding encodeLoc locatorRowLoc pick
 returns c = rw (eq-eqb _ _ (c .before .before .before .before .if1 .taken)) (c .before .before .put-fixed .ensures)
 
 put-fixed-requires-2 : tie.Need-put-fixed-requires-2
@@ -26,7 +26,7 @@ same-length-2 : tie.Need-same-length-2
 same-length-2 c = search needs
 
 returns-2 : tie.Need-returns-2
-unfolding encodeLoc placeLoc pick
+unfolding encodeLoc locatorRowLoc pick
 returns-2 c = rw (ne-eqb _ _ (c .before .before .before .before .before .if1 .left), eq-eqb _ _ (c .before .before .before .before .if2 .taken)) (c .before .before .put-fixed2 .ensures)
 
 put-fixed-requires-3 : tie.Need-put-fixed-requires-3
@@ -36,7 +36,7 @@ same-length-3 : tie.Need-same-length-3
 same-length-3 c = search needs
 
 returns-3 : tie.Need-returns-3
-unfolding encodeLoc placeLoc pick
+unfolding encodeLoc locatorRowLoc pick
 returns-3 c = rw (ne-eqb _ _ (c .before .before .before .before .before .before .if1 .left), ne-eqb _ _ (c .before .before .before .before .before .if2 .left), eq-eqb _ _ (c .before .before .before .before .if3 .taken)) (c .before .before .put-fixed3 .ensures)
 
 put-reached-requires : tie.Need-put-reached-requires
@@ -52,11 +52,11 @@ same-length-4 : tie.Need-same-length-4
 same-length-4 c = search needs
 
 returns-4 : tie.Need-returns-4
-unfolding encodeLoc placeLoc pick
+unfolding encodeLoc locatorRowLoc pick
 returns-4 c = rw (ne-eqb _ _ (c .before .before .before .before .before .before .before .before .before .before .before .before .before .before .if1 .left), ne-eqb _ _ (c .before .before .before .before .before .before .before .before .before .before .before .before .before .if2 .left), ne-eqb _ _ (c .before .before .before .before .before .before .before .before .before .before .before .before .if3 .left)) (then (then (c .before .before .before .before .before .before .before .before .before .before .put-reached .ensures) (c .before .before .before .before .before .before .put-or-null .ensures)) (c .before .before .put-or-null2 .ensures))
 
-pub put-place-spec : {M : Type 1} → statement M
-put-place-spec =
+pub put-locator-row-spec : {M : Type 1} → statement M
+put-locator-row-spec =
     tie.close
     (tie.spec
     put-fixed-requires
