@@ -14,7 +14,7 @@ use Rattle.base.specs.Lists.{Every}
 use Rattle.base.proofs.Picks.{pick-case, both}
 use Rattle.base.proofs.Digits.{big-endian-lt}
 use Rattle.base.proofs.Parts.{bytes-drop}
-use Rattle.message.specs.Opening.{most}
+use Rattle.message.specs.Opening.{mostNumber}
 use Rattle.message.specs.declared.Reading.{Reading}
 use Rattle.message.specs.Read.{readOf}
 use Rattle.node_state.specs.declared.Record.{Record}
@@ -176,7 +176,7 @@ state-fits f side =
     both StateFits _ tt
     (pick-case StateFits _ (λ _. tt)
     (λ session. pick-case StateFits _ (λ _. tt)
-    (λ count. both StateFits _ tt (both StateFits _ tt (both StateFits _ (omega (arith, ltb-false most (getD f 1 0) session), omega (arith, ltb-false 255 (getD f 2 0) count)) tt)))))
+    (λ count. both StateFits _ tt (both StateFits _ tt (both StateFits _ (omega (arith, ltb-false mostNumber (getD f 1 0) session), omega (arith, ltb-false 255 (getD f 2 0) count)) tt)))))
 
 numbers-wide : (n : ℕ) (b : List ℕ) → Bytes b → Wide (numbersIn n b)
 unfolding numbersIn

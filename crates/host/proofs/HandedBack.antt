@@ -21,7 +21,7 @@ use Rattle.syntax.specs.Message.{Msg}
 use Rattle.grammar.specs.Cddl.{Value, Number, MessageItem}
 use Rattle.exact.specs.Describes.{Describes}
 use Rattle.exact.proofs.Exact.{accepted-exactly, accepted-described}
-use Rattle.message.specs.Opening.{most}
+use Rattle.message.specs.Opening.{mostNumber}
 use Rattle.message.specs.declared.Message.{Message}
 use Rattle.message.specs.declared.Message.the-variants as M
 use Rattle.message.specs.declared.Reading.{Reading}
@@ -63,7 +63,7 @@ request-session message m {session} bytes read names =
     let a = accepted-exactly message bytes .0 (m, read) in
     go m (accepted-described message m read a) (a .message .is) names
   where
-    by : {o : Objective} {n : ℕ} {msg : Msg Value} {x : Item} → Describes message (M.RequestNegotiation n o) msg → MessageItem x msg → n ≤ most
+    by : {o : Objective} {n : ℕ} {msg : Msg Value} {x : Item} → Describes message (M.RequestNegotiation n o) msg → MessageItem x msg → n ≤ mostNumber
     by (Describes.request-negotiation k s o) (MessageItem.request-negotiation (Number.number l) i) = l
 
     go : (m : Message) {msg : Msg Value} {x : Item} → Describes message m msg → MessageItem x msg → KindAndSession m 3 session → session < 2 ^ 32
@@ -116,8 +116,8 @@ record-back r f =
 pub state-back : (s : State) (side : ℕ) → side ≤ 1 → StateFits s → stateOf (stateNumbers s) side ≡ s
 unfolding stateOf stateNumbers sideOf pick
 state-back Fresh side l f = rw (le-ltb 1 side l) refl
-state-back (Open session count Us) side l f = rw (le-ltb 1 side l, le-ltb most session (omega (arith, f .0)), le-ltb 255 count (omega (arith, f .1))) refl
-state-back (Open session count Them) side l f = rw (le-ltb 1 side l, le-ltb most session (omega (arith, f .0)), le-ltb 255 count (omega (arith, f .1))) refl
+state-back (Open session count Us) side l f = rw (le-ltb 1 side l, le-ltb mostNumber session (omega (arith, f .0)), le-ltb 255 count (omega (arith, f .1))) refl
+state-back (Open session count Them) side l f = rw (le-ltb 1 side l, le-ltb mostNumber session (omega (arith, f .0)), le-ltb 255 count (omega (arith, f .1))) refl
 state-back Closed side l f = rw (le-ltb 1 side l) refl
 
 -- The record that a fresh one, a setting of links and a node call give fits.
