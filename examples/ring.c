@@ -135,7 +135,7 @@ static void flood(struct ring *ring) {
     fields[GRASP_SESSION] = 7;
     fields[GRASP_INITIATOR_LEN] = GRASP_ADDRESS_BYTES;
     fields[GRASP_TTL] = 60000;
-    fields[GRASP_LIST] = 3;
+    fields[GRASP_LIST] = GRASP_LIST_PAIRS;
     fields[GRASP_LIST_MANY] = 1;
     pair[GRASP_PAIR_NAME_AT] = GRASP_ADDRESS_BYTES;
     pair[GRASP_PAIR_NAME_LEN] = sizeof name;

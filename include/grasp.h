@@ -1,9 +1,13 @@
 /*
  * Copperladle: a proved GRASP (RFC 8990) node, for C.
  *
- * Link with libgrasp.a (`rt staticlib grasp` writes target/staticlib/libgrasp.a,
- * for x86-64); grasp.pc has the flags for pkg-config. grasp_text.h has words for
- * logs, examples/ring.c is a small host.
+ * Link with libgrasp.a (`rt staticlib grasp` writes target/staticlib/libgrasp.a);
+ * grasp.pc has the flags for pkg-config. grasp_text.h has words for logs,
+ * examples/ring.c is a small host. The headers are C11 or C++11.
+ *
+ * The archive is for x86-64 with System V calls, as on Linux; `rt` builds for no
+ * other target. It uses the red zone and SSE2: on bare metal an interrupt handler
+ * needs a stack of its own and saves the SSE registers.
  *
  * Every function answers every argument: no byte, place or number is expected
  * to have been checked. It answers 0, or the number of a refusal (enum
@@ -42,7 +46,7 @@ enum grasp_refusal {
     GRASP_LONG_HEAD = 5,    /* a head longer than needed */
     GRASP_TOO_DEEP = 6,     /* level 9 reached */
     GRASP_BYTES_AFTER = 7,  /* bytes after the item */
-    GRASP_UNKNOWN_KIND = 8, /* an array that begins with an unknown kind */
+    GRASP_UNKNOWN_KIND = 8, /* an array that begins with an unsigned number that is no kind */
     GRASP_BAD_SHAPE = 9,    /* any other departure from the message shapes */
     GRASP_LONG_NAME = 10,   /* an objective's name over 64 bytes */
     GRASP_BAD_TEXT = 11,    /* an objective's name, a reason, a domain name or a URI that isn't UTF-8 */
@@ -100,7 +104,8 @@ enum { GRASP_ADDRESS_BYTES = 16 };
 /*
  * A node's record, which the host keeps and calls change in place.
  * grasp_record_fresh fills it; a host may read it between calls. The bytes between
- * its members mean nothing.
+ * its members mean nothing, and a call may leave any there, old ones of the stack
+ * too: compare, checksum or store the members and not the struct.
  */
 struct grasp_record {
     uint8_t address[GRASP_ADDRESS_BYTES]; /* the node's own */
@@ -136,10 +141,11 @@ enum { GRASP_TABLE_BYTES = 2048 };
 
 /* What a node does with a message: of 1 to 7, for a Discovery or a Flood, the first that applies. */
 enum grasp_verdict {
-    GRASP_OWN = 1,       /* it began here */
+    GRASP_OWN = 1,       /* its initiator is the record's address, 16 bytes; one of 4 is never ours */
     GRASP_ANSWER = 2,    /* a Discovery of an own name: send the output back */
-    GRASP_DUPLICATE = 3, /* relayed less than 60,000 ms ago, a Flood 120,000 */
-    GRASP_LAST = 4,      /* its count is 0 or 1 */
+    GRASP_DUPLICATE = 3, /* one of its kind, session and initiator was relayed less than 60,000 ms ago, a
+                            Flood 120,000 */
+    GRASP_LAST = 4,      /* its count, a Flood's being the first pair's, is 0 or 1 */
     GRASP_NOWHERE = 5,   /* no other link is up */
     GRASP_NO_ROW = 6,    /* the table is full; in logs NOROW */
     GRASP_RELAY = 7,     /* send the output on */
@@ -175,16 +181,17 @@ uint8_t grasp_record_set_links(struct grasp_record *node, uint64_t links);
 
 /*
  * Says what the node does with a message that came in by an interface, at a clock
- * in ms. Answers 0, fills the answer, and changes the record (clock and tally),
- * the table and, where something is to be sent, the first bytes of the output; or
- * answers the number of the refusal, 12 to 17 and then 1 to 11 as grasp_read, and
- * leaves all as it was. The names are one CBOR array of the node's own names
- * (`80`: none). The output must have room for GRASP_MESSAGE_BYTES. Record and
- * table are handed in as the call before left them.
+ * in ms, 64 bits, that never goes back (a 32-bit tick that wraps is refused as 14).
+ * Answers 0, fills the answer, and changes the record (clock and tally), the table
+ * and, where something is to be sent, the first bytes of the output; or answers
+ * the number of the refusal, 12 to 17 and then 1 to 11 as grasp_read, and leaves
+ * all as it was. The names are one CBOR array of the node's own names (`80`: none;
+ * `81 63 45 58 31`: "EX1"). The output must have room for GRASP_MESSAGE_BYTES.
+ * Record and table are handed in as the call before left them.
  */
-uint8_t grasp_record_call(struct grasp_record *node, uint8_t *table, size_t table_size, uint64_t clock,
+uint8_t grasp_record_call(struct grasp_record *node, uint8_t *table, size_t table_len, uint64_t clock,
                           uint64_t interface, const uint8_t *names, size_t names_len, const uint8_t *message,
-                          size_t len, uint8_t *out, size_t size, uint64_t answer[GRASP_ANSWER_FIELDS]);
+                          size_t len, uint8_t *out, size_t out_len, uint64_t answer[GRASP_ANSWER_FIELDS]);
 
 /* ---- Reading ---- */
 
@@ -209,22 +216,37 @@ enum grasp_field {
     GRASP_COUNT_AT = 10, /* the head of the loop count ends at GRASP_VALUE_AT */
     GRASP_VALUE_AT = 11,
     GRASP_VALUE_LEN = 12, /* 0: no value */
-    GRASP_LIST = 13,      /* 1: locators, 2: a divert's locators, 3: a Flood's pairs */
+    GRASP_LIST = 13,      /* enum grasp_list */
     GRASP_LIST_AT = 14,   /* the first element: for grasp_locator or grasp_pair */
     GRASP_LIST_MANY = 15,
-    GRASP_OUTCOME = 16,  /* End: 1 accept, 2 decline, 3 decline with a reason */
+    GRASP_OUTCOME = 16,  /* End: enum grasp_outcome */
     GRASP_ITEM_AT = 17,  /* End: the reason; Invalid: its item */
     GRASP_ITEM_LEN = 18, /* Invalid: 0 if there is none */
     GRASP_FIELDS = 19
 };
 
+/* What a message's list is; a message without one has 0. */
+enum grasp_list {
+    GRASP_LIST_LOCATORS = 1, /* a Response's */
+    GRASP_LIST_DIVERT = 2,   /* the locators of a Response's divert */
+    GRASP_LIST_PAIRS = 3     /* a Flood's */
+};
+
+/* How a negotiation ends. */
+enum grasp_outcome { GRASP_ACCEPT = 1, GRASP_DECLINE = 2, GRASP_DECLINE_REASON = 3 };
+
+enum grasp_locator_kind { GRASP_IPV6 = 103, GRASP_IPV4 = 104, GRASP_DOMAIN = 105, GRASP_URI = 106 };
+
+/* A locator's protocol, and the port of a URI without one. */
+enum { GRASP_NULL_PROTOCOL = 0, GRASP_TCP = 6, GRASP_UDP = 17, GRASP_NULL_PORT = 65536 };
+
 /* The block of a locator. */
 enum grasp_locator_field {
-    GRASP_LOCATOR_KIND = 0, /* 103 IPv6, 104 IPv4, 105 domain name, 106 URI */
+    GRASP_LOCATOR_KIND = 0, /* enum grasp_locator_kind */
     GRASP_LOCATOR_AT = 1,   /* the address, domain name or URI */
     GRASP_LOCATOR_LEN = 2,
-    GRASP_LOCATOR_PROTOCOL = 3, /* 6 or 17; 0: null */
-    GRASP_LOCATOR_PORT = 4,     /* 65,536: null */
+    GRASP_LOCATOR_PROTOCOL = 3, /* TCP, UDP, or of a URI null */
+    GRASP_LOCATOR_PORT = 4,     /* 0 to 65,535, or of a URI null */
     GRASP_LOCATOR_FIELDS = 5
 };
 
@@ -258,8 +280,8 @@ uint8_t grasp_read(const uint8_t *bytes, size_t len, uint64_t fields[GRASP_FIELD
  *     for (uint64_t i = 0; i < fields[GRASP_LIST_MANY]; i++)
  *         at = grasp_locator(bytes, len, at, locator);
  *
- * At other places it judges the shape of what stands there alone: not its texts,
- * and not the message around it.
+ * At other places it judges the shape of what stands there alone: not its texts
+ * (neither UTF-8 nor a name's length), and not the message around it.
  */
 size_t grasp_locator(const uint8_t *bytes, size_t len, size_t at, uint64_t fields[GRASP_LOCATOR_FIELDS]);
 
@@ -355,20 +377,23 @@ static inline struct grasp_span grasp_pair_value(const uint8_t *bytes, size_t le
  * else is encoded from numbers and contents. The locators of a Response or of its
  * divert are rows of five numbers, as the block of a locator. The pairs of a
  * Flood are rows of twelve, as the block of a pair, with 0 for
- * GRASP_PAIR_COUNT_AT. `numbers` says how many numbers the list has in all, and
- * GRASP_LIST_MANY how many rows. In the block GRASP_COUNT_AT and GRASP_LIST_AT
- * are 0, of a Flood GRASP_HAS_OBJECTIVE to GRASP_VALUE_LEN too (its objectives
- * stand in the rows), and so is every field that the kind lacks; else 18. So a
- * block that grasp_read filled is taken again once these are 0.
+ * GRASP_PAIR_COUNT_AT. GRASP_LIST_MANY says how many rows there are, and list_len
+ * how many numbers: five or twelve times as many, and 0 for a kind without a list;
+ * else 18. In the block GRASP_COUNT_AT and GRASP_LIST_AT are 0, of a Flood
+ * GRASP_HAS_OBJECTIVE to GRASP_VALUE_LEN too (its objectives stand in the rows),
+ * and so is every field that the message lacks; else 18. So a block that grasp_read
+ * filled is taken again once these are 0. The place of a value, of Invalid's item
+ * or of a text that has length 0 isn't looked at.
  */
-uint8_t grasp_write(const uint8_t *source, size_t len, const uint64_t *list, size_t numbers,
-                    const uint64_t fields[GRASP_FIELDS], uint8_t *out, size_t size, uint64_t *length);
+uint8_t grasp_write(const uint8_t *source, size_t len, const uint64_t *list, size_t list_len,
+                    const uint64_t fields[GRASP_FIELDS], uint8_t *out, size_t out_len, uint64_t *length);
 
 /* ---- Negotiation ---- */
 
 /*
  * The state of a negotiation, one for a session. A fresh one is all zeros, and a
- * host begins each session with it; grasp_step changes it.
+ * host begins each session with it; grasp_step changes it. Phase 0 is fresh,
+ * whatever the other fields hold within the bounds that grasp_step names.
  */
 enum grasp_state_field {
     GRASP_STATE_PHASE = 0,
@@ -426,9 +451,9 @@ uint8_t grasp_set_links(const uint8_t address[GRASP_ADDRESS_BYTES], uint64_t num
 
 /* As grasp_record_call. */
 uint8_t grasp_node_call(const uint8_t address[GRASP_ADDRESS_BYTES], uint64_t numbers[GRASP_RECORD_FIELDS],
-                        uint8_t *table, size_t table_size, uint64_t clock, uint64_t interface,
+                        uint8_t *table, size_t table_len, uint64_t clock, uint64_t interface,
                         const uint8_t *names, size_t names_len, const uint8_t *message, size_t len,
-                        uint8_t *out, size_t size, uint64_t answer[GRASP_ANSWER_FIELDS]);
+                        uint8_t *out, size_t out_len, uint64_t answer[GRASP_ANSWER_FIELDS]);
 
 #ifdef __cplusplus
 }
