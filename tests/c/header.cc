@@ -1,4 +1,4 @@
-// The headers as C++: every name is there, and a call is linked as C.
+// The headers as C++; a call is linked as C.
 #include "grasp_text.h"
 
 int main() {

@@ -256,27 +256,27 @@ static void test_order(void) {
     host.table[0] = 0xFF;
     host.table_size = GRASP_TABLE_BYTES - 1;
     call.size = GRASP_MESSAGE_BYTES - 1;
-    EXPECT_NUMBER(take(&host, &call), 12);
+    EXPECT_NUMBER(take(&host, &call), GRASP_BAD_RECORD);
     host.record[GRASP_RECORD_TALLY]--;
-    EXPECT_NUMBER(take(&host, &call), 13);
+    EXPECT_NUMBER(take(&host, &call), GRASP_BAD_LINK);
     call.interface = 2;
-    EXPECT_NUMBER(take(&host, &call), 14);
+    EXPECT_NUMBER(take(&host, &call), GRASP_EARLY_CLOCK);
     call.clock = 10;
-    EXPECT_NUMBER(take(&host, &call), 15);
+    EXPECT_NUMBER(take(&host, &call), GRASP_BAD_TABLE);
     host.table_size = GRASP_TABLE_BYTES;
-    EXPECT_NUMBER(take(&host, &call), 15);
+    EXPECT_NUMBER(take(&host, &call), GRASP_BAD_TABLE);
     host.table[0] = 0;
-    EXPECT_NUMBER(take(&host, &call), 16);
+    EXPECT_NUMBER(take(&host, &call), GRASP_BAD_NAMES);
     call.names = hex("80");
-    EXPECT_NUMBER(take(&host, &call), 17);
+    EXPECT_NUMBER(take(&host, &call), GRASP_SMALL_OUTPUT);
     call.size = 0;
-    EXPECT_NUMBER(take(&host, &call), 17);
+    EXPECT_NUMBER(take(&host, &call), GRASP_SMALL_OUTPUT);
     call.size = GRASP_MESSAGE_BYTES + 1;
-    EXPECT_NUMBER(take(&host, &call), 1);
+    EXPECT_NUMBER(take(&host, &call), GRASP_BAD_SIZE);
     call.message = hex(discovery);
     EXPECT_NUMBER(take(&host, &call), 0);
     EXPECT_NUMBER(host.record[GRASP_RECORD_TALLY], ((uint64_t)1 << 63) + 2);
-    EXPECT_NUMBER(take(&host, &call), 12);
+    EXPECT_NUMBER(take(&host, &call), GRASP_BAD_RECORD);
 }
 
 /* Messages are refused by their own numbers, and all stays. */
@@ -284,15 +284,15 @@ static void test_bad_messages(void) {
     static const struct {
         const char *digits;
         uint8_t refusal;
-    } bad[] = {{"81", 2},
-               {"81 1C", 3},
-               {"FF", 4},
-               {"81 18 00", 5},
-               {"8181818181818181 80", 6},
-               {"81 00 00", 7},
-               {"81 0A", 8},
-               {"82 00 07", 9},
-               {"83 03 07 83 61 80 00 01", 11}};
+    } bad[] = {{"81", GRASP_CUT},
+               {"81 1C", GRASP_RESERVED},
+               {"FF", GRASP_INDEFINITE},
+               {"81 18 00", GRASP_LONG_HEAD},
+               {"8181818181818181 80", GRASP_TOO_DEEP},
+               {"81 00 00", GRASP_BYTES_AFTER},
+               {"81 0A", GRASP_UNKNOWN_KIND},
+               {"82 00 07", GRASP_BAD_SHAPE},
+               {"83 03 07 83 61 80 00 01", GRASP_BAD_TEXT}};
     struct host host = node(2);
     struct call call = called(0, 0, "80", flood);
     EXPECT_NUMBER(take(&host, &call), 0);
@@ -303,10 +303,10 @@ static void test_bad_messages(void) {
     call = called(0, 0, "80", "83 03 07 83 78 41");
     append_byte(&call.message, 'x', 65);
     append(&call.message, hex("00 01"));
-    EXPECT_NUMBER(take(&host, &call), 10);
+    EXPECT_NUMBER(take(&host, &call), GRASP_LONG_NAME);
     call.message.len = 0;
     append_byte(&call.message, 0x80, 2049);
-    EXPECT_NUMBER(take(&host, &call), 1);
+    EXPECT_NUMBER(take(&host, &call), GRASP_BAD_SIZE);
 }
 
 /* Own names that are none, and the most that may be. */
@@ -318,19 +318,19 @@ static void test_names(void) {
     struct call call;
     for (size_t i = 0; i < sizeof bad / sizeof *bad; i++) {
         call = called(0, 0, bad[i], "81 00");
-        EXPECT_NUMBER(take(&host, &call), 16);
+        EXPECT_NUMBER(take(&host, &call), GRASP_BAD_NAMES);
     }
     for (size_t names = 16; names <= 17; names++) {
         call = called(0, 0, "", "81 00");
         append_byte(&call.names, (uint8_t)(0x80 + names), 1);
         append_byte(&call.names, 0x60, names);
-        EXPECT_NUMBER(take(&host, &call), names == 16 ? 0 : 16);
+        EXPECT_NUMBER(take(&host, &call), names == 16 ? GRASP_ACCEPTED : GRASP_BAD_NAMES);
     }
     for (size_t length = 64; length <= 65; length++) {
         call = called(0, 0, "81 78", "81 00");
         append_byte(&call.names, (uint8_t)length, 1);
         append_byte(&call.names, 'x', length);
-        EXPECT_NUMBER(take(&host, &call), length == 64 ? 0 : 16);
+        EXPECT_NUMBER(take(&host, &call), length == 64 ? GRASP_ACCEPTED : GRASP_BAD_NAMES);
     }
 }
 
@@ -347,18 +347,18 @@ static void test_tables(void) {
     for (size_t i = 0; i < sizeof sizes / sizeof *sizes; i++) {
         struct host host = node(2);
         host.table_size = sizes[i];
-        EXPECT_NUMBER(take(&host, &call), 15);
+        EXPECT_NUMBER(take(&host, &call), GRASP_BAD_TABLE);
     }
     for (size_t i = 0; i < sizeof bad / sizeof *bad; i++) {
         struct host host = node(2);
         memcpy(host.table + 2016, hex(bad[i]).at, 16);
-        EXPECT_NUMBER(take(&host, &call), 15);
+        EXPECT_NUMBER(take(&host, &call), GRASP_BAD_TABLE);
     }
     {
         struct host host = node(2);
         memcpy(host.table, hex("00000001 00000001").at, 8);
         host.table[31] = 2; /* admitted after the clock */
-        EXPECT_NUMBER(take(&host, &call), 15);
+        EXPECT_NUMBER(take(&host, &call), GRASP_BAD_TABLE);
         host.table[31] = 1;
         EXPECT_NUMBER(take(&host, &call), 0);
     }
@@ -371,23 +371,23 @@ static void test_records(void) {
     const struct call call = called(1, 0, "80", "81 00");
     struct host host = node(2), bad;
     for (size_t i = 0; i < sizeof counts / sizeof *counts; i++) {
-        EXPECT_NUMBER(fresh(&host, counts[i], 0), 12);
+        EXPECT_NUMBER(fresh(&host, counts[i], 0), GRASP_BAD_RECORD);
         bad = host;
         bad.record[GRASP_RECORD_INTERFACES] = counts[i];
         if (form == IN_PLACE && !has_struct(&bad))
             continue;
-        EXPECT_NUMBER(take(&bad, &call), 12);
-        EXPECT_NUMBER(set_links(&bad, 0), 12);
+        EXPECT_NUMBER(take(&bad, &call), GRASP_BAD_RECORD);
+        EXPECT_NUMBER(set_links(&bad, 0), GRASP_BAD_RECORD);
     }
     for (size_t i = 0; i < sizeof masks / sizeof *masks; i++) {
-        EXPECT_NUMBER(fresh(&host, 2, masks[i]), 12);
-        EXPECT_NUMBER(set_links(&host, masks[i]), 13);
+        EXPECT_NUMBER(fresh(&host, 2, masks[i]), GRASP_BAD_RECORD);
+        EXPECT_NUMBER(set_links(&host, masks[i]), GRASP_BAD_LINK);
         bad = host;
         bad.record[GRASP_RECORD_LINKS] = masks[i];
         if (form == IN_PLACE && !has_struct(&bad))
             continue;
-        EXPECT_NUMBER(take(&bad, &call), 12);
-        EXPECT_NUMBER(set_links(&bad, 0), 12);
+        EXPECT_NUMBER(take(&bad, &call), GRASP_BAD_RECORD);
+        EXPECT_NUMBER(set_links(&bad, 0), GRASP_BAD_RECORD);
     }
 }
 
@@ -398,8 +398,8 @@ static void test_wide_numbers(void) {
     for (size_t field = GRASP_RECORD_PORT; field <= GRASP_RECORD_LINKS; field++) {
         struct host host = node(2);
         host.record[field] += (uint64_t)1 << widths[field];
-        EXPECT_NUMBER(take(&host, &call), 12);
-        EXPECT_NUMBER(set_links(&host, 0), 12);
+        EXPECT_NUMBER(take(&host, &call), GRASP_BAD_RECORD);
+        EXPECT_NUMBER(set_links(&host, 0), GRASP_BAD_RECORD);
     }
 }
 
@@ -412,15 +412,15 @@ static void test_links(void) {
     if (form == IN_PLACE)
         memcpy(bad.record, (uint64_t[]){UINT16_MAX, UINT32_MAX, UINT8_MAX, UINT8_MAX},
                4 * sizeof *bad.record);
-    EXPECT_NUMBER(take(&bad, &good), 12);
-    EXPECT_NUMBER(set_links(&bad, UINT64_MAX), 12);
+    EXPECT_NUMBER(take(&bad, &good), GRASP_BAD_RECORD);
+    EXPECT_NUMBER(set_links(&bad, UINT64_MAX), GRASP_BAD_RECORD);
     for (size_t i = 0; i < sizeof none / sizeof *none; i++) {
         const struct call call = called(1, none[i], "80", "81 00");
-        EXPECT_NUMBER(take(&host, &call), 13);
+        EXPECT_NUMBER(take(&host, &call), GRASP_BAD_LINK);
     }
     EXPECT_NUMBER(set_links(&host, 2), 0);
     EXPECT_NUMBER(host.record[GRASP_RECORD_LINKS], 2);
-    EXPECT_NUMBER(take(&host, &good), 13);
+    EXPECT_NUMBER(take(&host, &good), GRASP_BAD_LINK);
     EXPECT_NUMBER(set_links(&host, 0), 0);
     EXPECT_NUMBER(set_links(&host, 3), 0);
     EXPECT_NUMBER(take(&host, &good), 0);

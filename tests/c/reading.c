@@ -43,28 +43,28 @@ static void test_refused(void) {
         const char *digits;
         uint8_t refusal;
     } refused[] = {
-        {"", 1},
-        {"81", 2},
-        {"19 03", 2},
-        {"83 07 07 62 41", 2},
-        {"9B FFFFFFFFFFFFFFFF 00", 2},
-        {"BB FFFFFFFFFFFFFFFF 00", 2},
-        {"5B FFFFFFFFFFFFFFFF", 2},
-        {"81 1C", 3},
-        {"81 F8 1F", 3},
-        {"9F 00 FF", 4},
-        {"FF", 4},
-        {"81 18 00", 5},
-        {"1B 00000000FFFFFFFF", 5},
-        {"81 81 81 81 81 81 81 81 80", 6},
-        {"81 00 00", 7},
-        {"81 18 C8", 8},
-        {"81 1B FFFFFFFFFFFFFFFF", 8},
-        {"80", 9},
-        {"82 00 07", 9},
-        {"81 81 81 81 81 81 81 80", 9},
-        {"83 07 07 1B FFFFFFFFFFFFFFFF", 9},
-        {"84 01 07 44 C0000201 83 61 FF 01 02", 11},
+        {"", GRASP_BAD_SIZE},
+        {"81", GRASP_CUT},
+        {"19 03", GRASP_CUT},
+        {"83 07 07 62 41", GRASP_CUT},
+        {"9B FFFFFFFFFFFFFFFF 00", GRASP_CUT},
+        {"BB FFFFFFFFFFFFFFFF 00", GRASP_CUT},
+        {"5B FFFFFFFFFFFFFFFF", GRASP_CUT},
+        {"81 1C", GRASP_RESERVED},
+        {"81 F8 1F", GRASP_RESERVED},
+        {"9F 00 FF", GRASP_INDEFINITE},
+        {"FF", GRASP_INDEFINITE},
+        {"81 18 00", GRASP_LONG_HEAD},
+        {"1B 00000000FFFFFFFF", GRASP_LONG_HEAD},
+        {"81 81 81 81 81 81 81 81 80", GRASP_TOO_DEEP},
+        {"81 00 00", GRASP_BYTES_AFTER},
+        {"81 18 C8", GRASP_UNKNOWN_KIND},
+        {"81 1B FFFFFFFFFFFFFFFF", GRASP_UNKNOWN_KIND},
+        {"80", GRASP_BAD_SHAPE},
+        {"82 00 07", GRASP_BAD_SHAPE},
+        {"81 81 81 81 81 81 81 80", GRASP_BAD_SHAPE},
+        {"83 07 07 1B FFFFFFFFFFFFFFFF", GRASP_BAD_SHAPE},
+        {"84 01 07 44 C0000201 83 61 FF 01 02", GRASP_BAD_TEXT},
     };
     uint64_t fields[GRASP_FIELDS];
     for (size_t i = 0; i < sizeof refused / sizeof *refused; i++)
@@ -80,39 +80,45 @@ static void test_limits(void) {
         append_byte(&name, (uint8_t)length, 1);
         append_byte(&name, 'x', length);
         append(&name, hex("00 01"));
-        EXPECT_NUMBER(read_bytes(name, fields), length == 64 ? 0 : 10);
+        EXPECT_NUMBER(read_bytes(name, fields), length == 64 ? GRASP_ACCEPTED : GRASP_LONG_NAME);
     }
     for (size_t length = 2048; length <= 2049; length++) {
         struct bytes invalid = hex("83 18 63 07 59");
         append_byte(&invalid, (uint8_t)((length - 7) >> 8), 1);
         append_byte(&invalid, (uint8_t)(length - 7), 1);
         append_byte(&invalid, 0, length - 7);
-        EXPECT_NUMBER(read_bytes(invalid, fields), length == 2048 ? 0 : 1);
+        EXPECT_NUMBER(read_bytes(invalid, fields), length == 2048 ? GRASP_ACCEPTED : GRASP_BAD_SIZE);
     }
 }
 
-/* The fields that a message has, in the order of the block up to the loop count. */
+/* The fields that a message has, in the order of the block. */
 static void test_kinds(void) {
     static const struct {
         const char *digits;
         uint64_t fields[GRASP_FIELDS];
     } kinds[] = {
-        {"81 00", {0}},
-        {"84 01 07 44 C0000201 83 63 455831 01 02", {1, 7, 4, 4, 0, 1, 10, 3, 1, 2, 14, 15, 0}},
-        {"83 03 1A FFFFFFFF 84 60 0F 18 FF 80", {3, UINT32_MAX, 0, 0, 0, 1, 9, 0, 15, 255, 10, 12, 1}},
-        {"83 04 00 83 61 41 00 00", {4, 0, 0, 0, 0, 1, 5, 1, 0, 0, 7, 8, 0}},
-        {"83 05 01 83 61 41 00 00", {5, 1, 0, 0, 0, 1, 5, 1, 0, 0, 7, 8, 0}},
-        {"83 08 01 83 61 41 00 00", {8, 1, 0, 0, 0, 1, 5, 1, 0, 0, 7, 8, 0}},
-        {"83 06 07 81 18 65", {6, 7, 0, 0, 0, 0, 0, 0, 0, 0, 0, 0, 0, 0, 0, 0, 1}},
-        {"83 06 07 81 18 66", {6, 7, 0, 0, 0, 0, 0, 0, 0, 0, 0, 0, 0, 0, 0, 0, 2}},
-        {"83 06 07 82 18 66 62 6E6F", {6, 7, 0, 0, 0, 0, 0, 0, 0, 0, 0, 0, 0, 0, 0, 0, 3, 7, 2}},
-        {"83 07 07 19 03E8", {7, 7, 0, 0, 1000}},
-        {"82 18 63 07", {99, 7, 0, 0, 0, 0, 0, 0, 0, 0, 0, 0, 0, 0, 0, 0, 0, 4, 0}},
-        {"83 18 63 07 F6", {99, 7, 0, 0, 0, 0, 0, 0, 0, 0, 0, 0, 0, 0, 0, 0, 0, 4, 1}},
+        {"81 00", {GRASP_NOOP}},
+        {"84 01 07 44 C0000201 83 63 455831 01 02", {GRASP_DISCOVERY, 7, 4, 4, 0, 1, 10, 3, 1, 2, 14, 15, 0}},
+        {"83 03 1A FFFFFFFF 84 60 0F 18 FF 80",
+         {GRASP_REQUEST_NEGOTIATION, UINT32_MAX, 0, 0, 0, 1, 9, 0, 15, 255, 10, 12, 1}},
+        {"83 04 00 83 61 41 00 00", {GRASP_REQUEST_SYNCHRONIZATION, 0, 0, 0, 0, 1, 5, 1, 0, 0, 7, 8, 0}},
+        {"83 05 01 83 61 41 00 00", {GRASP_NEGOTIATE, 1, 0, 0, 0, 1, 5, 1, 0, 0, 7, 8, 0}},
+        {"83 08 01 83 61 41 00 00", {GRASP_SYNCH, 1, 0, 0, 0, 1, 5, 1, 0, 0, 7, 8, 0}},
+        {"83 06 07 81 18 65", {GRASP_END, 7, [GRASP_OUTCOME] = GRASP_ACCEPT}},
+        {"83 06 07 81 18 66", {GRASP_END, 7, [GRASP_OUTCOME] = GRASP_DECLINE}},
+        {"83 06 07 82 18 66 60", {GRASP_END, 7, [GRASP_OUTCOME] = GRASP_DECLINE_REASON, 7, 0}},
+        {"83 06 07 82 18 66 62 6E6F", {GRASP_END, 7, [GRASP_OUTCOME] = GRASP_DECLINE_REASON, 7, 2}},
+        {"83 07 07 19 03E8", {GRASP_WAIT, 7, 0, 0, 1000}},
+        {"82 18 63 07", {GRASP_INVALID, 7, [GRASP_ITEM_AT] = 4, 0}},
+        {"83 18 63 07 F6", {GRASP_INVALID, 7, [GRASP_ITEM_AT] = 4, 1}},
         {"85 09 07 44 C0000201 19 03E8 82 83 63 455831 04 02 80",
-         {9, 7, 4, 4, 1000, 1, 14, 3, 4, 2, 18, 19, 0, 3, 11, 1}},
+         {GRASP_FLOOD, 7, 4, 4, 1000, 1, 14, 3, 4, 2, 18, 19, 0, GRASP_LIST_PAIRS, 11, 1}},
         {"85 02 07 44 C0000201 00 82 18 64 84 18 68 44 C0000202 11 00",
-         {2, 7, 4, 4, 0, 0, 0, 0, 0, 0, 0, 0, 0, 2, 12, 1}},
+         {GRASP_RESPONSE, 7, 4, 4, [GRASP_LIST] = GRASP_LIST_DIVERT, 12, 1}},
+        {"85 02 07 44 C0000201 00 83 18 64 84 18 68 44 C0000202 11 00 84 18 69 61 64 06 00",
+         {GRASP_RESPONSE, 7, 4, 4, [GRASP_LIST] = GRASP_LIST_DIVERT, 12, 2}},
+        {"86 02 07 44 C0000201 00 82 18 64 84 18 68 44 C0000202 11 00 83 61 41 02 01",
+         {GRASP_RESPONSE, 7, 4, 4, 0, 1, 24, 1, 2, 1, 26, 27, 0, GRASP_LIST_DIVERT, 12, 1}},
     };
     for (size_t i = 0; i < sizeof kinds / sizeof *kinds; i++) {
         uint64_t fields[GRASP_FIELDS];
@@ -122,58 +128,79 @@ static void test_kinds(void) {
     }
 }
 
-static int spans(struct grasp_span span, const char *text) {
-    return span.len == strlen(text) && memcmp(span.at, text, span.len) == 0;
+static int spans(struct grasp_span span, const char *digits) {
+    return are_same(hex(digits), span.at, span.len);
 }
 
-/* A Response with a locator of each kind and an objective. */
+/* A Response with the greatest numbers, a locator of each kind and an objective. */
 static void test_locators(void) {
-    const struct bytes response = hex("89 02 07 50 FE80 0000 0000 0000 0000 0000 0000 0001 19 EA60"
-                                      "84 18 67 50 20010DB8 00000000 00000000 00000001 06 19 1B69"
-                                      "84 18 68 44 C0000201 11 00"
-                                      "84 18 69 61 64 06 19 FFFF"
-                                      "84 18 6A 61 75 F6 F6"
-                                      "84 63 455831 08 05 82 01 02");
+    const struct bytes response =
+        hex("89 02 1A FFFFFFFF 50 FE80 0000 0000 0000 0000 0000 0000 0001 1A FFFFFFFF"
+            "84 18 67 50 20010DB8 00000000 00000000 00000001 06 19 1B69"
+            "84 18 68 44 C0000201 11 00"
+            "84 18 69 61 64 06 19 FFFF"
+            "84 18 6A 63 753A76 F6 F6"
+            "84 63 455831 0F 18 FF 82 01 02");
     static const uint64_t wanted[][GRASP_LOCATOR_FIELDS] = {
-        {103, 27, 16, 6, 7017}, {104, 51, 4, 17, 0}, {105, 61, 1, 6, 65535}, {106, 70, 1, 0, 65536}};
+        {GRASP_IPV6, 33, 16, GRASP_TCP, 7017},
+        {GRASP_IPV4, 57, 4, GRASP_UDP, 0},
+        {GRASP_DOMAIN, 67, 1, GRASP_TCP, 65535},
+        {GRASP_URI, 76, 3, GRASP_NULL_PROTOCOL, GRASP_NULL_PORT},
+    };
     uint64_t fields[GRASP_FIELDS], locator[GRASP_LOCATOR_FIELDS];
     size_t at;
     EXPECT_NUMBER(read_bytes(response, fields), 0);
-    EXPECT_NUMBER(fields[GRASP_LIST], 1);
+    EXPECT_NUMBER(fields[GRASP_LIST], GRASP_LIST_LOCATORS);
     EXPECT_NUMBER(fields[GRASP_LIST_MANY], 4);
     at = (size_t)fields[GRASP_LIST_AT];
     for (size_t i = 0; i < 4; i++) {
         at = locator_at(response, at, locator);
         EXPECT(memcmp(locator, wanted[i], sizeof locator) == 0);
     }
-    EXPECT(spans(grasp_locator_address(response.at, response.len, locator), "u"));
+    EXPECT(spans(grasp_locator_address(response.at, response.len, locator), "753A76"));
     EXPECT_NUMBER(grasp_message_kind(fields), GRASP_RESPONSE);
-    EXPECT_NUMBER(grasp_message_session(fields), 7);
-    EXPECT_NUMBER(grasp_message_ttl(fields), 60000);
-    EXPECT_NUMBER(grasp_message_flags(fields), 8);
-    EXPECT_NUMBER(grasp_message_count(fields), 5);
-    EXPECT_NUMBER(grasp_message_initiator(response.at, response.len, fields).len, 16);
-    EXPECT(spans(grasp_message_name(response.at, response.len, fields), "EX1"));
-    EXPECT(spans(grasp_message_value(response.at, response.len, fields), "\x82\x01\x02"));
+    EXPECT_NUMBER(grasp_message_session(fields), UINT32_MAX);
+    EXPECT_NUMBER(grasp_message_ttl(fields), UINT32_MAX);
+    EXPECT_NUMBER(grasp_message_flags(fields), 15);
+    EXPECT_NUMBER(grasp_message_count(fields), 255);
+    EXPECT(spans(grasp_message_initiator(response.at, response.len, fields),
+                 "FE80 0000 0000 0000 0000 0000 0000 0001"));
+    EXPECT(spans(grasp_message_name(response.at, response.len, fields), "455831"));
+    EXPECT(spans(grasp_message_value(response.at, response.len, fields), "82 01 02"));
     EXPECT_NUMBER(locator_at(response, at, locator), 0);
 }
 
 /* A Flood of two pairs, the second with a value and a locator. */
 static void test_pairs(void) {
-    const struct bytes flood = hex("86 09 07 44 C0000201 00 82 83 61 41 04 02 80"
-                                   "82 84 61 42 04 18 18 F5 84 18 6A 60 11 F6");
-    static const uint64_t wanted[GRASP_PAIR_FIELDS] = {19, 1, 4, 24, 21, 23, 1, 106, 28, 0, 17, 65536};
+    const struct bytes flood = hex("86 09 07 44 C0000201 00 82 83 62 4142 04 02 80"
+                                   "82 84 61 42 04 18 18 62 6E6F 84 18 6A 60 11 F6");
+    static const uint64_t wanted[GRASP_PAIR_FIELDS] = {
+        20, 1, GRASP_FLAG_SYNCHRONIZATION, 24, 22, 24, 3, GRASP_URI, 31, 0, GRASP_UDP, GRASP_NULL_PORT};
     uint64_t fields[GRASP_FIELDS], pair[GRASP_PAIR_FIELDS];
     size_t at;
     EXPECT_NUMBER(read_bytes(flood, fields), 0);
     EXPECT_NUMBER(fields[GRASP_LIST_MANY], 2);
     at = pair_at(flood, (size_t)fields[GRASP_LIST_AT], pair);
-    EXPECT(spans(grasp_pair_name(flood.at, flood.len, pair), "A"));
+    EXPECT(spans(grasp_pair_name(flood.at, flood.len, pair), "4142"));
+    EXPECT(spans(grasp_pair_value(flood.at, flood.len, pair), ""));
     EXPECT_NUMBER(pair[GRASP_PAIR_LOCATOR], 0);
     at = pair_at(flood, at, pair);
     EXPECT_NUMBER(at, flood.len);
     EXPECT(memcmp(pair, wanted, sizeof pair) == 0);
-    EXPECT(spans(grasp_pair_value(flood.at, flood.len, pair), "\xF5"));
+    EXPECT(spans(grasp_pair_value(flood.at, flood.len, pair), "62 6E6F"));
+}
+
+/* Locators and pairs are judged by their shape alone: a text needn't be UTF-8, and a name may be long. */
+static void test_shapes(void) {
+    const struct bytes domain = hex("84 18 69 61 FF 06 00"), uri = hex("84 18 6A 61 FF F6 F6");
+    struct bytes pair = hex("82 83 78 41");
+    uint64_t fields[GRASP_PAIR_FIELDS];
+    append_byte(&pair, 0xFF, 65);
+    append(&pair, hex("04 02"));
+    append(&pair, domain);
+    EXPECT_NUMBER(locator_at(domain, 0, fields), domain.len);
+    EXPECT_NUMBER(locator_at(uri, 0, fields), uri.len);
+    EXPECT_NUMBER(pair_at(pair, 0, fields), pair.len);
 }
 
 /* No place makes a reader of parts leave its bytes. */
@@ -213,8 +240,9 @@ void test_reading(void) {
     test_kinds();
     test_locators();
     test_pairs();
+    test_shapes();
     test_places();
     test_spans();
     EXPECT_NUMBER(read_bytes(reason, fields), 0);
-    EXPECT(spans(grasp_message_item(reason.at, reason.len, fields), "no"));
+    EXPECT(spans(grasp_message_item(reason.at, reason.len, fields), "6E6F"));
 }

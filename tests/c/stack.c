@@ -64,12 +64,6 @@ static void discovery(void) {
     put(bytes, sizeof bytes);
 }
 
-static void request(void) {
-    static const uint8_t bytes[] = {0x83, 0x03, 0x07, 0x83, 0x63, 'E', 'X', '1', 0x03, 0x02};
-    length = 0;
-    put(bytes, sizeof bytes);
-}
-
 /* The description of the message, for grasp_write. */
 static void describe(void) {
     size_t at;
@@ -101,11 +95,6 @@ static void asked_node(void) {
     fresh_node();
 }
 
-static void fresh_state(void) {
-    request();
-    memset(state, 0, sizeof state);
-}
-
 static void read(void) { answered = grasp_read(message, length, fields); }
 
 static void locate(void) { answered = grasp_locator(message, length, 12, fields) != 0; }
@@ -135,7 +124,8 @@ static void node_call(void) {
                                length, out, sizeof out, answer);
 }
 
-static void step(void) { answered = grasp_step(state, message, length, GRASP_THEY); }
+/* A Flood is read, which goes deepest, and then not allowed. */
+static void step(void) { answered = grasp_step(state, message, length, GRASP_THEY) != GRASP_NOT_ALLOWED; }
 
 static const struct {
     const char *name;
@@ -154,7 +144,7 @@ static const struct {
     {"grasp_set_links", fresh_node, set_links},
     {"grasp_node_call, RELAY", flooded_node, node_call},
     {"grasp_node_call, ANSWER", asked_node, node_call},
-    {"grasp_step", fresh_state, step},
+    {"grasp_step", flood, step},
 };
 
 int main(int argc, char **argv) {

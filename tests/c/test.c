@@ -8,10 +8,9 @@
 #include <string.h>
 #include <sys/mman.h>
 
-#include "grasp_text.h"
 #include "test.h"
 
-enum { PAGE = 4096, AREA = 4 * PAGE, MOST_REFUSALS = 256, REFUSALS = 20, VERDICTS = 9 };
+enum { PAGE = 4096, AREA = 4 * PAGE, NUMBERS = 256 };
 
 /* Where lent memory touches the page that can't be touched. */
 static enum { AT_FRONT, AT_END, SIDES } side;
@@ -22,7 +21,7 @@ static struct {
     uint8_t before[AREA];
 } all_lent[LENT];
 
-static int failures, refusals[MOST_REFUSALS], verdicts[MOST_REFUSALS];
+static int failures, refusals[NUMBERS], verdicts[NUMBERS];
 
 void expect(int holds, const char *file, int line, const char *what) {
     if (holds)
@@ -85,7 +84,7 @@ uint8_t saw_refusal(uint8_t refusal) {
 }
 
 uint64_t saw_verdict(uint64_t verdict) {
-    verdicts[verdict % MOST_REFUSALS]++;
+    verdicts[verdict % NUMBERS]++;
     return verdict;
 }
 
@@ -118,27 +117,11 @@ int are_same(struct bytes bytes, const void *others, size_t len) {
     return bytes.len == len && memcmp(bytes.at, others, len) == 0;
 }
 
-/* Each number has words of its own, and none but ours has any. */
-static void test_texts(void) {
-    for (int one = 0; one < MOST_REFUSALS; one++) {
-        const char *refusal = grasp_refusal_text((uint8_t)one);
-        const char *verdict = grasp_verdict_text((uint64_t)one);
-        const char *kind = grasp_kind_text((uint64_t)one);
-        EXPECT((strcmp(refusal, "unknown refusal") == 0) == (one > REFUSALS));
-        EXPECT((strcmp(verdict, "unknown verdict") == 0) == (one < 1 || one > VERDICTS));
-        EXPECT((strcmp(kind, "unknown kind") == 0) == (one > GRASP_FLOOD && one != GRASP_INVALID));
-        for (int other = 0; other < one && one <= REFUSALS; other++) {
-            EXPECT(strcmp(refusal, grasp_refusal_text((uint8_t)other)) != 0);
-        }
-    }
-    EXPECT(strcmp(grasp_verdict_text(UINT64_MAX), "unknown verdict") == 0);
-}
-
 /* Every refusal and every verdict was met. */
 static void test_all_met(void) {
-    for (int number = 0; number < MOST_REFUSALS; number++) {
-        EXPECT((refusals[number] > 0) == (number <= REFUSALS));
-        EXPECT((verdicts[number] > 0) == (number >= 1 && number <= VERDICTS));
+    for (int number = 0; number < NUMBERS; number++) {
+        EXPECT((refusals[number] > 0) == (number <= GRASP_NOT_ALLOWED));
+        EXPECT((verdicts[number] > 0) == (number >= GRASP_OWN && number <= GRASP_HAND));
     }
 }
 
@@ -150,7 +133,7 @@ int main(void) {
         test_node();
         test_negotiation();
     }
-    test_texts();
+    test_numbers();
     test_all_met();
     return failures != 0;
 }

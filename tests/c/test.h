@@ -50,6 +50,7 @@ void test_reading(void);
 void test_writing(void);
 void test_node(void);
 void test_negotiation(void);
+void test_numbers(void);
 
 /* Reads with all margins looked at; what is refused leaves the block. */
 uint8_t read_bytes(struct bytes bytes, uint64_t fields[GRASP_FIELDS]);

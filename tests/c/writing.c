@@ -18,7 +18,7 @@ static struct description described(struct bytes message) {
     at = (size_t)it.fields[GRASP_LIST_AT];
     for (uint64_t i = 0; i < it.fields[GRASP_LIST_MANY]; i++) {
         row = it.numbers;
-        if (it.fields[GRASP_LIST] == 3) {
+        if (it.fields[GRASP_LIST] == GRASP_LIST_PAIRS) {
             at = grasp_pair(message.at, message.len, at, it.list + row);
             it.list[row + GRASP_PAIR_COUNT_AT] = 0;
             it.numbers += GRASP_PAIR_FIELDS;
@@ -27,7 +27,7 @@ static struct description described(struct bytes message) {
             it.numbers += GRASP_LOCATOR_FIELDS;
         }
     }
-    if (it.fields[GRASP_LIST] == 3)
+    if (it.fields[GRASP_LIST] == GRASP_LIST_PAIRS)
         memset(it.fields + GRASP_HAS_OBJECTIVE, 0, (GRASP_LIST - GRASP_HAS_OBJECTIVE) * sizeof *it.fields);
     it.fields[GRASP_COUNT_AT] = 0;
     it.fields[GRASP_LIST_AT] = 0;
@@ -56,17 +56,19 @@ static uint8_t write_to(const struct description *it, size_t size, struct bytes 
     return refusal;
 }
 
-/* What was read and described is written as the same bytes, where they fit. */
+/* What was read and described is written as the same bytes, where they fit and no number is left over. */
 static void test_again(const char *digits) {
     const struct bytes message = hex(digits);
-    const struct description it = described(message);
+    struct description it = described(message);
     struct bytes written;
     EXPECT_NUMBER(write_to(&it, message.len, &written), 0);
     EXPECT(are_same(written, message.at, message.len));
     EXPECT_NUMBER(write_to(&it, message.len + 5, &written), 0);
     EXPECT(are_same(written, message.at, message.len));
-    EXPECT_NUMBER(write_to(&it, message.len - 1, &written), 19);
-    EXPECT_NUMBER(write_to(&it, 0, &written), 19);
+    EXPECT_NUMBER(write_to(&it, message.len - 1, &written), GRASP_SHORT_OUTPUT);
+    EXPECT_NUMBER(write_to(&it, 0, &written), GRASP_SHORT_OUTPUT);
+    it.numbers++;
+    EXPECT_NUMBER(write_to(&it, message.len, &written), GRASP_NO_SUCH_MESSAGE);
 }
 
 /* Any field or number of the list that is all ones is in no message without empty spans; 18 comes before 19.
@@ -78,41 +80,38 @@ static void test_all_ones(const char *digits) {
     for (size_t field = 0; field < GRASP_FIELDS; field++) {
         other = it;
         other.fields[field] = UINT64_MAX;
-        EXPECT_NUMBER(write_to(&other, 0, &written), 18);
+        EXPECT_NUMBER(write_to(&other, 0, &written), GRASP_NO_SUCH_MESSAGE);
     }
     for (size_t number = 0; number < it.numbers; number++) {
         other = it;
         other.list[number] = UINT64_MAX;
-        EXPECT_NUMBER(write_to(&other, 0, &written), 18);
+        EXPECT_NUMBER(write_to(&other, 0, &written), GRASP_NO_SUCH_MESSAGE);
     }
     other = it;
     memset(other.fields, 0xFF, sizeof other.fields);
     memset(other.list, 0xFF, sizeof other.list);
-    EXPECT_NUMBER(write_to(&other, 2048, &written), 18);
-    EXPECT_NUMBER(write_to(&other, 0, &written), 18);
+    EXPECT_NUMBER(write_to(&other, 2048, &written), GRASP_NO_SUCH_MESSAGE);
+    EXPECT_NUMBER(write_to(&other, 0, &written), GRASP_NO_SUCH_MESSAGE);
 }
 
-/* A list with a number more or less, a row more or less than is said, and a shorter source. */
+/* A list with a number less, or a row more or less, than is said, and a shorter source. */
 static void test_lengths(const char *digits, size_t row) {
     const struct description it = described(hex(digits));
+    const size_t lengths[] = {it.numbers - 1, it.numbers + row, it.numbers - row, 0};
     struct description other = it;
     struct bytes written;
-    other.numbers = it.numbers + 1;
-    EXPECT_NUMBER(write_to(&other, 2048, &written), 18);
-    other.numbers = it.numbers - 1;
-    EXPECT_NUMBER(write_to(&other, 2048, &written), 18);
-    other.numbers = it.numbers - row;
-    EXPECT_NUMBER(write_to(&other, 2048, &written), 18);
-    other.numbers = 0;
-    EXPECT_NUMBER(write_to(&other, 2048, &written), 18);
+    for (size_t i = 0; i < sizeof lengths / sizeof *lengths; i++) {
+        other.numbers = lengths[i];
+        EXPECT_NUMBER(write_to(&other, 2048, &written), GRASP_NO_SUCH_MESSAGE);
+    }
     other = it;
     other.fields[GRASP_LIST_MANY]++;
-    EXPECT_NUMBER(write_to(&other, 2048, &written), 18);
+    EXPECT_NUMBER(write_to(&other, 2048, &written), GRASP_NO_SUCH_MESSAGE);
     other = it;
     other.source.len = 5;
-    EXPECT_NUMBER(write_to(&other, 2048, &written), 18);
+    EXPECT_NUMBER(write_to(&other, 2048, &written), GRASP_NO_SUCH_MESSAGE);
     other.source.len = 0;
-    EXPECT_NUMBER(write_to(&other, 2048, &written), 18);
+    EXPECT_NUMBER(write_to(&other, 2048, &written), GRASP_NO_SUCH_MESSAGE);
 }
 
 /* A Noop of no source and no list; a message over 2,048 bytes; 23 and 24 in one and two bytes. */
@@ -127,7 +126,7 @@ static void test_edges(void) {
     EXPECT_NUMBER(write_to(&it, 2048, &written), 0);
     EXPECT(are_same(written, "\x83\x07\x18\x18\x17", 5));
     it.fields[GRASP_TTL] = (uint64_t)1 << 32;
-    EXPECT_NUMBER(write_to(&it, 2048, &written), 18);
+    EXPECT_NUMBER(write_to(&it, 2048, &written), GRASP_NO_SUCH_MESSAGE);
     for (size_t length = 2048; length <= 2049; length++) {
         it = (struct description){{0}, {0}, 0, hex("59")};
         it.fields[GRASP_KIND] = GRASP_INVALID;
@@ -135,33 +134,42 @@ static void test_edges(void) {
         append_byte(&it.source, (uint8_t)(length - 7), 1);
         append_byte(&it.source, 0xFF, length - 7);
         it.fields[GRASP_ITEM_LEN] = it.source.len;
-        EXPECT_NUMBER(write_to(&it, 2 * GRASP_MESSAGE_BYTES, &written), length == 2048 ? 0 : 18);
+        EXPECT_NUMBER(write_to(&it, 2 * GRASP_MESSAGE_BYTES, &written),
+                      length == 2048 ? GRASP_ACCEPTED : GRASP_NO_SUCH_MESSAGE);
     }
 }
 
+/* A Response with an objective and one without, and a Flood. */
+static const char response[] = "88 02 07 50 FE80 0000 0000 0000 0000 0000 0000 0001 19 EA60"
+                               "84 18 67 50 20010DB8 00000000 00000000 00000001 06 19 1B69"
+                               "84 18 69 61 64 06 19 FFFF"
+                               "84 18 6A 61 75 F6 F6"
+                               "84 63 455831 08 05 82 01 02",
+                  plain[] = "85 02 07 44 C0000201 00 84 18 68 44 C0000202 11 00",
+                  flood[] = "86 09 07 44 C0000201 00 82 83 61 41 04 02 80"
+                            "82 84 61 42 04 18 18 F5 84 18 6A 60 11 F6";
+
 void test_writing(void) {
-    static const char response[] = "88 02 07 50 FE80 0000 0000 0000 0000 0000 0000 0001 19 EA60"
-                                   "84 18 67 50 20010DB8 00000000 00000000 00000001 06 19 1B69"
-                                   "84 18 69 61 64 06 19 FFFF"
-                                   "84 18 6A 61 75 F6 F6"
-                                   "84 63 455831 08 05 82 01 02";
-    static const char flood[] = "86 09 07 44 C0000201 00 82 83 61 41 04 02 80"
-                                "82 84 61 42 04 18 18 F5 84 18 6A 60 11 F6";
     static const char *const messages[] = {
         response,
         flood,
+        plain,
         "81 00",
         "84 01 07 44 C0000201 83 63 455831 01 02",
         "83 03 1A FFFFFFFF 84 60 0F 18 FF 80",
         "83 04 00 83 61 41 00 00",
         "83 05 01 83 61 41 00 00",
         "83 06 07 81 18 65",
+        "83 06 07 81 18 66",
+        "83 06 07 82 18 66 60",
         "83 06 07 82 18 66 62 6E6F",
         "83 07 07 19 03E8",
         "83 08 01 83 61 41 00 00",
         "82 18 63 07",
         "83 18 63 07 F6",
         "85 02 07 44 C0000201 00 82 18 64 84 18 68 44 C0000202 11 00",
+        "85 02 07 44 C0000201 00 83 18 64 84 18 68 44 C0000202 11 00 84 18 69 61 64 06 00",
+        "86 02 07 44 C0000201 00 82 18 64 84 18 68 44 C0000202 11 00 83 61 41 02 01",
     };
     for (size_t i = 0; i < sizeof messages / sizeof *messages; i++)
         test_again(messages[i]);
@@ -169,6 +177,7 @@ void test_writing(void) {
     test_all_ones("86 09 07 44 C0000201 00 82 84 61 41 04 02 00 84 18 68 44 C0000202 06 00"
                   "82 84 61 42 04 18 18 F5 84 18 6A 61 75 11 F6");
     test_lengths(response, GRASP_LOCATOR_FIELDS);
+    test_lengths(plain, GRASP_LOCATOR_FIELDS);
     test_lengths(flood, GRASP_PAIR_FIELDS);
     test_edges();
 }
