@@ -5,12 +5,12 @@ use Prim.Native.Nat.{ℕ, _^_, _≤_, _<_}
 use mathlib.Core.Path.{_≡_, refl}
 use mathlib.Core.List.{List}
 use native.Mathlib.Omega.{arith}
-use lib.Dec.{leb}
 use lib.ListN.{length}
 use borrow.Author.Tests.{le-ltb}
 use Rattle.base.specs.BigEndian.{Bytes}
 use Rattle.base.specs.Pick.{pick}
 use Rattle.base.proofs.Picks.{pick-case}
+use Rattle.node_state.specs.declared.Record.{Record}
 use Rattle.node_state.specs.declared.Kept.{Kept}
 use Rattle.node_state.specs.Record.{linksBad, recordBad, fresh, linked, setLinks}
 use Rattle.node.specs.Call.{Call, nodeCall}
@@ -45,16 +45,21 @@ pub links-back : (address f : List ℕ) (mask : ℕ)
     → nodeOf address (numbersAfter (setLinks (nodeOf address f) mask) f) ≡ setLinks (nodeOf address f) mask .node
 unfolding setLinks linked
 links-back address f mask =
-    let r = nodeOf address f in
     kept-back address f (setLinks r mask)
     (λ e. (
       linked-record-fits r mask (node-fits address f),
-      pick-case (λ (k : Kept). k .refusal ≡ 0 → k .node .address ≡ address) (recordBad r) (λ _ e. absurd (omega arith))
-          (λ good. pick-case (λ (k : Kept). k .refusal ≡ 0 → k .node .address ≡ address) (leb (2 ^ r .interfaces) mask) (λ _ e. absurd (omega arith))
-          (λ _ _. node-address address f good)) e,
+      pick-case Addressed (recordBad r) (λ _ e. absurd (omega arith)) (λ good. pick-case Addressed _ (λ _ e. absurd (omega arith)) (λ _ _. node-address address f good)) e,
     ))
-    (pick-case (λ (k : Kept). (k .refusal ≡ 0 → ⊥) → k .node ≡ r) (recordBad r) (λ _ _. refl)
-    (λ _. pick-case (λ (k : Kept). (k .refusal ≡ 0 → ⊥) → k .node ≡ r) (leb (2 ^ r .interfaces) mask) (λ _ _. refl) (λ _ ne. absurd (ne refl))))
+    (pick-case Left (recordBad r) (λ _ _. refl) (λ _. pick-case Left _ (λ _ _. refl) (λ _ ne. absurd (ne refl))))
+  where
+    r : Record
+    r = nodeOf address f
+
+    Addressed : Kept → Type 0
+    Addressed k = k .refusal ≡ 0 → k .node .address ≡ address
+
+    Left : Kept → Type 0
+    Left k = (k .refusal ≡ 0 → ⊥) → k .node ≡ r
 
 -- The numbers and the bytes that a node call leaves say the record and hold the table that it leaves.
 pub call-back : (address f bytes : List ℕ) (c : Call) (answer : List ℕ) → length bytes ≡ tableBytes → Bytes bytes → c .clock < 2 ^ 64 → Bytes (c .message)

@@ -1,10 +1,8 @@
 -- What is read of a Discovery or a Flood that is relayed, and of the message that goes out.
 -- Assumes nothing.
 use mathlib.Core.Path.{_≡_, refl, ap, _∙_}
-use mathlib.Core.Bool.{true, false}
 use mathlib.Core.List.{List}
 use Prim.Native.Nat.{ℕ, _-_}
-use native.Mathlib.Omega.{arith}
 use Rattle.options.specs.Text.{held}
 use Rattle.base.specs.Pick.{pick}
 use Rattle.options.specs.declared.objective.Objective.{Objective}
@@ -16,10 +14,10 @@ use Rattle.roundtrip.specs.Lower.{Lowers}
 use Rattle.roundtrip.proofs.Relay.{lowered-reads}
 use Rattle.node.specs.declared.role.Spread.{Spread}
 use Rattle.node.specs.declared.role.Role.{Role}
-use Rattle.node.specs.Role.{spreadOf, roleOf, RoleIn}
+use Rattle.node.specs.Role.{RoleIn}
 use Rattle.roundtrip.specs.Lower.{onward}
 use Rattle.node.specs.History.{Told, numberIn, toldReading, told}
-use Rattle.node.proofs.Spreads.{role-spreading}
+use Rattle.node.proofs.Spreads.{SpreadBy, spread-by, role-spreading}
 
 -- what is told of it
 abbrev pub spread-told : List ℕ → Spread → Told
@@ -27,23 +25,14 @@ spread-told message s =
     record { kind = pick (s .flood) 9 1; session = s .session; initiator = held message (s .initiator); count = s .objective .count }
 
 -- by the message that was read
-told-by : (message : List ℕ) (m : Message) (s : Spread) → roleOf m ≡ Role.Spreads s → toldReading message (Reading.Read m) ≡ spread-told message s
-unfolding roleOf toldReading numberIn countIn sessionOf initiatorOf objectiveOf pick
-told-by message (M.Discovery session i o) s e = let same : spreadOf false session i o ≡ s = cc in rw (← same) refl
-told-by message (M.Flood session i ttl first series) s e = let same : spreadOf true session i (first .objective) ≡ s = cc in rw (← same) refl
-told-by message M.Noop s e = absurd (let z : _≡_ {A = ℕ} 0 1 = cc in omega arith)
-told-by message (M.Response session i ttl targets extra) s e = absurd (let z : _≡_ {A = ℕ} 0 1 = cc in omega arith)
-told-by message (M.RequestNegotiation session o) s e = absurd (let z : _≡_ {A = ℕ} 0 1 = cc in omega arith)
-told-by message (M.RequestSynchronization session o) s e = absurd (let z : _≡_ {A = ℕ} 0 1 = cc in omega arith)
-told-by message (M.Negotiate session o) s e = absurd (let z : _≡_ {A = ℕ} 0 1 = cc in omega arith)
-told-by message (M.End session outcome) s e = absurd (let z : _≡_ {A = ℕ} 0 1 = cc in omega arith)
-told-by message (M.Wait session time) s e = absurd (let z : _≡_ {A = ℕ} 0 1 = cc in omega arith)
-told-by message (M.Synch session o) s e = absurd (let z : _≡_ {A = ℕ} 0 1 = cc in omega arith)
-told-by message (M.Invalid session item) s e = absurd (let z : _≡_ {A = ℕ} 0 1 = cc in omega arith)
+told-by : (message : List ℕ) {m : Message} {s : Spread} → SpreadBy m s → toldReading message (Reading.Read m) ≡ spread-told message s
+unfolding toldReading numberIn countIn sessionOf initiatorOf objectiveOf pick
+told-by message SpreadBy.discovery = refl
+told-by message SpreadBy.flood = refl
 
 pub told-spread : (message : List ℕ) (s : Spread) → RoleIn message (Role.Spreads s) → told message ≡ spread-told message s
 unfolding told
-told-spread message s r = ap (toldReading message) (r .read) ∙ told-by message (r .is) s (r .plays)
+told-spread message s r = ap (toldReading message) (r .read) ∙ told-by message (spread-by (r .is) s (r .plays))
 
 -- the count that a relay lowers
 count-of : (m : Message) (o : Objective) → Lowers m o → countIn (objectiveOf m) ≡ o .count

@@ -33,7 +33,7 @@ use Rattle.node.specs.History.{Event, call, links, Step, steps, finally, isRela
 use Rattle.node.specs.Demand.{Demand3}
 use Rattle.node_state.proofs.Masks.{record-links, up-below, taken-down, others-fewer}
 use Rattle.node_state.proofs.Rows.{put-holds, length-free, life-least, table-sized}
-use Rattle.node_state.proofs.Keys.{key-life, key-used}
+use Rattle.node_state.proofs.Keys.{flag-same, key-life, key-used}
 use Rattle.node.proofs.Outcomes.{arrives}
 use Rattle.node.proofs.Spreads.{role-spreading}
 use Rattle.history.proofs.Told.{spread-told, told-spread, onward-count}
@@ -91,19 +91,12 @@ module _ (x : Step) (s : Spread) (k : Known x s) where
   known-apart = ap (λ (g : Told). apartBy (g .kind)) known-given ∙ kind-life (s .flood) ∙ sym row-life
 
 -- one kind, session and initiator are one key
-kind-flood : (f g : Bool) → pick {A = ℕ} f 9 1 ≡ pick g 9 1 → f ≡ g
-unfolding pick
-kind-flood true true e = refl
-kind-flood true false e = absurd (omega arith)
-kind-flood false true e = absurd (omega arith)
-kind-flood false false e = refl
-
 same-key : (x y : Step) (s s′ : Spread) → Known x s → Known y s′ → SameKey x y → keyIn (x .call .message) s ≡ keyIn (y .call .message) s′
 unfolding keyIn
 same-key x y s s′ kx ky same =
     let gx = known-given x s kx in
     let gy = known-given y s′ ky in
-    let floods : s .flood ≡ s′ .flood = kind-flood (s .flood) (s′ .flood) (sym (ap (λ (g : Told). g .kind) gx) ∙ same .kind ∙ ap (λ (g : Told). g .kind) gy) in
+    let floods : s .flood ≡ s′ .flood = flag-same 9 1 (λ e. omega arith) (s .flood) (s′ .flood) (sym (ap (λ (g : Told). g .kind) gx) ∙ same .kind ∙ ap (λ (g : Told). g .kind) gy) in
     let sessions : s .session ≡ s′ .session = sym (ap (λ (g : Told). g .session) gx) ∙ same .session ∙ ap (λ (g : Told). g .session) gy in
     let initiators : held (x .call .message) (s .initiator) ≡ held (y .call .message) (s′ .initiator) =
     sym (ap (λ (g : Told). g .initiator) gx) ∙ same .initiator ∙ ap (λ (g : Told). g .initiator) gy in
@@ -288,7 +281,7 @@ total (links mask ∷ es) r t =
 other-rows : (x : Step) (l : List Step) → Every (Behind x) l → Every (Near x) l → Every (λ i. rowOf x ≢ i) (map rowOf l)
 other-rows x [] h near = tt
 other-rows x (y ∷ ys) h near = (
-  λ e. let far = h .0 .rows e in let close = near .0 .up in omega arith,
+  λ e. let far = h .0 .rows e in let close = near .0 in omega arith,
   other-rows x ys (h .1) (near .1),
 )
 

@@ -49,6 +49,7 @@ set-wide (x ∷ t) (suc i) v h w = (w .0, set-wide t i v h (w .1))
 set-fits : (t : List ℕ) (i v : ℕ) → v < 2 ^ 64 → TableFits t → TableFits (set t i v)
 set-fits t i v h w = record { sized = length-set t i v ∙ w .sized; wide = set-wide t i v h (w .wide) }
 
+-- a key of three numbers of 64 bits
 pub record KeyFits (k : Key) : Type 0 where
   pub first : k .first < 2 ^ 64
   pub second : k .second < 2 ^ 64

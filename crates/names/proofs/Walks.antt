@@ -9,6 +9,7 @@ use native.Mathlib.Decide.{decLt}
 use native.Mathlib.Omega.{arith}
 use lib.Dec.{eqb}
 use lib.ListN.{length, getD, drop}
+use lib.Seq.{drop-cons}
 use borrow.Author.Tests.{eq-eqb, ne-eqb}
 use Rattle.options.specs.Text.{contentIn}
 use Rattle.base.proofs.Parts.{drop-past}
@@ -17,12 +18,6 @@ use Rattle.cbor.specs.Token.{tokenAt}
 use Rattle.names.specs.Names.{goodName, goodNames, sameBytes, namedFrom}
 
 -- ---- bytes
-
--- what stands at i
-pub front-at : (l : List ℕ) (i : ℕ) → i < length l → drop i l ≡ getD l i 0 ∷ drop (suc i) l
-front-at [] i h = absurd (omega arith)
-front-at (x ∷ l) zero h = refl
-front-at (x ∷ l) (suc i) h = let shorter : i < length l = omega arith in front-at l i shorter
 
 -- a later difference
 later : (t : Bool) {u : Bool} → false ≡ u → false ≡ (t && u)
@@ -50,7 +45,7 @@ module _ (a b : List ℕ) (i : ℕ) (same : length a ≡ length b) where
   same-next q e = rw add-one (sym (on (decLt i (length a))) ∙ e)
     where
       on : Dec (i < length a) → sameBytes (drop i a) (drop i b) ≡ sameBytes (drop (suc i) a) (drop (suc i) b)
-      on (yes h) = rw (front-at a i h, front-at b i (omega arith), eq-eqb (getD a i 0) (getD b i 0) q) refl
+      on (yes h) = rw (drop-cons a i 0 h, drop-cons b i 0 (omega arith), eq-eqb (getD a i 0) (getD b i 0) q) refl
       on (no h) = rw (drop-past a i (omega arith), drop-past b i (omega arith), drop-past a (suc i) (omega arith), drop-past b (suc i) (omega arith)) refl
 
   pub same-end : length a ≤ i → sameBytes (drop i a) (drop i b) ≡ sameBytes a b → true ≡ sameBytes a b

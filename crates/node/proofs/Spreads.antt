@@ -8,8 +8,10 @@ use native.Mathlib.Omega.{arith}
 use lib.ListN.{length}
 use Rattle.options.specs.declared.Span.{Span}
 use Rattle.options.specs.declared.objective.Objective.{Objective}
+use Rattle.options.specs.declared.pair.Pair.{Pair}
 use Rattle.message.specs.declared.Message.{Message}
 use Rattle.message.specs.declared.Message.the-variants as M
+use Rattle.message.specs.declared.Series.{Series}
 use Rattle.message.specs.Read.{mostBytes}
 use Rattle.message.proofs.Parts.{SpreadParts, MessageParts, read-parts}
 use Rattle.roundtrip.specs.Lower.{Lowers}
@@ -29,26 +31,33 @@ spread-in : {message : List ℕ} {session : ℕ} {i : Span} {o : Objective} (flo
 spread-in flood low h =
     record { within = record { initiator = h .within; bytes = h .bytes; name = h .objective .name }; session = omega (arith, h .session); lowers = low }
 
-spreading : (message : List ℕ) (s : Spread) (m : Message) → MessageParts message m → roleOf m ≡ Role.Spreads s → Spreading message m s
+-- a message that spreads: a Discovery, or a Flood by its first objective
+pub data SpreadBy : Message → Spread → Type 0 where
+  discovery : {session : ℕ} {i : Span} {o : Objective} → SpreadBy (M.Discovery session i o) (spreadOf false session i o)
+  flood : {session ttl : ℕ} {i : Span} {first : Pair} {pairs : Series} → SpreadBy (M.Flood session i ttl first pairs) (spreadOf true session i (first .objective))
+
+pub spread-by : (m : Message) (s : Spread) → roleOf m ≡ Role.Spreads s → SpreadBy m s
 unfolding roleOf
-spreading message s (M.Discovery session i o) h e =
-    let same : spreadOf false session i o ≡ s = cc in
-    subst (Spreading message (M.Discovery session i o)) same (spread-in false Lowers.discovery h)
-spreading message s (M.Flood session i ttl first series) h e =
+spread-by (M.Discovery session i o) s e = let same : spreadOf false session i o ≡ s = cc in subst (SpreadBy (M.Discovery session i o)) same SpreadBy.discovery
+spread-by (M.Flood session i ttl first pairs) s e =
     let same : spreadOf true session i (first .objective) ≡ s = cc in
-    subst (Spreading message (M.Flood session i ttl first series)) same (spread-in true Lowers.flood (h .0))
-spreading message s M.Noop h e = absurd (let z : _≡_ {A = ℕ} 0 1 = cc in omega arith)
-spreading message s (M.Response session i ttl targets extra) h e = absurd (let z : _≡_ {A = ℕ} 0 1 = cc in omega arith)
-spreading message s (M.RequestNegotiation session o) h e = absurd (let z : _≡_ {A = ℕ} 0 1 = cc in omega arith)
-spreading message s (M.RequestSynchronization session o) h e = absurd (let z : _≡_ {A = ℕ} 0 1 = cc in omega arith)
-spreading message s (M.Negotiate session o) h e = absurd (let z : _≡_ {A = ℕ} 0 1 = cc in omega arith)
-spreading message s (M.End session outcome) h e = absurd (let z : _≡_ {A = ℕ} 0 1 = cc in omega arith)
-spreading message s (M.Wait session time) h e = absurd (let z : _≡_ {A = ℕ} 0 1 = cc in omega arith)
-spreading message s (M.Synch session o) h e = absurd (let z : _≡_ {A = ℕ} 0 1 = cc in omega arith)
-spreading message s (M.Invalid session item) h e = absurd (let z : _≡_ {A = ℕ} 0 1 = cc in omega arith)
+    subst (SpreadBy (M.Flood session i ttl first pairs)) same SpreadBy.flood
+spread-by M.Noop s e = absurd (let z : _≡_ {A = ℕ} 0 1 = cc in omega arith)
+spread-by (M.Response session i ttl targets extra) s e = absurd (let z : _≡_ {A = ℕ} 0 1 = cc in omega arith)
+spread-by (M.RequestNegotiation session o) s e = absurd (let z : _≡_ {A = ℕ} 0 1 = cc in omega arith)
+spread-by (M.RequestSynchronization session o) s e = absurd (let z : _≡_ {A = ℕ} 0 1 = cc in omega arith)
+spread-by (M.Negotiate session o) s e = absurd (let z : _≡_ {A = ℕ} 0 1 = cc in omega arith)
+spread-by (M.End session outcome) s e = absurd (let z : _≡_ {A = ℕ} 0 1 = cc in omega arith)
+spread-by (M.Wait session time) s e = absurd (let z : _≡_ {A = ℕ} 0 1 = cc in omega arith)
+spread-by (M.Synch session o) s e = absurd (let z : _≡_ {A = ℕ} 0 1 = cc in omega arith)
+spread-by (M.Invalid session item) s e = absurd (let z : _≡_ {A = ℕ} 0 1 = cc in omega arith)
+
+spreading : {message : List ℕ} {m : Message} {s : Spread} → SpreadBy m s → MessageParts message m → Spreading message m s
+spreading SpreadBy.discovery h = spread-in false Lowers.discovery h
+spreading SpreadBy.flood h = spread-in true Lowers.flood (h .0)
 
 pub role-spreading : (message : List ℕ) (s : Spread) → (r : RoleIn message (Role.Spreads s)) → Spreading message (r .is) s
-role-spreading message s r = spreading message s (r .is) (read-parts message (r .is) (r .read) .1) (r .plays)
+role-spreading message s r = spreading (spread-by (r .is) s (r .plays)) (read-parts message (r .is) (r .read) .1)
 
 -- a message that was read has at most 2,048 bytes
 pub read-most : (message : List ℕ) (role : Role) → RoleIn message role → length message ≤ mostBytes

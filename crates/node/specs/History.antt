@@ -154,10 +154,9 @@ pub record GoesOut (interfaces : ℕ) (x : Step) : Type 0 where
   pub positive : 0 < sent x .count
   pub lower : sent x .count + 1 ≡ given x .count
 
--- two clocks less than 60,000 ms apart
-pub record Near (x y : Step) : Type 0 where
-  pub up : clockOf y < clockOf x + 60000
-  pub down : clockOf x < clockOf y + 60000
+-- the clocks are less than 60,000 ms apart: x stands before y in the list, so its clock isn't later
+abbrev pub Near : Step → Step → Type 0
+Near x y = clockOf y < clockOf x + 60000
 
 -- at most 64 relays, and their copies at most 64 times one less than the interfaces
 pub record Few (interfaces : ℕ) (chosen : List Step) : Type 0 where

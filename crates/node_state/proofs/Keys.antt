@@ -1,6 +1,6 @@
 -- The keys of rows: what a key's numbers are, how long its row lives, and that equal numbers are equal keys.
 -- Assumes nothing.
-use mathlib.Core.Path.{_≡_, refl, ap, _∙_}
+use mathlib.Core.Path.{_≡_, refl, sym, ap, _∙_}
 use mathlib.Core.Bool.{Bool, true, false}
 use mathlib.Core.Logic.{_⊎_, inl, inr}
 use mathlib.Core.List.{List}
@@ -23,6 +23,14 @@ pub tag-range : (flood : Bool) (len : ℕ) → (1 ≤ tagOf flood len) × (tagOf
 unfolding tagOf pick
 tag-range true len = both (λ (g : ℕ). (1 ≤ g) × (g ≤ 4)) (eqb len 4) (omega arith) (omega arith)
 tag-range false len = both (λ (g : ℕ). (1 ≤ g) × (g ≤ 4)) (eqb len 4) (omega arith) (omega arith)
+
+-- a flag is told by the one of two numbers that it chooses
+pub flag-same : (a b : ℕ) → (a ≡ b → ⊥) → (f g : Bool) → pick f a b ≡ pick g a b → f ≡ g
+unfolding pick
+flag-same a b n true true e = refl
+flag-same a b n true false e = absurd (n e)
+flag-same a b n false true e = absurd (n (sym e))
+flag-same a b n false false e = refl
 
 -- ---- a key by its numbers
 

@@ -360,13 +360,9 @@ pass-live now t u i e d =
 pub pass-length : (now : ℕ) (t u : List ℕ) (i : ℕ) → u ≡ freeRows now t i → length t ≡ 256 → length u ≡ 256
 pass-length now t u i e sized = ap length e ∙ length-free now t i ∙ sized
 
-life-some : (first : ℕ) → 0 < rowLife first
-unfolding rowLife
-life-some first = both (λ (n : ℕ). 0 < n) _ (omega arith) (omega arith)
-
 -- a row that was admitted after the clock lives
 pub later-lives : (first now d : ℕ) → now < d → false ≡ leb (rowLife first) (now - d)
-later-lives first now d l = sym (lt-leb (rowLife first) (now - d) (omega (arith, life-some first)))
+later-lives first now d l = sym (lt-leb (rowLife first) (now - d) (omega (arith, life-least first)))
 
 -- the lowest free row filled, and where none is free
 module _ (t : List ℕ) (row : ℕ) (k : Key) (clock : ℕ) (sized : length t ≡ 256) (e : row ≡ lowestFree t) where

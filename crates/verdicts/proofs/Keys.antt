@@ -13,6 +13,7 @@ use Rattle.base.specs.Pick.{pick}
 use Rattle.base.specs.BigEndian.{bigEndian, bytesOf, Bytes}
 use Rattle.base.proofs.Digits.{spelled}
 use Rattle.base.proofs.Parts.{bytes-drop}
+use Rattle.node_state.proofs.Keys.{flag-same}
 use Rattle.node_state.specs.declared.key.Key.{Key}
 use Rattle.node_state.specs.Table.{tagIn}
 use Rattle.node_state.specs.Key.{tagOf, keyOf}
@@ -37,13 +38,6 @@ first-same : (s s′ g g′ : ℕ) → s < 2 ^ 32 → s′ < 2 ^ 32 → s + 2 ^ 
 first-same s s′ g g′ h h′ e =
     let tags : g ≡ g′ = sym (tag-read s g h) ∙ ap tagIn e ∙ tag-read s′ g′ h′ in
     (tags, let e′ : s + 2 ^ 32 * g ≡ s′ + 2 ^ 32 * g = rw (← tags) at e in omega arith)
-
-flag-same : (a b : ℕ) → (a ≡ b → ⊥) → (f g : Bool) → pick f a b ≡ pick g a b → f ≡ g
-unfolding pick
-flag-same a b n true true e = refl
-flag-same a b n true false e = absurd (n e)
-flag-same a b n false true e = absurd (n (sym e))
-flag-same a b n false false e = refl
 
 lengths-differ : (f g : Bool) → _≡_ {A = ℕ} (pick f 3 1) (pick g 4 2) → ⊥
 unfolding pick
