@@ -26,7 +26,7 @@ use Rattle.options.specs.Text.{contentIn}
 use Rattle.options.specs.Locator.{addressFits, protocolOf, portOf, locatorOf, textOf, locatorIn, locatorReached, locatorAt}
 use Rattle.syntax.specs.Message.{Loc}
 use Rattle.grammar.specs.Cddl.{LocatorItem}
-use Rattle.grammar.specs.Stands.{Stands, ArrayHead, locOf, LocatorIs, LocatorStands}
+use Rattle.grammar.specs.Stands.{Stands, ArrayHead, locOf, LocatorStands}
 use Rattle.grammar.proofs.Bridge.{split, join, last, only, lift, lift-first, sink-first, advances, string-major, token-heading, number-token, text-token, array-token}
 use Rattle.grammar.proofs.Pieces.{array-items, number-is, number-here, content-bytes, text-size, text-at, array-head, array-at, lift-head, content-there}
 use Rattle.grammar.proofs.One.{locator-one}
