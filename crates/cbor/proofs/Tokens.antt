@@ -4,7 +4,7 @@ use mathlib.Core.Path.{_≡_, refl, sym, ap, _∙_, subst}
 use mathlib.Core.List.{List, [], _∷_}
 use mathlib.Core.Bool.{Bool, true, false}
 use Prim.Native.Nat.{ℕ, _+_, _-_, _/_, _%_, _≤_, _<_, zero-le}
-use native.Mathlib.Nat.{add-zero, le-refl}
+use native.Mathlib.Nat.{add-zero, le-refl, le-of-lt}
 use native.Mathlib.Omega.{arith}
 use lib.ListN.{length, take, drop, length-drop}
 use lib.Seq.{drop-drop}
@@ -46,9 +46,9 @@ unfolding tokenFrom
 token-from-ok at room (HeadRead.Refused number place) h = nothing-ok _ at
 token-from-ok at room (HeadRead.Head major arg len) h = token-of-ok at room major arg len (h .1)
 
-pub token-past : (s : List ℕ) (at : ℕ) → length s < at → tokenAt s at ≡ nothingAt at
+token-past : (s : List ℕ) (at : ℕ) → length s ≤ at → tokenAt s at ≡ nothingAt at
 unfolding tokenAt tokenFrom headAt
-token-past s at h = rw (drop-past s at (omega arith))
+token-past s at h = rw (drop-past s at h)
 
 -- the bounds of a token that is read
 pub token-is : (s : List ℕ) (at : ℕ) (t : Token) → t ≡ tokenAt s at → TokenIs s at t
@@ -62,9 +62,9 @@ token-is s at t e = by (leb at (length s)) refl
     by true h =
         let sum : at + length (drop at s) ≡ length s = omega (arith, length-drop at s, leb-true at (length s) h) in
         as-record (rw sum at (subst (Bounds (at + length (drop at s)) at) (sym e) (token-from-ok at (length (drop at s)) (headAt (drop at s)) (head-ok (drop at s)))))
-    by false h = as-record (subst (Bounds (length s) at) (sym (e ∙ token-past s at (leb-false at (length s) h))) (nothing-ok (length s) at))
+    by false h = as-record (subst (Bounds (length s) at) (sym (e ∙ token-past s at (le-of-lt (leb-false at (length s) h)))) (nothing-ok (length s) at))
 
-pub token-none : (s : List ℕ) (at : ℕ) (t : Token) → length s < at → t ≡ nothingAt at → TokenIs s at t
+pub token-none : (s : List ℕ) (at : ℕ) (t : Token) → length s ≤ at → t ≡ nothingAt at → TokenIs s at t
 token-none s at t h e = token-is s at t (e ∙ sym (token-past s at h))
 
 pub token-found : (s : List ℕ) (at : ℕ) (t : Token) (x y : HeadRead) → y ≡ headAt (take (length s - at) (drop at s)) → y ≡ x
@@ -206,10 +206,10 @@ first-of-nothing : (levels : ℕ) → firstItem levels [] ≡ ItemRead.Refused 2
 unfolding firstItem run enough next stepAt stepFrom headAt
 first-of-nothing levels = refl
 
-pub size-none : (levels : ℕ) (s : List ℕ) (at : ℕ) → length s < at → SizeIs levels s at 0
+pub size-none : (levels : ℕ) (s : List ℕ) (at : ℕ) → length s ≤ at → SizeIs levels s at 0
 unfolding sizeAt sizeFrom
 size-none levels s at h =
-    record { is = sym (ap (λ (l : List ℕ). sizeFrom (firstItem levels l)) (drop-past s at (omega arith)) ∙ ap sizeFrom (first-of-nothing levels)); within = zero-le }
+    record { is = sym (ap (λ (l : List ℕ). sizeFrom (firstItem levels l)) (drop-past s at h) ∙ ap sizeFrom (first-of-nothing levels)); within = zero-le }
 
 pub size-found : (levels : ℕ) (s : List ℕ) (at : ℕ) (x y : ItemRead) → y ≡ firstItem levels (take (length s - at) (drop at s)) → y ≡ x → SizeIs levels s at (sizeFrom x)
 unfolding sizeAt

@@ -22,7 +22,7 @@ use Rattle.message.specs.Opening.{objectiveLevels}
 use Rattle.message.specs.Shape.{discovered, discoveryAt, exchangeOf, exchanged, exchangeAt}
 use Rattle.exact.specs.Describes.{KindIs, NumberIs, Describes}
 use Rattle.exact.proofs.Noted.{single}
-use Rattle.exact.proofs.Whole.{partLevels, ShapeOk, past-case, held-case, Reads, taken, skipped, Kinded, kind-is, built}
+use Rattle.exact.proofs.Whole.{partLevels, IfGood, ShapeOk, past-case, held-case, Reads, taken, skipped, Kinded, kind-is, built}
 use Rattle.exact.proofs.Heads.{NumberHere, number-is-here, InitiatorHere, initiator-is, number-at-most, initiator-at, number-passed, initiator-passed}
 
 -- ---- 1, Discovery
@@ -30,7 +30,7 @@ use Rattle.exact.proofs.Heads.{NumberHere, number-is-here, InitiatorHer
 discovered-sound : {s : List ℕ} {at p q session : ℕ} {i : Span} → Kinded s 1 4 at → NumberHere s at p session → InitiatorHere s p q i
     → (x : ObjectiveRead) → objectiveAt objectiveLevels s q ≡ x → ShapeOk s (discovered session i q x)
 unfolding discovered count textsOf namesOf
-discovered-sound k i j (ObjectiveRead.Bad place) e = ShapeOk.bad
+discovered-sound k i j (ObjectiveRead.Bad place) e = IfGood.bad
 discovered-sound {s} {q = q} k i j (ObjectiveRead.Got o size bad long) e =
     let x = objective-sound objectiveLevels s q o size bad long (k .bytes) e in
     built k _ _ (Msg.discovery _ (j .content) (x .obj)) refl (join (i .stands) (join (j .stands) (last (x .stands))))
@@ -79,7 +79,7 @@ record Exchange (kind : ℕ) : Type 0 where
 exchanged-sound : {s : List ℕ} {kind at p session : ℕ} → Exchange kind → Kinded s kind 3 at → NumberHere s at p session
     → (x : ObjectiveRead) → objectiveAt objectiveLevels s p ≡ x → ShapeOk s (exchanged kind session p x)
 unfolding exchanged count
-exchanged-sound c k i (ObjectiveRead.Bad place) e = ShapeOk.bad
+exchanged-sound c k i (ObjectiveRead.Bad place) e = IfGood.bad
 exchanged-sound {s} {kind} {at} {p} {session} c k i (ObjectiveRead.Got o size bad long) e =
     let x = objective-sound objectiveLevels s p o size bad long (k .bytes) e in
     built k _ _ (c .msg session (x .obj)) refl (join (i .stands) (last (x .stands)))

@@ -20,7 +20,7 @@ use Rattle.syntax.specs.Message.{Pair, Msg}
 use Rattle.grammar.specs.Cddl.{Number, Initiator, PairItems, MessageItem, Value}
 use Rattle.grammar.specs.Limits.{Utf8, Short, pairTexts, pairName, textsOf, namesOf}
 use Rattle.grammar.specs.Stands.{StandAll, PairStands}
-use Rattle.grammar.proofs.Bridge.{join, none, split}
+use Rattle.grammar.proofs.Bridge.{join, none, split, stands-within}
 use Rattle.grammar.proofs.Pairs.{pair-sound, pair-read}
 use Rattle.message.specs.declared.opening.Opening.{Opening}
 use Rattle.message.specs.declared.opening.OpeningRead.{OpeningRead}
@@ -29,7 +29,7 @@ use Rattle.message.specs.Sequence.{pairThen, pairsFrom}
 use Rattle.message.specs.Flood.{floodedBy, floodedOf, floodedAt, floodBy, floodAt}
 use Rattle.exact.specs.Describes.{Describes}
 use Rattle.exact.proofs.Noted.{single, none-noted, then-noted, more-noted}
-use Rattle.exact.proofs.Whole.{partLevels, ShapeOk, past-case, Reads, skipped, Kinded, kind-is, built}
+use Rattle.exact.proofs.Whole.{partLevels, IfGood, ShapeOk, past-case, Reads, skipped, Kinded, kind-is, built}
 use Rattle.exact.proofs.Heads.{number-is-here, initiator-is}
 use Rattle.exact.proofs.Opening.{OpeningHere, OpeningOk, opening-sound, opening-complete}
 
@@ -74,7 +74,7 @@ module _ {s : List ℕ} (b : Bytes s) where
   next-sound go (PairRead.Bad place) e = PairsOk.refused
   next-sound {p} {bad = bad} {long} go (PairRead.Got o t size bad′ long′) e =
       let i = pair-sound s p o t size bad′ long′ b e in
-      one-more i (go (p + size) (firstOf bad bad′) (firstOf long long′) (i .stands .within))
+      one-more i (go (p + size) (firstOf bad bad′) (firstOf long long′) (stands-within (i .stands)))
 
   -- pairs stand one after the other where they are read
   pairs-sound : (n p bad long : ℕ) → p ≤ length s → PairsOk s p n bad long (pairsFrom s n p bad long)
@@ -88,7 +88,7 @@ module _ {s : List ℕ} {n at next : ℕ} (k : Kinded s 9 n at) {opening : Openi
   flooded-by-sound : {e bad long : ℕ} {first : P.Pair} → PairStands s next e (first .objective) (first .tag) bad long → (x : PairsRead) → PairsOk s e (parts - 1) bad long x
       → ShapeOk s (floodedBy opening first (record { at = next; many = parts }) x)
   unfolding floodedBy count textsOf namesOf flatMap
-  flooded-by-sound i _ PairsOk.refused = ShapeOk.bad
+  flooded-by-sound i _ PairsOk.refused = IfGood.bad
   flooded-by-sound i _ (PairsOk.ran r) =
       let pairs = PairItems.more (i .is) (r .are) in
       let stand = join (i .stands) (r .stand) in
@@ -103,15 +103,15 @@ module _ {s : List ℕ} {n at next : ℕ} (k : Kinded s 9 n at) {opening : Openi
   -- the first pair
   flooded-of-sound : (x : PairRead) → pairAt s next ≡ x → ShapeOk s (floodedOf s opening parts next x)
   unfolding floodedOf
-  flooded-of-sound (PairRead.Bad place) e = ShapeOk.bad
+  flooded-of-sound (PairRead.Bad place) e = IfGood.bad
   flooded-of-sound (PairRead.Got o t size bad long) e =
       let i = pair-sound s next o t size bad long (k .bytes) e in
-      flooded-by-sound i _ (pairs-sound (k .bytes) (parts - 1) (next + size) bad long (i .stands .within))
+      flooded-by-sound i _ (pairs-sound (k .bytes) (parts - 1) (next + size) bad long (stands-within (i .stands)))
 
 -- after the opening
 flood-by-sound : {s : List ℕ} {n at : ℕ} → Kinded s 9 n at → 5 ≤ n → (x : OpeningRead) → OpeningOk s at x → ShapeOk s (floodBy s n x)
 unfolding floodBy floodedAt
-flood-by-sound k five _ OpeningOk.bad = ShapeOk.bad
+flood-by-sound k five _ OpeningOk.bad = IfGood.bad
 flood-by-sound k five _ (OpeningOk.got h) = flooded-of-sound k h (omega arith) (omega arith) _ refl
 
 -- what is read is a Flood

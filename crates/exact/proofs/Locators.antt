@@ -24,7 +24,7 @@ use Rattle.syntax.specs.Message.{Loc, Obj}
 use Rattle.grammar.specs.Cddl.{uint, LocatorItem, LocatorItems, ObjectiveItem, Value}
 use Rattle.grammar.specs.Limits.{Utf8, locTexts}
 use Rattle.grammar.specs.Stands.{StandAll, LocatorStands}
-use Rattle.grammar.proofs.Bridge.{join, none, none-end, split}
+use Rattle.grammar.proofs.Bridge.{join, none, none-end, split, stands-within}
 use Rattle.grammar.proofs.Pieces.{array-items}
 use Rattle.grammar.proofs.Locators.{locator-sound, locator-read}
 use Rattle.message.specs.declared.sequence.LocatorsRead.{LocatorsRead}
@@ -78,7 +78,7 @@ module _ {s : List ℕ} (b : Bytes s) where
   next-sound go (LocatorRead.Bad place) e = LocatorsOk.refused
   next-sound {p} {bad = bad} go (LocatorRead.Got l size bad′) e =
       let i = locator-sound s p l size bad′ b e in
-      one-more i (go (p + size) (firstOf bad bad′) (i .stands .within))
+      one-more i (go (p + size) (firstOf bad bad′) (stands-within (i .stands)))
 
   -- locators stand one after the other where they are read
   pub locators-sound : (n p bad : ℕ) → p ≤ length s → LocatorsOk s p n bad (locatorsFrom s n p bad)

@@ -20,7 +20,7 @@ use Rattle.syntax.specs.Message.{Ending, Msg}
 use Rattle.grammar.specs.Cddl.{uint, list, Number, EndingItem, MessageItem}
 use Rattle.grammar.specs.Limits.{Utf8, textsOf, namesOf, endingTexts}
 use Rattle.grammar.specs.Stands.{Stands, StandAll, ValueIs, Before}
-use Rattle.grammar.proofs.Bridge.{token-heading, advances, join, none as no-items, last, only}
+use Rattle.grammar.proofs.Bridge.{token-heading, advances, join, none as no-items, last, only, stands-within}
 use Rattle.grammar.proofs.Pieces.{array-at, array-items, number-here, number-is}
 use Rattle.grammar.proofs.Texts.{bad-text}
 use Rattle.grammar.proofs.Sizes.{sized-item, item-sized}
@@ -39,7 +39,7 @@ pub noop-sound : {s : List ℕ} {n at : ℕ} → Kinded s 0 n at → ShapeOk s (
 unfolding noopAt count textsOf namesOf
 noop-sound {n = n} k =
     held-case _
-    (λ one. built k _ Items.done Msg.noop (eqb-true n 1 one) (no-items (k .lead .within)) (λ w v. MessageItem.noop) (λ _. Describes.noop) (clean tt) (clean tt))
+    (λ one. built k _ Items.done Msg.noop (eqb-true n 1 one) (no-items (stands-within (k .lead))) (λ w v. MessageItem.noop) (λ _. Describes.noop) (clean tt) (clean tt))
 
 -- a Noop is read
 pub noop-complete : (at : ℕ) → Reads (noopAt 1 at)

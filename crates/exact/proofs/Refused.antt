@@ -36,13 +36,13 @@ judged-long : (m : Message) (end bad long : ℕ) → bad ≡ 0 → (long ≡ 0 �
 unfolding judgedShape placeless pick
 judged-long m end bad long e e′ = rw (e, ne-eqb long 0 e′)
 
--- neither too short nor too long
-placed-fit : {s : List ℕ} → Fits s → readPlaced s ≡ framed s (firstItem 0 s)
+-- neither too short nor too long: the walk is asked first
+pub placed-fit : {s : List ℕ} → Fits s → readPlaced s ≡ framed s (firstItem 0 s)
 unfolding readPlaced pick
 placed-fit {s} f = rw (ne-eqb (length s) 0 (f .some), le-ltb mostBytes (length s) (f .most))
 
 -- row by row
-row-given : (s : List ℕ) (n : ℕ) → Row s n → readOf s ≡ Reading.Refused n
+pub row-given : (s : List ℕ) (n : ℕ) → Row s n → readOf s ≡ Reading.Refused n
 unfolding readOf placeless readPlaced framed pick
 row-given s _ (Row.size (inl e)) = rw (eq-eqb (length s) 0 e)
 row-given s _ (Row.size (inr h)) = rw (ne-eqb (length s) 0 (λ z. omega arith), lt-ltb mostBytes (length s) h)

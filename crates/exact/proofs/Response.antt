@@ -25,7 +25,7 @@ use Rattle.grammar.specs.Cddl.{uint, joined, Number, Initiator, LocatorItems, O
 use Rattle.grammar.specs.Limits.{Utf8, Short, locTexts, optionalNames, aimTexts, textsOf, namesOf}
 use Rattle.grammar.specs.Stands.{Stands, StandAll, ArrayHead, ObjectiveIs}
 use Rattle.grammar.proofs.Objectives.{objective-sound}
-use Rattle.grammar.proofs.Bridge.{token-heading, join, none as no-items, last, split, none-end}
+use Rattle.grammar.proofs.Bridge.{token-heading, join, none as no-items, last, split, none-end, stands-within}
 use Rattle.grammar.proofs.Pieces.{array-items, array-head, head-array, number-here, number-is}
 use Rattle.message.specs.declared.Targets.{Targets}
 use Rattle.message.specs.declared.Extra.{Extra}
@@ -38,7 +38,7 @@ use Rattle.message.specs.Sequence.{locatorsFrom}
 use Rattle.message.specs.Response.{responseOf, restOf, restAt, divertOf, divertAt, locatedOf, locatedAt, targetsAt, responseBy, responseAt}
 use Rattle.exact.specs.Describes.{AimIs, ExtraIs, Describes}
 use Rattle.exact.proofs.Noted.{clean, single, none-noted, first-noted, then-noted, more-noted}
-use Rattle.exact.proofs.Whole.{partLevels, ShapeOk, past-case, held-case, Reads, taken, skipped, Kinded, kind-is, built}
+use Rattle.exact.proofs.Whole.{partLevels, IfGood, ShapeOk, past-case, held-case, Reads, taken, skipped, Kinded, kind-is, built}
 use Rattle.exact.proofs.Heads.{number-is-here, initiator-is, uint-passed, array-passed}
 use Rattle.exact.proofs.Exchange.{objective-reads}
 use Rattle.exact.proofs.Opening.{OpeningHere, OpeningOk, opening-sound, opening-complete}
@@ -73,7 +73,7 @@ module _ {s : List ℕ} {opening : Opening} {targets : Targets} {left p bad : �
   -- one objective, and then the end
   rest-of-sound : (x : ObjectiveRead) → objectiveAt objectiveLevels s p ≡ x → ShapeOk s (restOf s opening targets left p bad x)
   unfolding restOf count optionalNames
-  rest-of-sound (ObjectiveRead.Bad place) e = ShapeOk.bad
+  rest-of-sound (ObjectiveRead.Bad place) e = IfGood.bad
   rest-of-sound (ObjectiveRead.Got o size bad′ long) e =
       let x = objective-sound objectiveLevels s p o size bad′ long bytes e in
       held-case _
@@ -135,7 +135,7 @@ module _ {s : List ℕ} {n at next : ℕ} (k : Kinded s 2 n at) {opening : Openi
   -- what the loop answers
   located-of-sound : {parts : ℕ} → n ≡ 4 + parts → (x : LocatorsRead) → LocatorsOk s next parts 0 x → ShapeOk s (locatedOf s opening parts next x)
   unfolding locatedOf
-  located-of-sound counted _ LocatorsOk.refused = ShapeOk.bad
+  located-of-sound counted _ LocatorsOk.refused = IfGood.bad
   located-of-sound {parts} counted _ (LocatorsOk.ran {left = left} l) =
       past-case _
       (λ more. rest-sound (k .bytes)
@@ -145,7 +145,7 @@ module _ {s : List ℕ} {n at next : ℕ} (k : Kinded s 2 n at) {opening : Openi
   -- locators first
   located-sound : (parts : ℕ) → n ≡ 4 + parts → ShapeOk s (locatedAt s opening parts next)
   unfolding locatedAt
-  located-sound parts counted = located-of-sound counted _ (locators-sound (k .bytes) parts next 0 (h .ttl .stands .within))
+  located-sound parts counted = located-of-sound counted _ (locators-sound (k .bytes) parts next 0 (stands-within (h .ttl .stands)))
 
   -- a divert, and what follows it
   divert-finish : {many from p′ q left bad end bad′ long v : ℕ} {extra : Extra} {xs : Items} {ls : List Loc} → n ≡ 5 + left → many ≡ count xs → (count xs ≡ 0 → ⊥)
@@ -162,7 +162,7 @@ module _ {s : List ℕ} {n at next : ℕ} (k : Kinded s 2 n at) {opening : Openi
   divert-of-sound : (left : ℕ) {many from q v : ℕ} → n ≡ 5 + left → (many ≡ 0 → ⊥) → ArrayHead s next q (suc many) → Stands s q from (uint v 100)
       → (x : LocatorsRead) → LocatorsOk s from many 0 x → ShapeOk s (divertOf s opening left many from x)
   unfolding divertOf
-  divert-of-sound left counted filled head lead _ LocatorsOk.refused = ShapeOk.bad
+  divert-of-sound left counted filled head lead _ LocatorsOk.refused = IfGood.bad
   divert-of-sound left {many} counted filled head lead _ (LocatorsOk.ran {left = over} l) =
       held-case _
       (λ zero.
@@ -184,7 +184,7 @@ module _ {s : List ℕ} {n at next : ℕ} (k : Kinded s 2 n at) {opening : Openi
       (λ e.
       let two : 2 ≤ o .arg = ltb-false (o .arg) 2 e in
       let opened = subst (ArrayHead s next (o .next)) (omega arith) (array-head head array) in
-      divert-of-sound left counted (λ z. omega arith) opened lead _ (locators-sound (k .bytes) (o .arg - 1) (x .next) 0 (lead .within)))
+      divert-of-sound left counted (λ z. omega arith) opened lead _ (locators-sound (k .bytes) (o .arg - 1) (x .next) 0 (stands-within lead)))
 
   -- what follows the ttl
   targets-sound : (parts : ℕ) → n ≡ 4 + parts → (parts ≡ 0 → ⊥) → ShapeOk s (targetsAt s opening parts next)
@@ -200,7 +200,7 @@ module _ {s : List ℕ} {n at next : ℕ} (k : Kinded s 2 n at) {opening : Openi
 -- after the opening
 response-by-sound : {s : List ℕ} {n at : ℕ} → Kinded s 2 n at → 5 ≤ n → (x : OpeningRead) → OpeningOk s at x → ShapeOk s (responseBy s n x)
 unfolding responseBy
-response-by-sound k five _ OpeningOk.bad = ShapeOk.bad
+response-by-sound k five _ OpeningOk.bad = IfGood.bad
 response-by-sound {n = n} k five _ (OpeningOk.got h) = targets-sound k h (n - 4) (omega arith) (λ z. omega arith)
 
 -- what is read is a Response

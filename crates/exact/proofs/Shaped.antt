@@ -31,7 +31,7 @@ use Rattle.message.specs.Shape.{exchangeAt}
 use Rattle.message.specs.Read.{byKind, judgedShape, examined}
 use Rattle.exact.specs.Accepted.{OneItem}
 use Rattle.exact.specs.Rows.{UnknownKind}
-use Rattle.exact.proofs.Whole.{ShapeOk, Reads, Kinded, WholeIs, stands, one-bytes, fills}
+use Rattle.exact.proofs.Whole.{IfGood, ShapeOk, Reads, Kinded, WholeIs, stands, one-bytes, fills}
 use Rattle.exact.proofs.Heads.{uint-at, uint-passed, array-passed}
 use Rattle.exact.proofs.Plain.{noop-sound, noop-complete, wait-sound, wait-complete, invalid-sound, invalid-complete, invalid-with-complete, end-sound, end-complete}
 use Rattle.exact.proofs.Exchange.{discovery-sound, discovery-complete, request-negotiation-sound, request-synchronization-sound, negotiate-sound, synch-sound, exchange-complete}
@@ -173,8 +173,8 @@ module _ {s : List ℕ} (one : OneItem s) where
       (λ _. departs _))
     where
       shape : {r : Shape} → ShapeOk s r → P (judgedShape r)
-      shape (ShapeOk.bad {place}) = departs place
-      shape (ShapeOk.good {m} {end} {bad} {long} i) = reads m end bad long (fills one i)
+      shape (IfGood.bad {place}) = departs place
+      shape (IfGood.good {m} {end} {bad} {long} i) = reads m end bad long (fills one i)
 
 -- an array that a number leads, and what `examined` reads of it
 record Led (s : List ℕ) (kind : ℕ) (xs : Items) : Type 0 where

@@ -3,14 +3,13 @@
 use mathlib.Core.Path.{_≡_, refl, sym, ap, _∙_, subst}
 use mathlib.Core.Logic.{inl}
 use mathlib.Core.List.{List}
-use mathlib.Core.Bool.{Bool, true, false}
+use mathlib.Core.Bool.{true, false}
 use Prim.Native.Nat.{ℕ, zero, suc, _+_, _-_, _≤_}
 use native.Mathlib.Nat.{zero-add}
 use native.Mathlib.Omega.{arith}
 use lib.ListN.{drop}
 use lib.Dec.{ltb}
 use borrow.Author.Tests.{ltb-false, eqb-true, eqb-false}
-use Rattle.base.specs.Pick.{pick}
 use Rattle.base.proofs.Picks.{pick-case, both}
 use Rattle.cbor.specs.declared.item.ItemRead.{ItemRead}
 use Rattle.cbor.specs.declared.token.Token.{Token}
@@ -46,7 +45,7 @@ use Rattle.message.specs.Response.{restOf, restAt, divertOf, divertAt, locatedO
 use Rattle.message.specs.Flood.{floodedBy, floodedOf, floodedAt, floodBy, floodAt}
 use Rattle.message.specs.Read.{byKind, judgedShape, examined}
 use Rattle.message.proofs.Parts.{initiated}
-use Rattle.exact.proofs.Whole.{partLevels}
+use Rattle.exact.proofs.Whole.{partLevels, IfGood, past-case, held-case}
 
 -- what has items has some
 array-filled : (t : Token) → (itemsIn t ≡ 0 → ⊥) → 1 ≤ t .arg
@@ -117,25 +116,17 @@ module _ (s : List ℕ) where
 
   -- ---- the shapes
   -- the n items from p on are passed, up to where the parts of a shape end
-  data ShapeWalked (n p : ℕ) : Shape → Type 0 where
-    refused : {place : ℕ} → ShapeWalked n p (S.Bad place)
-    walked : {m : Message} {end bad long : ℕ} → Parts n p end → ShapeWalked n p (S.Good m end bad long)
-
-  -- what the tests leave
-  past-case : {n p : ℕ} {t : Bool} (place : ℕ) {x : Shape} → (t ≡ false → ShapeWalked n p x) → ShapeWalked n p (pick t (S.Bad place) x)
-  past-case {n} {p} {t} place f = pick-case (ShapeWalked n p) t (λ _. ShapeWalked.refused) f
-
-  held-case : {n p : ℕ} {t : Bool} (place : ℕ) {x : Shape} → (t ≡ true → ShapeWalked n p x) → ShapeWalked n p (pick t x (S.Bad place))
-  held-case {n} {p} {t} place f = pick-case (ShapeWalked n p) t f (λ _. ShapeWalked.refused)
+  abbrev ShapeWalked : ℕ → ℕ → Shape → Type 0
+  ShapeWalked n p = IfGood (λ (m : Message) (end bad long : ℕ). Parts n p end)
 
   -- as many items as there are
   counted : {n c p : ℕ} {m : Message} {end bad long : ℕ} → n ≡ c → Parts c p end → ShapeWalked n p (S.Good m end bad long)
-  counted {end = end} sum h = ShapeWalked.walked {end = end} (rw sum h)
+  counted {end = end} sum h = IfGood.good {end = end} (rw sum h)
 
   -- some items, and then a shape's
   after : {n c d p m : ℕ} {x : Shape} → n ≡ c + d → Parts c p m → ShapeWalked d m x → ShapeWalked n p x
-  after sum h ShapeWalked.refused = ShapeWalked.refused
-  after sum h (ShapeWalked.walked rest) = counted sum (passes-then h rest)
+  after sum h IfGood.bad = IfGood.bad
+  after sum h (IfGood.good rest) = counted sum (passes-then h rest)
 
   -- an objective
   objective-then : {n p : ℕ} (f : ObjectiveRead → Shape) → ((place : ℕ) → ShapeWalked n p (f (ObjectiveRead.Bad place)))
@@ -159,7 +150,7 @@ module _ (s : List ℕ) where
       (λ four. past-case _
       (λ e. held-case _
       (λ e′. after (omega (arith, eqb-true n 4 four)) (passes-then (most-passes e) (initiator-passes e′))
-      (objective-then (discovered _ _ _) (λ _. ShapeWalked.refused) (λ _ _ _ _ o. ShapeWalked.walked o)))))
+      (objective-then (discovered _ _ _) (λ _. IfGood.bad) (λ _ _ _ _ o. IfGood.good o)))))
 
   -- 3, 4, 5 and 8, a session and an objective
   exchange-walked : (kind n p : ℕ) → ShapeWalked (n - 1) p (exchangeAt s kind n p)
@@ -167,7 +158,7 @@ module _ (s : List ℕ) where
   exchange-walked kind n p =
       held-case _
       (λ three. past-case _
-      (λ e. after (omega (arith, eqb-true n 3 three)) (most-passes e) (objective-then (exchanged kind _ _) (λ _. ShapeWalked.refused) (λ _ _ _ _ o. ShapeWalked.walked o))))
+      (λ e. after (omega (arith, eqb-true n 3 three)) (most-passes e) (objective-then (exchanged kind _ _) (λ _. IfGood.bad) (λ _ _ _ _ o. IfGood.good o))))
 
   -- 7, Wait
   wait-walked : (n p : ℕ) → ShapeWalked (n - 1) p (waitAt s n p)
@@ -176,7 +167,7 @@ module _ (s : List ℕ) where
       held-case _
       (λ three. past-case _
       (λ e. past-case _
-      (λ e′. after (omega (arith, eqb-true n 3 three)) (most-passes e) (ShapeWalked.walked (most-passes e′)))))
+      (λ e′. after (omega (arith, eqb-true n 3 three)) (most-passes e) (IfGood.good (most-passes e′)))))
 
   -- 99, Invalid
   invalid-walked : (n p : ℕ) → ShapeWalked (n - 1) p (invalidAt s n p)
@@ -186,10 +177,10 @@ module _ (s : List ℕ) where
       (λ lo. past-case _
       (λ hi. past-case _
       (λ e. pick-case (ShapeWalked (n - 1) p) _
-      (λ two. after (omega (arith, eqb-true n 2 two)) (most-passes e) (ShapeWalked.walked passes-none))
+      (λ two. after (omega (arith, eqb-true n 2 two)) (most-passes e) (IfGood.good passes-none))
       (λ more. past-case _
       (λ some. after (omega (arith, ltb-false n 2 lo, ltb-false 3 n hi, eqb-false n 2 more)) (most-passes e)
-      (ShapeWalked.walked (size-passes 1 s (tokenAt s p .next) (eqb-false (sizeAt 1 s (tokenAt s p .next)) 0 some))))))))
+      (IfGood.good (size-passes 1 s (tokenAt s p .next) (eqb-false (sizeAt 1 s (tokenAt s p .next)) 0 some))))))))
 
   -- an accept or a decline
   option-walked : (session p : ℕ) → ShapeWalked 1 p (optionAt s session p)
@@ -204,11 +195,11 @@ module _ (s : List ℕ) where
       let array : (e n : ℕ) → o .arg ≡ n → Passes (leftUnder 2) n s (o .next) e → Parts 1 p e = λ e n many h. array-passes s p (is-array o (eqb-false (itemsIn o) 0 filled)) (rw many h) in
       let lead = number-passes {left = leftUnder 2} {p = o .next} 102 (ltb-false 102 (upTo 102 x) hi) in
       pick-case (ShapeWalked 1 p) _
-      (λ one. let alone = array (x .next) 1 (eqb-true (o .arg) 1 one) lead in both (ShapeWalked 1 p) _ (ShapeWalked.walked alone) (ShapeWalked.walked alone))
+      (λ one. let alone = array (x .next) 1 (eqb-true (o .arg) 1 one) lead in both (ShapeWalked 1 p) _ (IfGood.good alone) (IfGood.good alone))
       (λ _. past-case _
       (λ _. held-case _
       (λ two. held-case _
-      (λ text. ShapeWalked.walked (array _ 2 (eqb-true (o .arg) 2 two) (passes-then lead (leaf-passes s (x .next) (inl (omega (arith, eqb-true (tokenAt s (x .next) .major) 3 text)))))))))))))
+      (λ text. IfGood.good (array _ 2 (eqb-true (o .arg) 2 two) (passes-then lead (leaf-passes s (x .next) (inl (omega (arith, eqb-true (tokenAt s (x .next) .major) 3 text)))))))))))))
 
   -- 6, End
   end-walked : (n p : ℕ) → ShapeWalked (n - 1) p (endAt s n p)
@@ -235,11 +226,11 @@ module _ (s : List ℕ) where
   flooded-walked n p opening some = by (pairAt s p) (pair-walked p (drop p s))
     where
       all : (m : ℕ) (first : Pair) (pairs : Series) (x : PairsRead) → PairsWalked (n - 1) m x → ShapeWalked (n - 1) m (floodedBy opening first pairs x)
-      all m first pairs (PairsRead.Bad place) h = ShapeWalked.refused
-      all m first pairs (PairsRead.Ran end bad long) h = ShapeWalked.walked h
+      all m first pairs (PairsRead.Bad place) h = IfGood.bad
+      all m first pairs (PairsRead.Ran end bad long) h = IfGood.good h
 
       by : (x : PairRead) → PairWalked (drop p s) x → ShapeWalked n p (floodedOf s opening n p x)
-      by (PairRead.Bad place) h = ShapeWalked.refused
+      by (PairRead.Bad place) h = IfGood.bad
       by (PairRead.Got o tag size bad long) h = after (omega arith) (passes-within h) (all (p + size) _ _ (pairsFrom s (n - 1) (p + size) bad long) (pairs-walked (n - 1) (p + size) bad long))
 
   -- 9, Flood
@@ -248,7 +239,7 @@ module _ (s : List ℕ) where
   flood-walked n p = past-case _ (λ five. by (ltb-false n 5 five) (openingAt s p) (opening-walked p))
     where
       by : 5 ≤ n → (x : OpeningRead) → OpeningWalked p x → ShapeWalked (n - 1) p (floodBy s n x)
-      by five _ OpeningWalked.departs = ShapeWalked.refused
+      by five _ OpeningWalked.departs = IfGood.bad
       by five _ (OpeningWalked.opened {opening} {next} h) = after (omega arith) h (flooded-walked (n - 4) next opening (omega arith))
 
   module _ (opening : Opening) where
@@ -257,7 +248,7 @@ module _ (s : List ℕ) where
     unfolding restAt restOf
     rest-walked targets left p bad =
         pick-case (ShapeWalked left p) _ (λ none. counted (eqb-true left 0 none) passes-none)
-        (λ _. objective-then (restOf s opening targets left p bad) (λ _. ShapeWalked.refused) (λ _ _ _ _ h. held-case _ (λ one. counted (eqb-true left 1 one) h)))
+        (λ _. objective-then (restOf s opening targets left p bad) (λ _. IfGood.bad) (λ _ _ _ _ h. held-case _ (λ one. counted (eqb-true left 1 one) h)))
 
     -- locators first
     located-walked : (n p : ℕ) → ShapeWalked n p (locatedAt s opening n p)
@@ -265,7 +256,7 @@ module _ (s : List ℕ) where
     located-walked n p = by (locatorsFrom s n p 0) (locators-walked (leftUnder 2) n p 0)
       where
         by : (x : LocatorsRead) → LocatorsWalked (leftUnder 2) n p x → ShapeWalked n p (locatedOf s opening n p x)
-        by (LocatorsRead.Bad place) h = ShapeWalked.refused
+        by (LocatorsRead.Bad place) h = IfGood.bad
         by (LocatorsRead.Ran end left bad) (c, sum, h) = past-case (tokenAt s end .next) (λ _. after sum h (rest-walked (Targets.Locators (record { at = p; many = n - left })) left end bad))
 
     -- a divert first
@@ -281,7 +272,7 @@ module _ (s : List ℕ) where
         from = tokenAt s (o .next) .next
 
         by : 2 ≤ o .arg → (x : LocatorsRead) → LocatorsWalked (leftUnder 3) (o .arg - 1) from x → ShapeWalked (1 + left) p (divertOf s opening left (o .arg - 1) from x)
-        by two (LocatorsRead.Bad place) h = ShapeWalked.refused
+        by two (LocatorsRead.Bad place) h = IfGood.bad
         by two (LocatorsRead.Ran end over bad) (c, sum, h) =
             held-case (tokenAt s end .next)
             (λ none.
@@ -307,7 +298,7 @@ module _ (s : List ℕ) where
   response-walked n p = past-case _ (λ five. by (ltb-false n 5 five) (openingAt s p) (opening-walked p))
     where
       by : 5 ≤ n → (x : OpeningRead) → OpeningWalked p x → ShapeWalked (n - 1) p (responseBy s n x)
-      by five _ OpeningWalked.departs = ShapeWalked.refused
+      by five _ OpeningWalked.departs = IfGood.bad
       by five _ (OpeningWalked.opened {opening} {next} h) = after (omega arith) h (targets-walked opening (n - 4) next (omega arith))
 
   -- any kind
@@ -334,8 +325,8 @@ module _ (s : List ℕ) where
     -- which are those of a message that is accepted
     judged-walked : {m : Message} {end : ℕ} {x : Shape} → ShapeWalked (tokenAt s 0 .arg - 1) (tokenAt s (tokenAt s 0 .next) .next) x → judgedShape x ≡ E.Accepted m end → firstItem 0 s ≡ ItemRead.Ends end
     unfolding judgedShape
-    judged-walked ShapeWalked.refused = λ q. cc
-    judged-walked {m} {end} (ShapeWalked.walked {end = end′} h) =
+    judged-walked IfGood.bad = λ q. cc
+    judged-walked {m} {end} (IfGood.good {end = end′} h) =
         both P _ (both P _ (λ q. let same : end′ ≡ end = cc in whole-walked h ∙ ap ItemRead.Ends same) (λ q. cc)) (λ q. cc)
       where
         P : Examined → Type 0

@@ -2,13 +2,11 @@
 -- Assumes nothing.
 use mathlib.Core.Path.{_≡_, sym, ap, _∙_, subst}
 use mathlib.Core.Logic.{_↔_}
-use mathlib.Core.List.{List, _++_, append-nil}
+use mathlib.Core.List.{List}
 use mathlib.Core.Bool.{Bool, true, false}
 use Prim.Native.Nat.{ℕ, suc}
-use native.Mathlib.Nat.{le-refl}
 use native.Mathlib.Omega.{arith}
 use lib.ListN.{length, drop}
-use lib.Seq.{drop-length}
 use Rattle.base.specs.Pick.{pick}
 use Rattle.base.specs.BigEndian.{Bytes}
 use Rattle.base.proofs.Picks.{pick-case}
@@ -19,7 +17,7 @@ use Rattle.syntax.specs.Message.{Msg}
 use Rattle.grammar.specs.Cddl.{uint, MessageItem, Value}
 use Rattle.grammar.specs.Limits.{TextsGood, NamesGood}
 use Rattle.grammar.specs.Stands.{Stands, StandAll, ArrayHead}
-use Rattle.grammar.proofs.Bridge.{join}
+use Rattle.grammar.proofs.Bridge.{join, stands-whole}
 use Rattle.grammar.proofs.Pieces.{head-array}
 use Rattle.message.specs.declared.Message.{Message}
 use Rattle.message.specs.declared.shape.Shape.{Shape}
@@ -43,17 +41,21 @@ pub record ShapeIs (s : List ℕ) (m : Message) (end bad long : ℕ) : Type 0 wh
   pub texts : bad ≡ 0 ↔ TextsGood msg
   pub names : long ≡ 0 ↔ NamesGood msg
 
--- a shape that was read is one of a message
-pub data ShapeOk (s : List ℕ) : Shape → Type 0 where
-  bad : {place : ℕ} → ShapeOk s (S.Bad place)
-  good : {m : Message} {end bad long : ℕ} → ShapeIs s m end bad long → ShapeOk s (S.Good m end bad long)
+-- P holds of what a good shape has: its message, where its parts end, its bad text and its long name
+pub data IfGood (P : Message → ℕ → ℕ → ℕ → Type 0) : Shape → Type 0 where
+  bad : {place : ℕ} → IfGood P (S.Bad place)
+  good : {m : Message} {end bad long : ℕ} → P m end bad long → IfGood P (S.Good m end bad long)
 
 -- what the tests leave
-pub past-case : {s : List ℕ} {t : Bool} (place : ℕ) {x : Shape} → (t ≡ false → ShapeOk s x) → ShapeOk s (pick t (S.Bad place) x)
-past-case {s} {t} place f = pick-case (ShapeOk s) t (λ _. ShapeOk.bad) f
+pub past-case : {P : Message → ℕ → ℕ → ℕ → Type 0} {t : Bool} (place : ℕ) {x : Shape} → (t ≡ false → IfGood P x) → IfGood P (pick t (S.Bad place) x)
+past-case {P} {t} place f = pick-case (IfGood P) t (λ _. IfGood.bad) f
 
-pub held-case : {s : List ℕ} {t : Bool} (place : ℕ) {x : Shape} → (t ≡ true → ShapeOk s x) → ShapeOk s (pick t x (S.Bad place))
-held-case {s} {t} place f = pick-case (ShapeOk s) t f (λ _. ShapeOk.bad)
+pub held-case : {P : Message → ℕ → ℕ → ℕ → Type 0} {t : Bool} (place : ℕ) {x : Shape} → (t ≡ true → IfGood P x) → IfGood P (pick t x (S.Bad place))
+held-case {P} {t} place f = pick-case (IfGood P) t f (λ _. IfGood.bad)
+
+-- a shape that was read is one of a message
+abbrev pub ShapeOk : List ℕ → Shape → Type 0
+ShapeOk s = IfGood (ShapeIs s)
 
 -- a shape that is read, and the tests that lead there
 pub data Reads : Shape → Type 0 where
@@ -85,7 +87,7 @@ pub built : {s : List ℕ} {kind n at : ℕ} {m : Message} {bad long : ℕ} → 
     → (e ≡ length s → Describes s m msg) → bad ≡ 0 ↔ TextsGood msg → long ≡ 0 ↔ NamesGood msg → ShapeOk s (S.Good m e bad long)
 unfolding count
 built {s} {kind} {n} {at} k e xs msg counted stand is describes texts names =
-    ShapeOk.good
+    IfGood.good
     (record {
       item = Item.array (k .opened .width) (Items.more (uint (k .width) kind) xs);
       msg = msg;
@@ -108,13 +110,7 @@ pub record WholeIs {s : List ℕ} (one : OneItem s) (m : Message) (bad long : �
 module _ {s : List ℕ} (one : OneItem s) where
   -- it stands from the start to the end
   pub stands : Stands s 0 (length s) (one .item)
-  stands =
-      record {
-        good = one .good;
-        is = sym (ap (λ (r : List ℕ). encode (one .item) ++ r) (drop-length s) ∙ append-nil (encode (one .item)) ∙ one .bytes);
-        end = omega (arith, ap length (one .bytes));
-        within = le-refl (length s);
-      }
+  stands = stands-whole (one .good) (one .bytes)
 
   pub one-bytes : Bytes s
   one-bytes = subst Bytes (one .bytes) (bytes-encode (one .item) (one .good))

@@ -3,13 +3,13 @@
 -- Assumes nothing.
 use mathlib.Core.Path.{_≡_, refl, sym, ap, ap₂, _∙_, subst}
 use mathlib.Core.Logic.{_⊎_, inl, inr}
-use mathlib.Core.List.{List, _++_, append-assoc}
+use mathlib.Core.List.{List, _++_, append-assoc, append-nil}
 use mathlib.Core.Bool.{Bool, true, false, cond}
 use Prim.Native.Nat.{ℕ, _+_, _-_, _^_, _≤_, _<_}
-use native.Mathlib.Nat.{add-zero, add-assoc}
+use native.Mathlib.Nat.{zero-add, add-zero, add-assoc}
 use native.Mathlib.Omega.{arith}
 use lib.ListN.{length, take, drop, length-append, length-drop, take-append-drop}
-use lib.Seq.{drop-drop, drop-append-seam, take-at, length-take-le}
+use lib.Seq.{drop-drop, drop-length, drop-append-seam, take-at, length-take-le}
 use lib.Dec.{ltb, leb, lit<, lit≤}
 use borrow.Author.Tests.{lt-ltb, le-ltb, le-leb, ltb-true, ltb-false, leb-true}
 use Rattle.base.specs.Pick.{pick}
@@ -19,7 +19,7 @@ use Rattle.base.proofs.Parts.{rest-is, bytes-drop}
 use Rattle.cbor.specs.declared.head.HeadRead.{HeadRead}
 use Rattle.cbor.specs.declared.token.Token.{Token}
 use Rattle.cbor.specs.Head.{headAt}
-use Rattle.cbor.specs.Tree.{Item, Items, headBytes, Right, count, encode, encodes}
+use Rattle.cbor.specs.Tree.{Item, Items, headBytes, Right, count, encode, encodes, Good}
 use Rattle.cbor.specs.Token.{nothingAt, tokenOf, tokenFrom, tokenAt}
 use Rattle.cbor.proofs.HeadExact.{head-read, length-head, Spelt, HeadIs, head-is, SmallIs, small-is}
 use Rattle.cbor.proofs.Tokens.{head-fits}
@@ -45,7 +45,7 @@ split {s} {p} {e} {x} {xs} a =
     let sum : e ≡ p + length (encode x) + length (encodes xs) = omega (arith, a .end, length-append (encode x) (encodes xs)) in
     record {
       mid = p + length (encode x);
-      first = record { good = a .good .0; is = joined ∙ ap (λ (t : List ℕ). encode x ++ t) (sym next); end = refl; within = omega (arith, a .within) };
+      first = record { good = a .good .0; is = joined ∙ ap (λ (t : List ℕ). encode x ++ t) (sym next); end = refl };
       rest = record { good = a .good .1; is = next; end = sum; within = a .within };
     }
 
@@ -60,30 +60,6 @@ join {s} {p} {m} {e} {x} {xs} a b =
       within = b .within;
     }
 
--- no items, anywhere
-pub none : {s : List ℕ} {e : ℕ} → e ≤ length s → StandAll s e e Items.done
-unfolding encode
-none h = record { good = tt; is = refl; end = omega arith; within = h }
-
--- no items have no bytes
-pub none-end : {s : List ℕ} {p e : ℕ} → StandAll s p e Items.done → e ≡ p
-unfolding encode
-none-end {p = p} a = a .end ∙ add-zero p
-
--- the last item, and the last that is left
-pub last : {s : List ℕ} {p e : ℕ} {x : Item} → Stands s p e x → StandAll s p e (Items.more x Items.done)
-last a = join a (none (a .within))
-
--- and back
-pub only : {s : List ℕ} {p e : ℕ} {x : Item} → StandAll s p e (Items.more x Items.done) → Stands s p e x
-only {s} {p} {e} {x} a =
-    let c = split a in
-    subst (λ (k : ℕ). Stands s p k x) (sym (none-end (c .rest))) (c .first)
-
--- one item stands at a place
-pub stands-once : {s : List ℕ} {p e e′ : ℕ} {x y : Item} → Stands s p e x → Stands s p e′ y → x ≡ y
-stands-once {s} {e = e} {e′} {x} {y} a b = unique x y (drop e s) (drop e′ s) (a .good) (b .good) (sym (a .is) ∙ b .is)
-
 -- an item has bytes
 pub advances : {s : List ℕ} {p e : ℕ} {x : Item} → Stands s p e x → p < e
 unfolding encode headBytes
@@ -97,6 +73,47 @@ advances {x = x} a = omega (arith, a .end, some x)
     some (Item.tagged w n x) = omega arith
     some (Item.simple w n) = omega arith
 
+-- so it ends within the bytes that it stands in
+pub stands-within : {s : List ℕ} {p e : ℕ} {x : Item} → Stands s p e x → e ≤ length s
+stands-within {s} {p} {e} {x} a = omega (arith, advances a, a .end, ap length (a .is), length-append (encode x) (drop e s), length-drop p s, length-drop e s)
+
+-- no items, anywhere
+pub none : {s : List ℕ} {e : ℕ} → e ≤ length s → StandAll s e e Items.done
+unfolding encode
+none h = record { good = tt; is = refl; end = omega arith; within = h }
+
+-- no items have no bytes
+pub none-end : {s : List ℕ} {p e : ℕ} → StandAll s p e Items.done → e ≡ p
+unfolding encode
+none-end {p = p} a = a .end ∙ add-zero p
+
+-- the last item, and the last that is left
+pub last : {s : List ℕ} {p e : ℕ} {x : Item} → Stands s p e x → StandAll s p e (Items.more x Items.done)
+last a = join a (none (stands-within a))
+
+-- and back
+pub only : {s : List ℕ} {p e : ℕ} {x : Item} → StandAll s p e (Items.more x Items.done) → Stands s p e x
+only {s} {p} {e} {x} a =
+    let c = split a in
+    subst (λ (k : ℕ). Stands s p k x) (sym (none-end (c .rest))) (c .first)
+
+-- one item stands at a place
+pub stands-once : {s : List ℕ} {p e e′ : ℕ} {x y : Item} → Stands s p e x → Stands s p e′ y → x ≡ y
+stands-once {s} {e = e} {e′} {x} {y} a b = unique x y (drop e s) (drop e′ s) (a .good) (b .good) (sym (a .is) ∙ b .is)
+
+-- an item stands in its own encoding
+pub stands-whole : {s : List ℕ} {x : Item} → Good x → encode x ≡ s → Stands s 0 (length s) x
+stands-whole {s} {x} g e =
+    record {
+      good = g;
+      is = sym e ∙ sym (append-nil (encode x)) ∙ ap (λ (t : List ℕ). encode x ++ t) (sym (drop-length s));
+      end = ap length (sym e) ∙ sym (zero-add (length (encode x)));
+    }
+
+-- and what stands in all the bytes is encoded as they are
+pub whole-stands : {s : List ℕ} {x : Item} → Stands s 0 (length s) x → encode x ≡ s
+whole-stands {s} {x} a = sym (append-nil (encode x)) ∙ ap (λ (t : List ℕ). encode x ++ t) (sym (drop-length s)) ∙ sym (a .is)
+
 -- ---- a part of the message from `base` on, and the message
 pub lift : {m : List ℕ} (base : ℕ) {p e : ℕ} {x : Item} → Stands (drop base m) p e x → Stands m (base + p) (base + e) x
 lift {m} base {p} {e} {x} a =
@@ -104,7 +121,6 @@ lift {m} base {p} {e} {x} a =
       good = a .good;
       is = sym (drop-drop p base m) ∙ a .is ∙ ap (λ (r : List ℕ). encode x ++ r) (drop-drop e base m);
       end = omega (arith, a .end);
-      within = omega (arith, a .within, advances a, length-drop base m);
     }
 
 -- the item that the part begins with
@@ -118,7 +134,6 @@ sink m base p e {x} a =
       good = a .good;
       is = drop-drop p base m ∙ a .is ∙ ap (λ (r : List ℕ). encode x ++ r) (sym (drop-drop e base m));
       end = omega (arith, a .end);
-      within = omega (arith, a .within, length-drop base m);
     }
 
 pub sink-sized : (m : List ℕ) (base p n : ℕ) {x : Item} → Stands m (base + p) (base + p + n) x → Stands (drop base m) p (p + n) x
@@ -217,7 +232,7 @@ array-token {s} {p} {e} {w} {xs} a =
             good = a .good .1;
             is = rest;
             end = omega (arith, a .end, length-append h (encodes xs), length-head 4 w (count xs));
-            within = a .within;
+            within = stands-within a;
           };
     }
 

@@ -59,7 +59,6 @@ head-array {s} {p} {q} {n} {e} {xs} h c a =
       good = (rw (← c) (h .right), a .good);
       is = head ∙ ap (λ (r : List ℕ). front ++ r) (a .is) ∙ sym (append-assoc front (encodes xs) (drop e s));
       end = omega (arith, h .end, a .end, length-append front (encodes xs), length-head 4 (h .width) n, length-head 4 (h .width) (count xs));
-      within = a .within;
     }
 
 module _ {s : List ℕ} {p : ℕ} {w : Token} (h : Heading s p w) where
@@ -72,7 +71,6 @@ module _ {s : List ℕ} {p : ℕ} {w : Token} (h : Heading s p w) where
         good = good (rw e at (h .right));
         is = head;
         end = omega (arith, h .body);
-        within = omega (arith, h .body, ap length head, length-append (encode x) (drop (w .body) s), length-drop p s, length-drop (w .body) s);
       }
 
   -- an unsigned number
@@ -114,7 +112,6 @@ module _ {s : List ℕ} {p : ℕ} {w : Token} (h : Heading s p w) where
                 good = (rw (long, ← e) (h .right), b);
                 is = head ∙ ap (λ (r : List ℕ). front ++ r) rest ∙ sym (append-assoc front bs (drop (w .next) s));
                 end = omega (arith, next, h .body, long, length-append front bs, length-head (cond t 3 2) (h .width) (length bs));
-                within = h .within;
               };
         },
         long,

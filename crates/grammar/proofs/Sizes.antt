@@ -4,7 +4,7 @@ use mathlib.Core.Path.{_≡_, sym, ap, ap₂, _∙_}
 use mathlib.Core.List.{List, _++_}
 use Prim.Native.Nat.{ℕ, _+_, _-_, _≤_}
 use native.Mathlib.Omega.{arith}
-use lib.ListN.{length, drop, length-drop, take-append-drop}
+use lib.ListN.{length, drop, take-append-drop}
 use lib.Seq.{drop-drop, length-take-le}
 use Rattle.base.specs.BigEndian.{Bytes}
 use Rattle.base.proofs.Parts.{bytes-drop}
@@ -30,7 +30,6 @@ sized-item levels s p b some =
         good = i .good;
         is = sym (take-append-drop n (drop p s)) ∙ ap₂ (λ (h r : List ℕ). h ++ r) (i .bytes) (drop-drop n p s);
         end = ap (λ (k : ℕ). p + k) (sym long);
-        within = omega (arith, i .within, length-drop p s);
       },
       i .shallow,
     )

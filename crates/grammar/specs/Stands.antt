@@ -24,8 +24,8 @@ pub record Stands (s : List ℕ) (p e : ℕ) (x : Item) : Type 0 where
   pub good : Good x
   pub is : drop p s ≡ encode x ++ drop e s
   pub end : e ≡ p + length (encode x)
-  pub within : e ≤ length s
 
+-- the items xs stand in the bytes s from p to e, one after the other; no items may stand at any place up to the end
 pub record StandAll (s : List ℕ) (p e : ℕ) (xs : Items) : Type 0 where
   pub good : Goods xs
   pub is : drop p s ≡ encodes xs ++ drop e s

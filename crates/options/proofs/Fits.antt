@@ -340,17 +340,17 @@ pub pair-within : (s : List ℕ) (base at : ℕ) (r x : PairRead) → r ≡ pair
 pair-within s base at r x e q = rw (length-drop at s) at (subst (PairOk base (length (drop at s))) (sym e ∙ q) (pair-ok base (drop at s)))
 
 -- no part is left past the message's end
-none-past : (P : List ℕ → Type 0) (s : List ℕ) (at : ℕ) → length s < at → P [] → P (drop at s)
-none-past P s at h p = subst P (sym (drop-past s at (omega arith))) p
+none-past : (P : List ℕ → Type 0) (s : List ℕ) (at : ℕ) → length s ≤ at → P [] → P (drop at s)
+none-past P s at h p = subst P (sym (drop-past s at h)) p
 
-pub locator-past : (s : List ℕ) (at : ℕ) → length s < at → LocatorRead.Bad at ≡ locatorIn at (drop at s)
+pub locator-past : (s : List ℕ) (at : ℕ) → length s ≤ at → LocatorRead.Bad at ≡ locatorIn at (drop at s)
 unfolding locatorIn locatorReached itemsIn tokenAt tokenFrom nothingAt headAt pick
 locator-past s at h = none-past (λ (l : List ℕ). LocatorRead.Bad at ≡ locatorIn at l) s at h refl
 
-pub objective-past : (levels : ℕ) (s : List ℕ) (at : ℕ) → length s < at → ObjectiveRead.Bad at ≡ objectiveIn levels at (drop at s)
+pub objective-past : (levels : ℕ) (s : List ℕ) (at : ℕ) → length s ≤ at → ObjectiveRead.Bad at ≡ objectiveIn levels at (drop at s)
 unfolding objectiveIn objectiveNamed itemsIn tokenAt tokenFrom nothingAt headAt pick
 objective-past levels s at h = none-past (λ (l : List ℕ). ObjectiveRead.Bad at ≡ objectiveIn levels at l) s at h refl
 
-pub pair-past : (s : List ℕ) (at : ℕ) → length s < at → PairRead.Bad at ≡ pairIn at (drop at s)
+pub pair-past : (s : List ℕ) (at : ℕ) → length s ≤ at → PairRead.Bad at ≡ pairIn at (drop at s)
 unfolding pairIn itemsIn tokenAt tokenFrom nothingAt headAt pick
 pair-past s at h = none-past (λ (l : List ℕ). PairRead.Bad at ≡ pairIn at l) s at h refl

@@ -5,11 +5,11 @@ use mathlib.Core.Path.{_≡_, refl, sym, ap, _∙_}
 use mathlib.Core.Logic.{_≢_}
 use mathlib.Core.List.{List, [], _∷_}
 use mathlib.Core.Bool.{Bool, true, false}
-use Prim.Native.Nat.{ℕ, _≤_, _<_}
+use Prim.Native.Nat.{ℕ, _≤_}
 use native.Mathlib.Omega.{arith}
 use lib.ListN.{length}
 use lib.Dec.{ltb, eqb}
-use borrow.Author.Tests.{eqb-true, eq-eqb, ne-eqb, lt-ltb, le-ltb}
+use borrow.Author.Tests.{eqb-true, eq-eqb, ne-eqb}
 use Rattle.base.specs.Pick.{pick}
 use Rattle.base.proofs.Picks.{pick-case, both}
 use Rattle.cbor.specs.declared.item.ItemRead.{ItemRead}
@@ -21,22 +21,10 @@ use Rattle.message.specs.declared.Reading.{Reading}
 use Rattle.message.specs.declared.Examined.{Examined}
 use Rattle.message.specs.declared.Examined.the-variants as E
 use Rattle.message.specs.Read.{mostBytes, examined, framed, readPlaced, placeless, readOf}
+use Rattle.exact.specs.Rows.{Fits}
 use Rattle.exact.proofs.Walked.{parts-walked}
+use Rattle.exact.proofs.Refused.{placed-fit}
 use Rattle.reader.specs.Walk.{walkedBy, walkedFirst}
-
--- too short, or too long
-pub read-none : (s : List ℕ) → length s ≡ 0 → Reading.Refused 1 ≡ readOf s
-unfolding readOf readPlaced placeless pick
-read-none s e = rw (eq-eqb (length s) 0 e)
-
-pub read-long : (s : List ℕ) → mostBytes < length s → Reading.Refused 1 ≡ readOf s
-unfolding readOf readPlaced placeless pick
-read-long s h = rw (ne-eqb (length s) 0 (λ z. omega arith), lt-ltb mostBytes (length s) h)
-
--- neither: the walk is asked first
-fitting : (s : List ℕ) → length s ≢ 0 → length s ≤ mostBytes → readPlaced s ≡ framed s (firstItem 0 s)
-unfolding readPlaced pick
-fitting s some most = rw (ne-eqb (length s) 0 some, le-ltb mostBytes (length s) most)
 
 -- no bytes are no message
 examined-some : (s : List ℕ) {m : Message} {end : ℕ} → examined s ≡ E.Accepted m end → length s ≢ 0
@@ -47,7 +35,7 @@ examined-some (x ∷ s) q = λ z. omega arith
 -- a message
 module _ (s : List ℕ) (r : Examined) (most : length s ≤ mostBytes) (is : r ≡ examined s) (m : Message) (end : ℕ) (found : r ≡ E.Accepted m end) where
   walked : readPlaced s ≡ framed s (ItemRead.Ends end)
-  walked = fitting s (examined-some s (sym is ∙ found)) most ∙ ap (framed s) (parts-walked s (sym is ∙ found))
+  walked = placed-fit (record { some = examined-some s (sym is ∙ found); most = most }) ∙ ap (framed s) (parts-walked s (sym is ∙ found))
 
   pub read-whole : end ≡ length s → Reading.Read m ≡ readOf s
   unfolding readOf framed placeless pick
@@ -68,11 +56,11 @@ due-later s number place later (ItemRead.Ends end) = by (eqb end (length s))
     by true = ap placeless later
     by false = refl
 
-pub read-refused : (s : List ℕ) (r : Examined) (number place n : ℕ) → length s ≢ 0 → length s ≤ mostBytes → r ≡ examined s → r ≡ E.Refused number place → n ≡ walkedFirst number s
+pub read-refused : (s : List ℕ) (r : Examined) (number place n : ℕ) → Fits s → r ≡ examined s → r ≡ E.Refused number place → n ≡ walkedFirst number s
     → Reading.Refused n ≡ readOf s
 unfolding readOf walkedFirst
-read-refused s r number place n some most is found same =
-    ap Reading.Refused same ∙ sym (ap placeless (fitting s some most) ∙ due-later s number place (sym is ∙ found) (firstItem 0 s))
+read-refused s r number place n fits is found same =
+    ap Reading.Refused same ∙ sym (ap placeless (placed-fit fits) ∙ due-later s number place (sym is ∙ found) (firstItem 0 s))
 
 -- a message that was read is the whole that its parts make up
 pub read-examined : (s : List ℕ) (m : Message) → readOf s ≡ Reading.Read m → (length s ≢ 0) × (examined s ≡ E.Accepted m (length s))

@@ -25,7 +25,7 @@ use Rattle.syntax.specs.Message.{Loc}
 use Rattle.grammar.specs.Cddl.{LocatorItem, LocatorItems}
 use Rattle.grammar.specs.Stands as S
 use Rattle.grammar.specs.Stands.{Stands, StandAll}
-use Rattle.grammar.proofs.Bridge.{split, advances}
+use Rattle.grammar.proofs.Bridge.{split, advances, stands-within}
 use Rattle.grammar.proofs.Locators.{locator-read}
 use Rattle.description.specs.declared.rows.LocatorRow.{LocatorRow}
 use Rattle.description.specs.Describe.{locatorRow, locatorRowLoc, locatorRowAt}
@@ -129,7 +129,7 @@ module _ (s : List ℕ) where
   locators-rows {p} a (LocatorItems.more {x = x} {ls = ls} i is) =
       let c = split a in
       let (l, bad, read, described) = locator-read (c .first) i in
-      let text : TextIn s l = subst (TextOk s) read (text-ok s p (drop p s) (omega (arith, length-drop p s, c .first .within, advances (c .first)))) in
+      let text : TextIn s l = subst (TextOk s) read (text-ok s p (drop p s) (omega (arith, length-drop p s, stands-within (c .first), advances (c .first)))) in
       let told = locator-told l text (subst (LocatorItem x) (sym described) i) in
       let (rows, more) = locators-rows (c .rest) is in (
         locatorNumbers l ∷ rows,

@@ -33,7 +33,7 @@ use Rattle.syntax.specs.Message.{Loc, Obj, Pair, valuedPair}
 use Rattle.grammar.specs.Cddl.{LocatorItem, Value, PairItem, PairItems}
 use Rattle.grammar.specs.Stands as S
 use Rattle.grammar.specs.Stands.{StandAll, tagLoc}
-use Rattle.grammar.proofs.Bridge.{split, advances}
+use Rattle.grammar.proofs.Bridge.{split, advances, stands-within}
 use Rattle.grammar.proofs.Pairs.{pair-read}
 use Rattle.description.specs.declared.rows.Entry.{Entry}
 use Rattle.description.specs.declared.rows.LocatorRow.{LocatorRow}
@@ -199,7 +199,7 @@ module _ (s : List ℕ) where
   pairs-rows {p} d a (PairItems.more {ps = ps} i is) =
       let c = split a in
       let (o, tag, bad, long, read, at, mid, objective, described) = pair-read (c .first) (omega (arith, d)) i in
-      let text : TagIn s tag = subst (TagOk s) read (tag-ok s p (drop p s) (omega (arith, length-drop p s, c .first .within, advances (c .first)))) in
+      let text : TagIn s tag = subst (TagOk s) read (tag-ok s p (drop p s) (omega (arith, length-drop p s, stands-within (c .first), advances (c .first)))) in
       let (rows, more) = pairs-rows (omega (arith, d)) (c .rest) is in (
         R.pairCells o tag ∷ rows,
         Chain.step (pair-twelve o tag) (λ i list. pair-row p i list read) (pair-tells o tag (objective-goals objective) (tag-tells tag text i described))

@@ -15,7 +15,7 @@ use Rattle.options.specs.Text.{spanOf, held}
 use Rattle.syntax.specs.Message.{Obj, valuedObj}
 use Rattle.grammar.specs.Cddl.{Value}
 use Rattle.grammar.specs.Stands.{Stands, ValueIs, ObjectiveIs}
-use Rattle.grammar.proofs.Bridge.{text-token}
+use Rattle.grammar.proofs.Bridge.{text-token, stands-within}
 use Rattle.description.specs.Describe.{entryOf, objOf}
 use Rattle.describe.specs.Describe.{goalOf}
 use Rattle.roundtrip.proofs.Once.{objective-ext}
@@ -33,14 +33,14 @@ string-cuts {s} {e = e} {bs = bs} {span} a q =
     let string = text-token a in
     let place : e - length bs ≡ string .body = omega (arith, string .end) in
     subst (λ (i : Span). Cuts s i bs) (sym q)
-    (record { inside = inr (omega (arith, string .end, a .within)); is = ap (λ (k : ℕ). take (length bs) (drop k s)) place ∙ string .content })
+    (record { inside = inr (omega (arith, string .end, stands-within a)); is = ap (λ (k : ℕ). take (length bs) (drop k s)) place ∙ string .content })
 
 -- an item, or none
 pub value-cuts : {s : List ℕ} {span : Span} {v : Value} → ValueIs s span v → Cuts s span (valueBytes v)
 unfolding valueBytes
 value-cuts {s} {span} (ValueIs.absent e) = record { inside = inl e; is = ap (λ (k : ℕ). take k (drop (span .at) s)) e }
 value-cuts {s} {span} (ValueIs.present {x} a) = record {
-  inside = inr (a .within);
+  inside = inr (stands-within a);
   is = ap (take (span .len)) (a .is) ∙ take-at (encode x) (drop (span .at + span .len) s) (span .len) (omega (arith, a .end));
 }
 

@@ -14,14 +14,14 @@ use Rattle.options.specs.declared.objective.Objective.{Objective}
 use Rattle.syntax.specs.Message.{Loc, Obj, Pair, Msg, valuedObj}
 use Rattle.grammar.specs.Cddl.{uint, text, array, Number, Initiator, ObjectiveItem, PairItem, PairItems, MessageItem, Value}
 use Rattle.grammar.specs.Stands.{Stands, ArrayHead, ValueIs, itemsWith, ObjectiveIs}
-use Rattle.grammar.proofs.Bridge.{split, only, array-token}
+use Rattle.grammar.proofs.Bridge.{split, only, stands-whole, whole-stands, array-token}
 use Rattle.message.specs.declared.Message.{Message}
 use Rattle.exact.specs.Describes.{KindIs, NumberIs, InitiatorIs, Describes}
 use Rattle.description.specs.Encoding.{string, oneMore, encodeObj}
 use Rattle.roundtrip.specs.Plain.{valueBytes}
 use Rattle.roundtrip.specs.Lower.{withCount, lowerObj, lowerMsg, Lowers}
 use Rattle.roundtrip.proofs.Encodes.{short-head, has-bytes, objective-encodes}
-use Rattle.roundtrip.proofs.Places.{past-head, past-item, stands-whole, whole-stands, opened-place}
+use Rattle.roundtrip.proofs.Places.{past-head, past-item, opened-place}
 
 -- s is a message msg, whose count n has its head from `at` to `end`; its item, of no more levels than allowed, with any other head there
 pub record Hole (s : List ℕ) (at end n : ℕ) (msg : Msg Value) : Type 0 where

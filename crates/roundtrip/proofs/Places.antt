@@ -1,20 +1,19 @@
 -- Where the items of an array stand, when its head and its first items are known to stand somewhere; and so those of a message.
 -- Assumes nothing.
 use mathlib.Core.Path.{_≡_, sym, ap, _∙_, subst}
-use mathlib.Core.List.{List, _++_, append-assoc, append-nil}
+use mathlib.Core.List.{List, _++_, append-assoc}
 use Prim.Native.Nat.{ℕ, suc, _+_}
-use native.Mathlib.Nat.{zero-add}
 use native.Mathlib.Omega.{arith}
 use lib.ListN.{length, drop, length-append}
-use lib.Seq.{drop-drop, drop-length, drop-append-seam}
+use lib.Seq.{drop-drop, drop-append-seam}
 use Rattle.cbor.specs.declared.head.HeadRead.{HeadRead}
 use Rattle.cbor.specs.Head.{headAt}
-use Rattle.cbor.specs.Tree.{Item, Items, headBytes, count, encode, encodes, Good}
+use Rattle.cbor.specs.Tree.{Item, Items, headBytes, count, encode, encodes}
 use Rattle.cbor.proofs.HeadExact.{head-read}
 use Rattle.options.specs.declared.Span.{Span}
 use Rattle.grammar.specs.Cddl.{uint}
 use Rattle.grammar.specs.Stands.{Stands, StandAll, ArrayHead}
-use Rattle.grammar.proofs.Bridge.{split, stands-once}
+use Rattle.grammar.proofs.Bridge.{split, stands-once, stands-within}
 use Rattle.exact.specs.Describes.{KindIs, NumberIs, InitiatorIs}
 
 -- past an array's head: its items
@@ -35,7 +34,7 @@ past-head {s} {p} {e} {q} {n} {w} {xs} a h =
             ∙ ap (drop (length (headBytes 4 w (count xs)))) split
             ∙ drop-append-seam (headBytes 4 w (count xs)) (encodes xs ++ drop e s);
         end = omega (arith, a .end, length-append (headBytes 4 w (count xs)) (encodes xs));
-        within = a .within;
+        within = stands-within a;
       },
       at,
     )
@@ -47,20 +46,6 @@ past-item {s} {p} {e} {m} {x} {y} {xs} a b =
     let c = split a in
     let at : m ≡ p + length (encode x) = b .end ∙ ap (λ (z : Item). p + length (encode z)) (sym (stands-once (c .first) b)) in
     (subst (λ (k : ℕ). StandAll s k e xs) (c .first .end ∙ sym at) (c .rest), at)
-
--- an item stands in its own encoding
-pub stands-whole : {s : List ℕ} {x : Item} → Good x → encode x ≡ s → Stands s 0 (length s) x
-stands-whole {s} {x} g e =
-    record {
-      good = g;
-      is = sym e ∙ sym (append-nil (encode x)) ∙ ap (λ (t : List ℕ). encode x ++ t) (sym (drop-length s));
-      end = ap length (sym e) ∙ sym (zero-add (length (encode x)));
-      within = omega arith;
-    }
-
--- and what stands in all the bytes is encoded as they are
-pub whole-stands : {s : List ℕ} {x : Item} → Stands s 0 (length s) x → encode x ≡ s
-whole-stands {s} {x} a = sym (append-nil (encode x)) ∙ ap (λ (t : List ℕ). encode x ++ t) (sym (drop-length s)) ∙ sym (a .is)
 
 -- what stands before a message's third item, and the items from there on
 pub opened-place : {s : List ℕ} {w k kind p q r session : ℕ} {i : Span} {from : List ℕ} {y z : Item} {xs : Items}

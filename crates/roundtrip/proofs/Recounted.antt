@@ -8,7 +8,7 @@ use Prim.Native.Nat.{ℕ, _+_, _-_, _≤_, _<_}
 use native.Mathlib.Nat.{add-zero, add-assoc}
 use native.Mathlib.Omega.{arith}
 use lib.Dec.{ltb, eqb, lit<}
-use lib.ListN.{length, take, drop, length-append, length-drop}
+use lib.ListN.{length, take, drop, length-drop}
 use lib.Seq.{drop-append-le, drop-append-seam, drop-append-add, take-append-le}
 use borrow.Author.Tests.{ltb-false, eqb-true, eqb-false, le-leb, le-ltb}
 use Rattle.base.specs.Pick.{pick}
@@ -181,7 +181,6 @@ module _ (h r : List ℕ) (n : ℕ) where
           good = shortest-right 0 n (lit< tt) (omega arith);
           is = drop-append-seam u (head 0 n ++ r) ∙ ap (λ (t : List ℕ). head 0 n ++ t) (sym (rw add-zero at (after-two u (head 0 n) r 0)));
           end = refl;
-          within = omega (arith, length-append u (head 0 n ++ r), length-append (head 0 n) r);
         })
 
     -- an objective from its name on, which stands at `at`

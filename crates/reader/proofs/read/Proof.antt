@@ -1,6 +1,10 @@
 -- `reader::read` meets its contract: a message is what was read of its parts, and a refusal by the parts comes after the walk's.
 -- Assumes nothing.
-use Rattle.reader.proofs.Answers.{read-none, read-long, read-whole, read-over, read-refused}
+use mathlib.Core.Path.{sym}
+use mathlib.Core.Logic.{inl, inr}
+use Rattle.exact.specs.Rows.{Row}
+use Rattle.exact.proofs.Refused.{row-given}
+use Rattle.reader.proofs.Answers.{read-whole, read-over, read-refused}
 use borrow.Author.Needs.{needs}
 use Rattle.reader.proofs.read.Statement.{statement}
 use Rattle.reader.proofs.read.Tie as tie
@@ -10,10 +14,10 @@ use Rattle.message.proofs.examine.Reads as examine-reads
 use Rattle.reader.proofs.walk.Reads as walk-reads
 
 returns : tie.Need-returns
-returns c = read-none _ (c .if1 .taken)
+returns c = sym (row-given _ _ (Row.size (inl (c .if1 .taken))))
 
 returns-2 : tie.Need-returns-2
-returns-2 c = read-long _ (c .if2 .taken)
+returns-2 c = sym (row-given _ _ (Row.size (inr (c .if2 .taken))))
 
 examine-requires : tie.Need-examine-requires
 examine-requires c κs = search needs
@@ -37,7 +41,7 @@ walk-requires c κs = search needs
 
 returns-5 : tie.Need-returns-5
 returns-5 c =
-    read-refused _ _ _ _ _ (c .before .before .before .before .before .before .if1 .left) (c .before .before .before .before .before .if2 .left) (c .before .before .before .before .examine .ensures) (c .before .before .answer2 .given .1) (c .walk .ensures)
+    read-refused _ _ _ _ _ (record { some = c .before .before .before .before .before .before .if1 .left; most = c .before .before .before .before .before .if2 .left }) (c .before .before .before .before .examine .ensures) (c .before .before .answer2 .given .1) (c .walk .ensures)
 
 pub read-spec : {M : Type 1} → statement M
 read-spec =

@@ -1,5 +1,6 @@
 -- `cbor::token::size_at` meets its contract.
 -- Assumes nothing.
+use native.Mathlib.Nat.{le-of-lt}
 use Rattle.cbor.specs.declared.item.ItemRead.{ItemRead}
 use Rattle.cbor.specs.Token.{sizeFrom}
 use Rattle.cbor.proofs.Tokens.{size-none, size-found}
@@ -11,7 +12,7 @@ use Rattle.cbor.proofs.token.size_at.Lts as lts
 use Rattle.cbor.proofs.item.first.Reads as first-reads
 
 returns : tie.Need-returns
-returns c = size-none _ _ _ (c .if1 .taken)
+returns c = size-none _ _ _ (le-of-lt (c .if1 .taken))
 
 sub-first : tie.Need-sub-first
 sub-first c = search needs

@@ -1,5 +1,6 @@
 -- `cbor::token::token_at` meets its contract.
 -- Assumes nothing.
+use native.Mathlib.Nat.{le-of-lt}
 use native.Mathlib.Omega.{arith}
 use Rattle.cbor.specs.declared.head.HeadRead.{HeadRead}
 use Rattle.cbor.specs.Token.{tokenFrom}
@@ -17,7 +18,7 @@ nothing-at-requires : tie.Need-nothing-at-requires
 nothing-at-requires c κs = search needs
 
 returns : tie.Need-returns
-returns c = token-none _ _ _ (c .before .if1 .taken) (c .nothing-at .ensures)
+returns c = token-none _ _ _ (le-of-lt (c .before .if1 .taken)) (c .nothing-at .ensures)
 
 sub-read : tie.Need-sub-read
 sub-read c = search needs

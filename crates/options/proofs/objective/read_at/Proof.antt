@@ -1,6 +1,7 @@
 -- `options::objective::read_at` meets its contract.
 -- Assumes nothing.
 use mathlib.Core.Path.{_∙_, ap}
+use native.Mathlib.Nat.{le-of-lt}
 use Rattle.base.proofs.Parts.{rest-is}
 use Rattle.options.proofs.Fits.{objective-past}
 use Rattle.options.specs.Objective.{objectiveIn}
@@ -12,7 +13,7 @@ use Rattle.options.proofs.objective.read_at.Lts as lts
 use Rattle.options.proofs.objective.read_in.Reads as read-in-reads
 
 returns : tie.Need-returns
-returns c = objective-past _ _ _ (c .if1 .taken)
+returns c = objective-past _ _ _ (le-of-lt (c .if1 .taken))
 
 sub-read-in : tie.Need-sub-read-in
 sub-read-in c = search needs
