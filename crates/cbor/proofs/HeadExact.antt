@@ -1,13 +1,15 @@
--- Heads read and written (RFC 8949, section 3): `head-read`, a written head is read back, and `head-is`, a head that was read is one that is written.
+-- Heads read and written (RFC 8949, section 3): `head-read`, a written head is read back, and `head-exactly`, which heads are read of bytes.
 -- Assumes nothing.
-use mathlib.Core.Path.{_≡_, refl, sym, ap, _∙_}
+use mathlib.Core.Path.{_≡_, refl, sym, ap, _∙_, subst}
+use mathlib.Core.Logic.{_↔_}
 use mathlib.Core.List.{List, [], _∷_, _++_}
 use Prim.Native.Nat.{ℕ, zero, suc, _+_, _*_, _/_, _%_, _^_, _≤_, _<_, zero-le}
 use native.Mathlib.Nat.{div-add-mod'}
 use native.Mathlib.Numerals.{one-add}
 use native.Mathlib.Omega.{arith}
 use lib.Arith.{digits-div, digits-mod}
-use lib.ListN.{length, take, length-append}
+use lib.ListN.{length, take, drop, length-append, take-append-drop}
+use lib.Seq.{length-take-le}
 use lib.Dec.{ltb, eqb, lit<}
 use borrow.Author.Tests.{lt-ltb, le-ltb, lt-leb, ne-eqb, ltb-true, ltb-false, leb-true, leb-false, eqb-true, eqb-false}
 use Rattle.base.specs.Pick.{pick}
@@ -17,7 +19,7 @@ use Rattle.base.proofs.Digits.{length-bytes, read-back, FirstBytes, spelled, bi
 use Rattle.cbor.specs.declared.head.Initial.{Initial}
 use Rattle.cbor.specs.declared.head.HeadRead.{HeadRead}
 use Rattle.cbor.specs.Head.{widthOf, leastOf, initialOf, argOf, judged, headFrom, headBy, headOf, headAt}
-use Rattle.cbor.specs.Tree.{infoOf, headBytes, shortest, Sized, Right}
+use Rattle.cbor.specs.Tree.{infoOf, headBytes, shortest, Sized, Right, HeadIs}
 
 -- ---- what a head's reading goes by
 -- a whole head: what holds of each answer, where it is given
@@ -114,22 +116,17 @@ head-read major width arg rest h =
     ∙ simp length-head
 
 -- ---- read, then written
--- a head of so many bytes at the start of s, as it would be written
-pub record Spelt (s : List ℕ) (major arg len : ℕ) : Type 0 where
-  pub width : ℕ
-  pub bytes : take len s ≡ headBytes major width arg
-  pub right : Right major width arg
-  pub kind : major < 8
-
-abbrev pub HeadIs : List ℕ → HeadRead → Type 0
-HeadIs s (HeadRead.Refused number place) = Unit {0}
-HeadIs s (HeadRead.Head major arg len) = Spelt s major arg len
+-- P holds of a head that is read
+abbrev IfHead : (ℕ → ℕ → ℕ → Type 0) → HeadRead → Type 0
+IfHead P (HeadRead.Refused number place) = Unit {0}
+IfHead P (HeadRead.Head major arg len) = P major arg len
 
 -- a head that is all there, with or without fault
 pub record Whole (s : List ℕ) (major arg width : ℕ) : Type 0 where
   pub bytes : take (1 + width) s ≡ headBytes major width arg
   pub sized : Sized width arg
   pub kind : major < 8
+  pub within : 1 + width ≤ length s
 
 -- the additional information, the argument's bytes and its size
 record Info (first : ℕ) (s : List ℕ) (width : ℕ) : Type 0 where
@@ -158,29 +155,37 @@ headed : (first : ℕ) (s : List ℕ) → first / 32 < 8 → FirstBytes (widthOf
 unfolding headBytes
 headed first s low b lt room =
     let i = info-is first s lt b room in
-    record { bytes = rw (one-add (widthOf (first % 32)), i .same, i .digits, div-add-mod' first 32); sized = i .sized; kind = low }
+    record { bytes = rw (one-add (widthOf (first % 32)), i .same, i .digits, div-add-mod' first 32); sized = i .sized; kind = low; within = omega arith }
 
 pub whole : (first : ℕ) (s : List ℕ) → Bytes (first ∷ s) → first % 32 < 28 → widthOf (first % 32) ≤ length s
     → Whole (first ∷ s) (first / 32) (argOf first (widthOf (first % 32)) s) (widthOf (first % 32))
 whole first s b = headed first s (omega (arith, b 0)) (λ i _. b (suc i))
 
 -- one without fault is one that is written
-faultless : {s : List ℕ} {major arg width : ℕ} → Whole s major arg width → ((major ≡ 7) → width ≡ 1 → 32 ≤ arg) → ((major ≡ 7 → ⊥) → leastOf width ≤ arg) → Spelt s major arg (1 + width)
-faultless {width = width} w simple short = record { width = width; bytes = w .bytes; right = record { sized = w .sized; simple = simple; short = short }; kind = w .kind }
+faultless : {s : List ℕ} {major arg width : ℕ} → Whole s major arg width → ((major ≡ 7) → width ≡ 1 → 32 ≤ arg) → ((major ≡ 7 → ⊥) → leastOf width ≤ arg) → HeadIs s major arg (1 + width)
+faultless {width = width} w simple short =
+    record { width = width; kind = w .kind; right = record { sized = w .sized; simple = simple; short = short }; bytes = w .bytes; within = w .within }
 
-pub head-is : (s : List ℕ) → Bytes s → HeadIs s (headAt s)
+-- and one that was read is without fault
+pub head-is : (s : List ℕ) {major arg len : ℕ} → Bytes s → headAt s ≡ HeadRead.Head major arg len → HeadIs s major arg len
 unfolding headAt
-head-is [] b = tt
-head-is (first ∷ s) b =
-    first-case P first s (λ _ _. tt) (λ _. tt) (λ _ _. tt)
-    (λ lt room. judged-case P (first / 32) _ _ (λ _ _ _. tt) (λ _ _. tt) (faultless (whole first s b lt room)))
+head-is s b e = subst (IfHead (HeadIs s)) e (by s b)
   where
-    P : HeadRead → Type 0
-    P = HeadIs (first ∷ s)
+    by : (s : List ℕ) → Bytes s → IfHead (HeadIs s) (headAt s)
+    by [] b = tt
+    by (first ∷ s) b =
+        first-case (IfHead (HeadIs (first ∷ s))) first s (λ _ _. tt) (λ _. tt) (λ _ _. tt)
+        (λ lt room. judged-case (IfHead (HeadIs (first ∷ s))) (first / 32) _ _ (λ _ _ _. tt) (λ _ _. tt) (faultless (whole first s b lt room)))
 
-abbrev pub SmallIs : List ℕ → HeadRead → Type 0
-SmallIs s (HeadRead.Refused number place) = Unit {0}
-SmallIs s (HeadRead.Head major arg len) = major < 8 → arg < 2 ^ 8 → Spelt s major arg len
+-- A head is read of bytes exactly where they begin with one without fault.
+pub head-exactly : (s : List ℕ) (major arg len : ℕ) → Bytes s → headAt s ≡ HeadRead.Head major arg len ↔ HeadIs s major arg len
+head-exactly s major arg len b = (head-is s b, read)
+  where
+    read : HeadIs s major arg len → headAt s ≡ HeadRead.Head major arg len
+    read h =
+        let split : s ≡ headBytes major (h .width) arg ++ drop len s = sym (take-append-drop len s) ∙ ap (λ (t : List ℕ). t ++ drop len s) (h .bytes) in
+        let size : length (headBytes major (h .width) arg) ≡ len = ap length (sym (h .bytes)) ∙ length-take-le len s (h .within) in
+        ap headAt split ∙ head-read major (h .width) arg (drop len s) (h .right) ∙ ap (HeadRead.Head major arg) size
 
 -- the bytes of an argument below 256
 arg-bytes : (first width : ℕ) (s : List ℕ) → argOf first width s < 2 ^ 8 → FirstBytes width s
@@ -189,16 +194,19 @@ arg-bytes first zero s h = λ i l. absurd (omega arith)
 arg-bytes first (suc n) s h = small-bytes (suc n) s (rw (ne-eqb (suc n) 0 (λ e. omega arith)) at h)
 
 -- a head with an argument below 256 that was read is one that is written, whatever numbers follow it
-pub small-is : (s : List ℕ) → SmallIs s (headAt s)
+pub small-is : (s : List ℕ) {major arg len : ℕ} → headAt s ≡ HeadRead.Head major arg len → major < 8 → arg < 2 ^ 8 → HeadIs s major arg len
 unfolding headAt
-small-is [] = tt
-small-is (first ∷ s) =
-    first-case P first s (λ _ _. tt) (λ _. tt) (λ _ _. tt)
-    (λ lt room. judged-case P (first / 32) _ _ (λ _ _ _. tt) (λ _ _. tt)
-    (λ simple short low small. faultless (headed first s low (arg-bytes first (widthOf (first % 32)) s small) lt room) simple short))
+small-is s e = subst (P s) e (by s)
   where
-    P : HeadRead → Type 0
-    P = SmallIs (first ∷ s)
+    P : List ℕ → HeadRead → Type 0
+    P s = IfHead (λ (major arg len : ℕ). major < 8 → arg < 2 ^ 8 → HeadIs s major arg len)
+
+    by : (s : List ℕ) → P s (headAt s)
+    by [] = tt
+    by (first ∷ s) =
+        first-case (P (first ∷ s)) first s (λ _ _. tt) (λ _. tt) (λ _ _. tt)
+        (λ lt room. judged-case (P (first ∷ s)) (first / 32) _ _ (λ _ _ _. tt) (λ _ _. tt)
+        (λ simple short low small. faultless (headed first s low (arg-bytes first (widthOf (first % 32)) s small) lt room) simple short))
 
 -- ---- the shortest form
 pub shortest-case : (P : ℕ → Type 0) (arg : ℕ) → (arg < 24 → P 0) → (24 ≤ arg → arg < 2 ^ 8 → P 1) → (2 ^ 8 ≤ arg → arg < 2 ^ 16 → P 2)

@@ -17,9 +17,9 @@ use Rattle.cbor.specs.declared.item.Step.{Step}
 use Rattle.cbor.specs.declared.head.HeadRead.{HeadRead}
 use Rattle.cbor.specs.Head.{headAt}
 use Rattle.cbor.specs.Item.{opens, stepOf, stepFrom, stepAt, itemsOf}
-use Rattle.cbor.specs.Tree.{Item, Items, headBytes, Right, count, encode, encodes, depth, depths, Good, Goods}
+use Rattle.cbor.specs.Tree.{Item, Items, headBytes, Right, HeadIs, count, encode, encodes, depth, depths, Good, Goods}
 use Rattle.cbor.specs.Fault.{Fault, placeOf, itemsHeld}
-use Rattle.cbor.proofs.HeadExact.{Spelt, HeadIs, head-is}
+use Rattle.cbor.proofs.HeadExact.{head-is}
 use Rattle.cbor.proofs.HeadFault.{head-fault}
 
 -- an item that holds no others, in the first len bytes of s
@@ -66,10 +66,10 @@ one-of m low lo hi = by (eqb m (1 + low)) refl
     by true e = eqb-true m (1 + low) e
     by false e = omega (arith, eqb-false m (1 + low) e)
 
-module _ (left : ℕ) (s : List ℕ) (major arg len : ℕ) (h : Spelt s major arg len) where
+module _ (left : ℕ) (s : List ℕ) (major arg len : ℕ) (h : HeadIs s major arg len) where
   -- the head, by its major type
-  of : (m : ℕ) → major ≡ m → Spelt s m arg len
-  of m e = subst (λ (k : ℕ). Spelt s k arg len) e h
+  of : (m : ℕ) → major ≡ m → HeadIs s m arg len
+  of m e = subst (λ (k : ℕ). HeadIs s k arg len) e h
 
   -- the head, and what follows it
   split : s ≡ headBytes major (h .width) arg ++ drop len s
@@ -189,4 +189,4 @@ step-is left s b = by (headAt s) refl
   where
     by : (x : HeadRead) → headAt s ≡ x → StepIs left s (stepFrom left (length s) x)
     by (HeadRead.Refused number place) e = let f = head-fault left s number place b e in record { fault = f .0; at = f .1 }
-    by (HeadRead.Head major arg len) e = step-of-is left s major arg len (subst (HeadIs s) e (head-is s b)) b
+    by (HeadRead.Head major arg len) e = step-of-is left s major arg len (head-is s b e) b

@@ -14,6 +14,7 @@ use Rattle.cbor.specs.Head.{leastOf}
 unfoldable pub infoOf : ℕ → ℕ → ℕ
 infoOf width arg = pick (eqb width 0) arg (pick (eqb width 1) 24 (pick (eqb width 2) 25 (pick (eqb width 4) 26 27)))
 
+-- a head: the major type and the additional information in its first byte, then the bytes of its argument
 unfoldable pub headBytes : ℕ → ℕ → ℕ → List ℕ
 headBytes major width arg = (major * 32 + infoOf width arg) ∷ bytesOf width arg
 
@@ -31,10 +32,19 @@ pub record Right (major width arg : ℕ) : Type 0 where
   pub simple : major ≡ 7 → width ≡ 1 → 32 ≤ arg
   pub short : major ≢ 7 → leastOf width ≤ arg
 
+-- the first len bytes of s are a head without fault
+pub record HeadIs (s : List ℕ) (major arg len : ℕ) : Type 0 where
+  pub width : ℕ
+  pub kind : major < 8
+  pub right : Right major width arg
+  pub bytes : take len s ≡ headBytes major width arg
+  pub within : len ≤ length s
+
 -- how many bytes of argument the shortest head has
 unfoldable pub shortest : ℕ → ℕ
 shortest arg = pick (ltb arg 24) 0 (pick (ltb arg (2 ^ 8)) 1 (pick (ltb arg (2 ^ 16)) 2 (pick (ltb arg (2 ^ 32)) 4 8)))
 
+-- an item of each major type, and items one after the other
 mutual
   pub data Item : Type 0 where
     -- n, or -1 - n where negative
@@ -52,10 +62,12 @@ mutual
     done : Items
     more : Item → Items → Items
 
+-- how many items there are
 unfoldable pub count : Items → ℕ
 count Items.done = 0
 count (Items.more x xs) = suc (count xs)
 
+-- the bytes of an item: its head, and what its head announces
 unfoldable mutual
   pub encode : Item → List ℕ
   encode (Item.number negative width n) = headBytes (cond negative 1 0) width n

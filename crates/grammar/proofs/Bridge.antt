@@ -15,14 +15,13 @@ use borrow.Author.Tests.{lt-ltb, le-ltb, le-leb, ltb-true, ltb-false, leb-true}
 use Rattle.base.specs.Pick.{pick}
 use Rattle.base.specs.BigEndian.{Bytes}
 use Rattle.base.proofs.Picks.{pick-case, both}
-use Rattle.base.proofs.Parts.{rest-is, bytes-drop}
+use Rattle.base.proofs.Parts.{bytes-drop}
 use Rattle.cbor.specs.declared.head.HeadRead.{HeadRead}
 use Rattle.cbor.specs.declared.token.Token.{Token}
 use Rattle.cbor.specs.Head.{headAt}
-use Rattle.cbor.specs.Tree.{Item, Items, headBytes, Right, count, encode, encodes, Good}
+use Rattle.cbor.specs.Tree.{Item, Items, headBytes, Right, HeadIs, count, encode, encodes, Good}
 use Rattle.cbor.specs.Token.{nothingAt, tokenOf, tokenFrom, tokenAt}
-use Rattle.cbor.proofs.HeadExact.{head-read, length-head, Spelt, HeadIs, head-is, SmallIs, small-is}
-use Rattle.cbor.proofs.Tokens.{head-fits}
+use Rattle.cbor.proofs.HeadExact.{head-read, length-head, head-is, small-is}
 use Rattle.cbor.proofs.Unique.{unique}
 use Rattle.grammar.specs.Stands.{Stands, StandAll, ArrayHead}
 
@@ -250,18 +249,18 @@ not-leaf : {m : ℕ} → (m < 2) ⊎ (4 ≤ m) → 1 < m → m < 4 → ⊥
 not-leaf (inl h) lo hi = omega arith
 not-leaf (inr h) lo hi = omega arith
 
-module _ (s : List ℕ) (p major arg len : ℕ) (spelt : Spelt (drop p s) major arg len) (fits : len ≤ length (drop p s)) where
-  size : len ≡ 1 + spelt .width
-  size = sym (length-take-le len (drop p s) fits) ∙ ap length (spelt .bytes) ∙ length-head major (spelt .width) arg
+module _ (s : List ℕ) (p major arg len : ℕ) (i : HeadIs (drop p s) major arg len) where
+  size : len ≡ 1 + i .width
+  size = sym (length-take-le len (drop p s) (i .within)) ∙ ap length (i .bytes) ∙ length-head major (i .width) arg
 
   heading : (next : ℕ) → next ≤ length s → ((major < 2) ⊎ (4 ≤ major) → next ≡ p + len) → (2 ≤ major → major < 4 → next ≡ p + len + arg)
       → Heading s p (record { at = p; major = major; arg = arg; body = p + len; next = next })
   heading next within leaf string =
       record {
-        width = spelt .width;
-        right = spelt .right;
+        width = i .width;
+        right = i .right;
         body = ap (λ (k : ℕ). p + k) size;
-        head = sym (take-append-drop len (drop p s)) ∙ ap₂ (λ (h r : List ℕ). h ++ r) (spelt .bytes) (drop-drop len p s);
+        head = sym (take-append-drop len (drop p s)) ∙ ap₂ (λ (h r : List ℕ). h ++ r) (i .bytes) (drop-drop len p s);
         leaf = leaf;
         string = string;
         within = within;
@@ -274,7 +273,7 @@ module _ (s : List ℕ) (p major arg len : ℕ) (spelt : Spelt (drop p s) major 
       (λ e. pick-case by (ltb major 4)
       (λ f. pick-case by (leb arg (length (drop p s) - len))
       (λ g q h. subst (Heading s p) (sym q)
-      (heading (p + len + arg) (omega (arith, size, length-drop p s, leb-true arg (length (drop p s) - len) g))
+      (heading (p + len + arg) (omega (arith, size, i .within, length-drop p s, leb-true arg (length (drop p s) - len) g))
       (λ either. absurd (not-leaf either (ltb-true 1 major e) (ltb-true major 4 f))) (λ _ _. refl)))
       (λ g q h. absurd (omega (arith, h, ap (λ (v : Token). v .major) q))))
       (λ f. leaf (λ lo hi. omega (arith, ltb-false major 4 f))))
@@ -284,7 +283,7 @@ module _ (s : List ℕ) (p major arg len : ℕ) (spelt : Spelt (drop p s) major 
       by v = w ≡ v → w .major < 8 → Heading s p w
 
       leaf : (2 ≤ major → major < 4 → ⊥) → by (record { at = p; major = major; arg = arg; body = p + len; next = p + len })
-      leaf other q h = subst (Heading s p) (sym q) (heading (p + len) (omega (arith, size, length-drop p s)) (λ _. refl) (λ lo hi. absurd (other lo hi)))
+      leaf other q h = subst (Heading s p) (sym q) (heading (p + len) (omega (arith, size, i .within, length-drop p s)) (λ _. refl) (λ lo hi. absurd (other lo hi)))
 
 -- a token has the numbers of its head
 token-numbers : (p room major arg len : ℕ) (w : Token) → w ≡ tokenOf p room major arg len → w .major < 8 → (major ≡ w .major) × (arg ≡ w .arg)
@@ -301,24 +300,23 @@ token-numbers p room major arg len w = both by (ltb 1 major) (both by (ltb major
 pub headed-major : (s : List ℕ) (p major width arg : ℕ) (r : List ℕ) → Right major width arg → drop p s ≡ headBytes major width arg ++ r → tokenAt s p .major < 8 → major ≡ tokenAt s p .major
 headed-major s p major width arg r right is h = token-numbers p (length (drop p s)) major arg (1 + width) (tokenAt s p) (headed s p major width arg r right is) h .0
 
--- one that was read has its head there, where that is spelt so
-spelt-heading : (s : List ℕ) (p : ℕ) (w : Token) → ((major arg len : ℕ) → headAt (drop p s) ≡ HeadRead.Head major arg len → major ≡ w .major → arg ≡ w .arg → Spelt (drop p s) major arg len)
+-- one that was read has its head there, where a head that is read is without fault
+read-heading : (s : List ℕ) (p : ℕ) (w : Token) → ((major arg len : ℕ) → headAt (drop p s) ≡ HeadRead.Head major arg len → major ≡ w .major → arg ≡ w .arg → HeadIs (drop p s) major arg len)
     → w ≡ tokenAt s p → w .major < 8 → Heading s p w
 unfolding tokenAt tokenFrom nothingAt
-spelt-heading s p w spelt = go (headAt (drop p s)) refl
+read-heading s p w is = go (headAt (drop p s)) refl
   where
     go : (x : HeadRead) → headAt (drop p s) ≡ x → w ≡ tokenFrom p (length (drop p s)) x → w .major < 8 → Heading s p w
     go (HeadRead.Refused number place) e q h = absurd (omega (arith, h, ap (λ (v : Token). v .major) q))
     go (HeadRead.Head major arg len) e q h =
-        let fits : len ≤ length s - p = head-fits s p major arg len (headAt (drop p s)) (ap headAt (sym (rest-is p s))) e in
         let (same, same′) = token-numbers p (length (drop p s)) major arg len w q h in
-        token-of s p major arg len (spelt major arg len e same same′) (omega (arith, length-drop p s)) w q h
+        token-of s p major arg len (is major arg len e same same′) w q h
 
 -- so of bytes,
 pub token-heading : (s : List ℕ) (p : ℕ) (w : Token) → Bytes s → w ≡ tokenAt s p → w .major < 8 → Heading s p w
-token-heading s p w b = spelt-heading s p w (λ major arg len e _ _. subst (HeadIs (drop p s)) e (head-is (drop p s) (bytes-drop p s b)))
+token-heading s p w b = read-heading s p w (λ major arg len e _ _. head-is (drop p s) (bytes-drop p s b) e)
 
 -- and of any numbers where the argument is below 256
 pub small-heading : (s : List ℕ) (p : ℕ) (w : Token) → w ≡ tokenAt s p → w .major < 8 → w .arg < 2 ^ 8 → Heading s p w
 small-heading s p w e major arg =
-    spelt-heading s p w (λ major′ arg′ len q same same′. subst (SmallIs (drop p s)) q (small-is (drop p s)) (omega arith) (omega arith)) e major
+    read-heading s p w (λ major′ arg′ len q same same′. small-is (drop p s) q (omega arith) (omega arith)) e major
