@@ -1,6 +1,7 @@
 -- The choice by a test. It isn't the library's `cond`, which unfolds by itself: of `pick` a proof goes by the test's two cases without naming it.
 use mathlib.Core.Bool.{Bool, true, false}
 
+-- x where the test holds, else y
 unfoldable pub pick {ℓ} : {A : Type ℓ} → Bool → A → A → A
 pick true x y = x
 pick false x y = y

@@ -43,6 +43,7 @@ withExtra b (Extra.With o) = withObjective b o
 unfoldable pub withSeries : List ℕ → ℕ → Series → List ℕ
 withSeries b sort series = sets b 13 (sort ∷ series .at ∷ series .many ∷ [])
 
+-- a Response's locators or its divert
 unfoldable pub targetsBlock : List ℕ → Targets → List ℕ
 targetsBlock b (Targets.Locators series) = withSeries b 1 series
 targetsBlock b (Targets.Divert series) = withSeries b 2 series
@@ -55,6 +56,7 @@ responseBlock session initiator ttl targets extra = targetsBlock (withExtra (fro
 unfoldable pub withSpan : List ℕ → ℕ → Span → List ℕ
 withSpan b sort span = sets b 16 (sort ∷ span .at ∷ span .len ∷ [])
 
+-- an End's outcome
 unfoldable pub outcomeBlock : List ℕ → Outcome → List ℕ
 outcomeBlock b Outcome.Accept = withSpan b 1 (spanOf 0 0)
 outcomeBlock b Outcome.Decline = withSpan b 2 (spanOf 0 0)

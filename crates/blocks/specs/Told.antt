@@ -25,21 +25,27 @@ use Rattle.blocks.specs.Block.{mostPlaces}
 abbrev pub sessionPlaces : List ℕ
 sessionPlaces = 0 ∷ 1 ∷ []
 
+-- place and length
 abbrev pub initiatorPlaces : List ℕ
 initiatorPlaces = 2 ∷ 3 ∷ []
 
+-- or waiting time
 abbrev pub ttlPlace : List ℕ
 ttlPlace = 4 ∷ []
 
+-- whether there is one, then its numbers
 abbrev pub objectivePlaces : List ℕ
 objectivePlaces = 5 ∷ 6 ∷ 7 ∷ 8 ∷ 9 ∷ 11 ∷ 12 ∷ []
 
+-- which sort of rows, and how many
 abbrev pub rowsPlaces : List ℕ
 rowsPlaces = 13 ∷ 15 ∷ []
 
+-- accept, decline, or decline with a reason
 abbrev pub outcomePlace : List ℕ
 outcomePlace = 16 ∷ []
 
+-- place and length of a reason, or of Invalid's item
 abbrev pub itemPlaces : List ℕ
 itemPlaces = 17 ∷ 18 ∷ []
 
@@ -66,6 +72,7 @@ allFit f mask = allFrom (fieldFits f mask) mostPlaces 0
 unfoldable pub isBlank : List ℕ → Bool
 isBlank f = allFit f (maskWith (sessionPlaces ++ initiatorPlaces ++ ttlPlace ++ 13 ∷ 14 ∷ 15 ∷ outcomePlace ++ itemPlaces))
 
+-- the objective of a block
 unfoldable pub toldGoal : List ℕ → Narrow → Goal
 toldGoal f n = record { name = spanOf (getD f 6 0) (getD f 7 0); flags = n .flags; count = n .count; value = spanOf (getD f 11 0) (getD f 12 0) }
 
@@ -84,6 +91,7 @@ toldTargets sort n initiator extra =
     pick (eqb sort 1) (Says (D.Response (n .session) initiator (n .ttl) false extra))
     (pick (eqb sort 2) (Says (D.Response (n .session) initiator (n .ttl) true extra)) Nothing)
 
+-- a Response, with an objective or without; as many locators are said as the list has rows
 unfoldable pub toldResponse : List ℕ → ℕ → Narrow → Told
 toldResponse f numbers n =
     let initiator = spanOf (getD f 2 0) (getD f 3 0) in
@@ -107,6 +115,7 @@ toldFlood f numbers n =
     (unless (eqb (getD f 15 0) (numbers / pairRow)) Nothing
     (Says (D.Flood (n .session) (spanOf (getD f 2 0) (getD f 3 0)) (n .ttl))))
 
+-- by the kind, once every place fits it
 unfoldable pub toldKind : List ℕ → ℕ → Narrow → Told
 toldKind f numbers n =
     pick (eqb (getD f 0 0) 0) (Says D.Noop)

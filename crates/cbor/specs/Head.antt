@@ -1,5 +1,6 @@
 -- The head of an item (RFC 8949, section 3): the major type stands in the first byte's upper three bits, the additional
--- information in its lower five; the argument is that information below 24, else the 1, 2, 4 or 8 bytes that follow.
+-- information in its lower five; the argument is that information below 24, else the 1, 2, 4 or 8 bytes that follow. A refusal has a place, counted
+-- from the head's first byte: that of 2 is where the bytes end, that of the others the head's own, 0.
 use Prim.Native.Nat.{ℕ, _+_, _/_, _%_, _^_}
 use mathlib.Core.List.{List, [], _∷_}
 use lib.ListN.{length}
@@ -46,10 +47,11 @@ unfoldable pub headBy : ℕ → List ℕ → Initial → HeadRead
 headBy first s (Initial.Refused number) = Refused number 0
 headBy first s (Initial.Begins major width) = headFrom first major width s
 
+-- the head with this first byte, and s after it
 unfoldable pub headOf : ℕ → List ℕ → HeadRead
 headOf first s = headBy first s (initialOf first)
 
--- the head at the start of s, or its refusal; the place of 2 is where the bytes end, else the head's own
+-- the head at the start of s, or its refusal
 unfoldable pub headAt : List ℕ → HeadRead
 headAt [] = Refused 2 0
 headAt (first ∷ s) = headOf first s

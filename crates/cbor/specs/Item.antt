@@ -31,6 +31,7 @@ stepOf left room major arg len =
     (pick (leb 2 major) (pick (leb arg (room - len)) (Step.Passed (len + arg)) (Step.Refused 2 room))
     (Step.Passed len)))
 
+-- the step that a head is, once it is read
 unfoldable pub stepFrom : ℕ → ℕ → HeadRead → Step
 stepFrom left room (HeadRead.Refused number place) = Step.Refused number place
 stepFrom left room (HeadRead.Head major arg len) = stepOf left room major arg len

@@ -11,7 +11,7 @@ use Rattle.cbor.specs.declared.token.Token.{Token}
 use Rattle.cbor.specs.Head.{headAt}
 use Rattle.cbor.specs.Item.{firstItem}
 
--- no whole head with its string
+-- no whole head with its string: its major type is 8, which no head has
 unfoldable pub nothingAt : ℕ → Token
 nothingAt at = record { at = at; major = 8; arg = 0; body = 0; next = 0 }
 
@@ -22,6 +22,7 @@ tokenOf at room major arg len =
     let string : Token = record { at = at; major = major; arg = arg; body = at + len; next = at + len + arg } in
     pick (ltb 1 major) (pick (ltb major 4) (pick (leb arg (room - len)) string (nothingAt at)) leaf) leaf
 
+-- a token by what was read of its head
 unfoldable pub tokenFrom : ℕ → ℕ → HeadRead → Token
 tokenFrom at room (HeadRead.Refused number place) = nothingAt at
 tokenFrom at room (HeadRead.Head major arg len) = tokenOf at room major arg len
@@ -37,6 +38,7 @@ pub record TokenIs (s : List ℕ) (at : ℕ) (t : Token) : Type 0 where
   pub start : t .body ≤ t .next
   pub end : t .next ≤ length s
 
+-- an item is as long as where it ends
 unfoldable pub sizeFrom : ItemRead → ℕ
 sizeFrom (ItemRead.Refused number place) = 0
 sizeFrom (ItemRead.Ends end) = end
@@ -45,6 +47,7 @@ sizeFrom (ItemRead.Ends end) = end
 unfoldable pub sizeAt : ℕ → List ℕ → ℕ → ℕ
 sizeAt levels s at = sizeFrom (firstItem levels (drop at s))
 
+-- the size at a place, with the bound that callers count with
 pub record SizeIs (levels : ℕ) (s : List ℕ) (at size : ℕ) : Type 0 where
   pub is : size ≡ sizeAt levels s at
   pub within : size ≤ length s - at

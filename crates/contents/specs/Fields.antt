@@ -7,6 +7,7 @@ use Rattle.message.specs.declared.Message.the-variants as M
 use Rattle.message.specs.declared.Extra.{Extra}
 use Rattle.contents.specs.declared.fields.Session.{Session}
 
+-- the number of a message's kind
 abbrev pub kindOf : Message → ℕ
 kindOf M.Noop = 0
 kindOf (M.Discovery session initiator objective) = 1
@@ -20,6 +21,7 @@ kindOf (M.Synch session objective) = 8
 kindOf (M.Flood session initiator ttl first pairs) = 9
 kindOf (M.Invalid session item) = 99
 
+-- its session, which a Noop has not
 unfoldable pub sessionOf : Message → Session
 sessionOf M.Noop = Session.Without
 sessionOf (M.Discovery session initiator objective) = Session.Number session
@@ -47,6 +49,7 @@ initiatorOf (M.Synch session objective) = spanOf 0 0
 initiatorOf (M.Flood session initiator ttl first pairs) = initiator
 initiatorOf (M.Invalid session item) = spanOf 0 0
 
+-- its objective, of a Flood's the first; a Response may have one
 unfoldable pub objectiveOf : Message → Extra
 objectiveOf M.Noop = Extra.Without
 objectiveOf (M.Discovery session initiator objective) = Extra.With objective

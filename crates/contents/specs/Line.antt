@@ -33,6 +33,7 @@ withText line text = record { bytes = sets (line .bytes) (line .len) text; len =
 unfoldable pub kindWord : List ℕ
 kindWord = 107 ∷ 105 ∷ 110 ∷ 100 ∷ 32 ∷ []
 
+-- the line of a message
 unfoldable pub kindLine : ℕ → Line
 kindLine n = padded (kindWord ++ numbered n)
 
@@ -40,12 +41,15 @@ kindLine n = padded (kindWord ++ numbered n)
 unfoldable pub refusedWord : List ℕ
 refusedWord = 114 ∷ 101 ∷ 102 ∷ 117 ∷ 115 ∷ 101 ∷ 100 ∷ 32 ∷ []
 
+-- the line of a refusal
 unfoldable pub refusedLine : ℕ → Line
 refusedLine n = padded (refusedWord ++ numbered n)
 
+-- by what was read
 unfoldable pub lineFrom : Reading → Line
 lineFrom (Reading.Refused number) = refusedLine number
 lineFrom (Reading.Read m) = kindLine (kindOf m)
 
+-- the line for the bytes s
 unfoldable pub lineOf : List ℕ → Line
 lineOf s = lineFrom (readOf s)

@@ -11,17 +11,21 @@ use Rattle.description.specs.declared.Extra.{Extra as Said}
 use Rattle.description.specs.declared.Description.{Description}
 use Rattle.description.specs.declared.Description.the-variants as D
 
+-- an objective, without the place of its count's head
 unfoldable pub goalOf : Objective → Goal
 goalOf o = record { name = o .name; flags = o .flags; count = o .count; value = o .value }
 
+-- a Response's objective, which may be left out
 unfoldable pub saidExtra : Extra → Said
 saidExtra Extra.Without = X.Without
 saidExtra (Extra.With o) = X.With (goalOf o)
 
+-- locators, or a divert of them
 unfoldable pub isDivert : Targets → Bool
 isDivert (Targets.Locators series) = false
 isDivert (Targets.Divert series) = true
 
+-- the description, kind by kind; locators and pairs stand in rows of their own (`Rows`)
 unfoldable pub descriptionOf : Message → Description
 descriptionOf M.Noop = D.Noop
 descriptionOf (M.Discovery session initiator o) = D.Discovery session initiator (goalOf o)

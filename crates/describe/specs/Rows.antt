@@ -27,6 +27,7 @@ rowsFrom next row (suc n) i at list = rowsFrom next row n (i + 1) (next at) (row
 unfoldable pub seriesEnd : ℕ → Series → List ℕ → ℕ
 seriesEnd size series list = pick (ltb (length list / size) (series .many)) (length list + 1) (size * series .many)
 
+-- the list with the rows of a series in front
 unfoldable pub seriesFilled : ℕ → (ℕ → ℕ) → (ℕ → ℕ → List ℕ → List ℕ) → Series → List ℕ → List ℕ
 seriesFilled size next row series list = pick (ltb (length list / size) (series .many)) list (rowsFrom next row (series .many) 0 (series .at) list)
 
@@ -35,6 +36,7 @@ unfoldable pub locatorNextFrom : ℕ → LocatorRead → ℕ
 locatorNextFrom at (LocatorRead.Bad place) = at
 locatorNextFrom at (LocatorRead.Got l size bad) = at + size
 
+-- the list with the numbers of a locator that was read in row i
 unfoldable pub locatorStoredFrom : ℕ → List ℕ → LocatorRead → List ℕ
 locatorStoredFrom i list (LocatorRead.Bad place) = list
 locatorStoredFrom i list (LocatorRead.Got l size bad) = sets list (locatorRow * i) (locatorNumbers l)
@@ -43,6 +45,7 @@ locatorStoredFrom i list (LocatorRead.Got l size bad) = sets list (locatorRow * 
 unfoldable pub locatorNext : List ℕ → ℕ → ℕ
 locatorNext s at = locatorNextFrom at (locatorAt s at)
 
+-- the list with the numbers of the locator at `at` in row i
 unfoldable pub locatorStored : List ℕ → ℕ → ℕ → List ℕ → List ℕ
 locatorStored s at i list = locatorStoredFrom i list (locatorAt s at)
 
@@ -51,10 +54,12 @@ locatorStored s at i list = locatorStoredFrom i list (locatorAt s at)
 unfoldable pub pairCells : Objective → Tag → List ℕ
 pairCells o tag = set (pairNumbers o tag) 4 0
 
+-- the place after a pair that was read
 unfoldable pub pairNextFrom : ℕ → PairRead → ℕ
 pairNextFrom at (PairRead.Bad place) = at
 pairNextFrom at (PairRead.Got o tag size bad long) = at + size
 
+-- the list with the numbers of a pair that was read in row i
 unfoldable pub pairStoredFrom : ℕ → List ℕ → PairRead → List ℕ
 pairStoredFrom i list (PairRead.Bad place) = list
 pairStoredFrom i list (PairRead.Got o tag size bad long) = sets list (pairRow * i) (pairCells o tag)
@@ -63,6 +68,7 @@ pairStoredFrom i list (PairRead.Got o tag size bad long) = sets list (pairRow * 
 unfoldable pub pairNext : List ℕ → ℕ → ℕ
 pairNext s at = pairNextFrom at (pairAt s at)
 
+-- the list with the numbers of the pair at `at` in row i
 unfoldable pub pairStored : List ℕ → ℕ → ℕ → List ℕ → List ℕ
 pairStored s at i list = pairStoredFrom i list (pairAt s at)
 

@@ -21,13 +21,15 @@ use Rattle.options.specs.declared.Outcome.the-variants as E
 use Rattle.description.specs.declared.Description.{Description}
 use Rattle.description.specs.declared.Description.the-variants as D
 
--- how many numbers a row has: a locator's, a pair's, and a pair's before its locator
+-- how many numbers a locator's row has
 abbrev pub locatorRow : ℕ
 locatorRow = 5
 
+-- a pair's row: its objective's numbers, then its locator's
 abbrev pub pairRow : ℕ
 pairRow = 12
 
+-- an objective's numbers
 abbrev pub entryRow : ℕ
 entryRow = 7
 

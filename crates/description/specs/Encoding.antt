@@ -21,9 +21,11 @@ numberOrNull (some n) = head 0 n
 unfoldable pub reached : ℕ → ℕ → List ℕ → List ℕ
 reached kind major bs = head 4 4 ++ head 0 kind ++ string major bs
 
+-- with a protocol and a port that are never null
 unfoldable pub fixed : ℕ → ℕ → List ℕ → ℕ → ℕ → List ℕ
 fixed kind major bs p q = reached kind major bs ++ head 0 p ++ head 0 q
 
+-- each kind of locator
 unfoldable pub encodeLoc : Loc → List ℕ
 encodeLoc (Loc.v6 a p q) = fixed 103 2 a p q
 encodeLoc (Loc.v4 a p q) = fixed 104 2 a p q
@@ -36,13 +38,16 @@ unfoldable pub oneMore : List ℕ → ℕ
 oneMore [] = 0
 oneMore (x ∷ xs) = 1
 
+-- an objective, with its value or without
 unfoldable pub encodeObj : Obj (List ℕ) → List ℕ
 encodeObj o = head 4 (3 + oneMore (o .value)) ++ string 3 (o .name) ++ head 0 (o .flags) ++ head 0 (o .count) ++ o .value
 
+-- an objective that may be left out
 unfoldable pub maybeObj : Option (Obj (List ℕ)) → List ℕ
 maybeObj none = []
 maybeObj (some o) = encodeObj o
 
+-- how many items that is
 unfoldable pub howMany : {A : Type 0} → Option A → ℕ
 howMany none = 0
 howMany (some x) = 1
@@ -52,6 +57,7 @@ unfoldable pub locOrEmpty : Option Loc → List ℕ
 locOrEmpty none = head 4 0
 locOrEmpty (some l) = encodeLoc l
 
+-- a Flood's pair
 unfoldable pub encodePair : Pair (List ℕ) → List ℕ
 encodePair p = head 4 2 ++ encodeObj (p .0) ++ locOrEmpty (p .1)
 
@@ -61,6 +67,7 @@ unfoldable pub targetItems : Aim → ℕ
 targetItems (Aim.locators ls) = length ls
 targetItems (Aim.divert ls) = 1
 
+-- the locators one after the other, or the divert that holds them
 unfoldable pub encodeTargets : Aim → List ℕ
 encodeTargets (Aim.locators ls) = flatMap encodeLoc ls
 encodeTargets (Aim.divert ls) = head 4 (1 + length ls) ++ head 0 100 ++ flatMap encodeLoc ls
@@ -79,6 +86,7 @@ preamble n kind session = head 4 n ++ head 0 kind ++ head 0 session
 unfoldable pub exchange : ℕ → ℕ → Obj (List ℕ) → List ℕ
 exchange kind session o = preamble 3 kind session ++ encodeObj o
 
+-- a message: the array of its items
 unfoldable pub encodeMsg : Msg (List ℕ) → List ℕ
 encodeMsg Msg.noop = head 4 1 ++ head 0 0
 encodeMsg (Msg.discovery s i o) = preamble 4 1 s ++ string 2 i ++ encodeObj o

@@ -96,13 +96,15 @@ okOutcome source E.Accept = true
 okOutcome source E.Decline = true
 okOutcome source (E.Reason t) = inside source t
 
--- the three kinds that have an initiator
+-- a Discovery's initiator and objective
 unfoldable pub okDiscovery : List ℕ → Span → Entry → Bool
 okDiscovery source i o = pick (inside source i) (okEntry source o) false
 
+-- a Response's initiator, rows and objective, which may be left out
 unfoldable pub okResponse : List ℕ → List ℕ → Span → Extra → Bool
 okResponse source list i o = pick (inside source i) (pick (okRows source list) (okExtra source o) false) false
 
+-- a Flood's initiator and rows
 unfoldable pub okFlood : List ℕ → List ℕ → Span → Bool
 okFlood source list i = pick (inside source i) (okPairs source list) false
 

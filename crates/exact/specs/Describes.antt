@@ -55,13 +55,13 @@ pub data ExtraIs (s : List ℕ) (p : ℕ) : Extra → Option (Obj Value) → Typ
   without : p ≡ length s → ExtraIs s p Extra.Without none
   with-one : {o : Objective} {obj : Obj Value} → ObjectiveIs s p (length s) o obj → ExtraIs s p (Extra.With o) (some obj)
 
+-- an End's outcome; a reason stands at the message's end
 pub data OutcomeIs (s : List ℕ) : Outcome → Ending → Type 0 where
   accept : OutcomeIs s Outcome.Accept Ending.accept
   decline : OutcomeIs s Outcome.Decline Ending.decline
   reason : {span : Span} {content : List ℕ} → Before (length s) content span → OutcomeIs s (Outcome.Reason span) (Ending.reason content)
 
--- the numbers are the message's; where an answer has places, each part stands right after the one before it, from the message's start on, and a reason
--- stands at the message's end
+-- the numbers are the message's; where an answer has places, each part stands right after the one before it, from the message's start on
 pub data Describes (s : List ℕ) : Message → Msg Value → Type 0 where
   noop : Describes s M.Noop Msg.noop
   discovery : {session p q r : ℕ} {i : Span} {from : List ℕ} {o : Objective} {obj : Obj Value}

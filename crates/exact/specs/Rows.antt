@@ -22,6 +22,7 @@ pub record Fits (s : List ℕ) : Type 0 where
 pub data UnknownKind : Item → Type 0 where
   unknown : {w v n : ℕ} {xs : Items} → 9 < n → n ≢ 99 → UnknownKind (Item.array w (Items.more (uint v n) xs))
 
+-- refusal n is due of s
 pub data Row (s : List ℕ) : ℕ → Type 0 where
   -- 0 bytes, or too many
   size : (length s ≡ 0) ⊎ (mostBytes < length s) → Row s 1

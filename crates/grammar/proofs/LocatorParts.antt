@@ -156,7 +156,7 @@ module _ (s : List ℕ) (p : ℕ) (w : Token) (read : w ≡ tokenAt s p) where
       small e low = small-heading s p w read (omega (arith, eqb-true (w .major) 0 e)) low
 
   -- a port that was read
-  pub port-here : Bytes s → (kind : ℕ) → portOf kind w ≤ 65536 → Here s p (w .next) Port 65536 kind (portOf kind w)
+  pub port-here : Bytes s → (kind : ℕ) → (portOf kind w ≡ 65537 → ⊥) → Here s p (w .next) Port 65536 kind (portOf kind w)
   unfolding portOf
   port-here bytes kind =
       pick-case by (eqb (w .major) 0)
@@ -164,10 +164,10 @@ module _ (s : List ℕ) (p : ℕ) (w : Token) (read : w ≡ tokenAt s p) where
       (λ _. pick-case by (eqb kind 106) (λ e. pick-case by (isNull w) (λ z _. null-of Port 65536 kind e z) (λ _. nothing)) (λ _. nothing))
     where
       by : ℕ → Type 0
-      by n = n ≤ 65536 → Here s p (w .next) Port 65536 kind n
+      by n = (n ≡ 65537 → ⊥) → Here s p (w .next) Port 65536 kind n
 
       nothing : by 65537
-      nothing low = absurd (omega arith)
+      nothing other = absurd (other refl)
 
 -- an address that fits its kind
 pub record AddressIs (kind : ℕ) (w : Token) : Type 0 where
@@ -227,10 +227,10 @@ module _ {s : List ℕ} {p e : ℕ} where
   protocol-reads {kind} (OfKind.missing is-uri) a = (null-reads (protocolOf kind) 0 a (rw (eq-eqb kind 106 is-uri, is-null-token p)), λ z. omega arith)
 
   -- a port that stands there
-  pub port-reads : {kind n : ℕ} {x : Item} → OfKind Port 65536 kind x n → Stands s p e x → Reads (portOf kind) s p e n × (n ≤ 65536)
+  pub port-reads : {kind n : ℕ} {x : Item} → OfKind Port 65536 kind x n → Stands s p e x → Reads (portOf kind) s p e n × (n ≡ 65537 → ⊥)
   unfolding portOf pick
-  port-reads {kind} {n} (OfKind.given (Port.port h)) a = (number-reads (portOf kind) n a (rw (le-leb n 65535 h)), omega arith)
-  port-reads {kind} (OfKind.missing is-uri) a = (null-reads (portOf kind) 65536 a (rw (eq-eqb kind 106 is-uri, is-null-token p)), lit≤ tt)
+  port-reads {kind} {n} (OfKind.given (Port.port h)) a = (number-reads (portOf kind) n a (rw (le-leb n 65535 h)), λ z. omega arith)
+  port-reads {kind} (OfKind.missing is-uri) a = (null-reads (portOf kind) 65536 a (rw (eq-eqb kind 106 is-uri, is-null-token p)), λ z. omega arith)
 
 -- an address that stands there
 pub address-reads : {kind : ℕ} {t : Bool} {a : List ℕ} → Address kind t a → (w : Token) → w .major ≡ cond t 3 2 → w .arg ≡ length a

@@ -46,9 +46,9 @@ sound m base by =
     (λ t₃. pick-case P (eqb (a .arg) 4)
     (λ t₄. pick-case P (addressFits kind b)
     (λ t₅. pick-case P (eqb (protocolOf kind p) 255) (λ _. tt)
-    (λ t₆. pick-case P (ltb 65536 (portOf kind q)) (λ _. tt)
+    (λ t₆. pick-case P (eqb (portOf kind q) 65537) (λ _. tt)
     (λ t₇. got (is-array a (eqb-false (itemsIn a) 0 t₁)) (eqb-true (a .arg) 4 t₄)
-    (address-here b kind (ltb-false kind 103 t₂) (ltb-false 106 kind t₃) t₅) (eqb-false (protocolOf kind p) 255 t₆) (ltb-false 65536 (portOf kind q) t₇))))
+    (address-here b kind (ltb-false kind 103 t₂) (ltb-false 106 kind t₃) t₅) (eqb-false (protocolOf kind p) 255 t₆) (eqb-false (portOf kind q) 65537 t₇))))
     (λ _. tt))
     (λ _. tt))))
   where
@@ -79,7 +79,7 @@ sound m base by =
     bytes : Bytes s
     bytes = bytes-drop base m by
 
-    got : a .major ≡ 4 → a .arg ≡ 4 → AddressIs kind b → (protocolOf kind p ≡ 255 → ⊥) → portOf kind q ≤ 65536
+    got : a .major ≡ 4 → a .arg ≡ 4 → AddressIs kind b → (protocolOf kind p ≡ 255 → ⊥) → (portOf kind q ≡ 65537 → ⊥)
         → P (LocatorRead.Got (locatorOf kind (base + b .body) (b .next - b .body) (protocolOf kind p) (portOf kind q)) (q .next) (textOf kind (contentIn s b) (base + b .at)))
     got array four fits some-protocol some-port =
         let ha = token-heading s 0 a bytes refl (omega arith) in
@@ -122,11 +122,11 @@ locator-sound m base l size bad by q = subst (Sound m base) q (sound m base by)
 -- the reader's tests, over plain tokens
 accept : (base : ℕ) (s : List ℕ) (a k b p q : Token) (kind pn qn : ℕ) → a ≡ tokenAt s 0 → k ≡ tokenAt s (a .next) → b ≡ tokenAt s (k .next)
     → p ≡ tokenAt s (b .next) → q ≡ tokenAt s (p .next) → upTo 106 k ≡ kind → protocolOf kind p ≡ pn → portOf kind q ≡ qn
-    → (itemsIn a ≡ 0 → ⊥) → 103 ≤ kind → kind ≤ 106 → a .arg ≡ 4 → addressFits kind b ≡ true → (pn ≡ 255 → ⊥) → qn ≤ 65536
+    → (itemsIn a ≡ 0 → ⊥) → 103 ≤ kind → kind ≤ 106 → a .arg ≡ 4 → addressFits kind b ≡ true → (pn ≡ 255 → ⊥) → (qn ≡ 65537 → ⊥)
     → locatorIn base s ≡ LocatorRead.Got (locatorOf kind (base + b .body) (b .next - b .body) pn qn) (q .next) (textOf kind (contentIn s b) (base + b .at))
 unfolding locatorIn locatorReached pick
 accept base s a k b p q kind pn qn ea ek eb ep eq e₁ e₂ e₃ t₁ t₂ t₃ t₄ t₅ t₆ t₇ =
-    rw (← ea, ← ek, ← eb, ← ep, ← eq, e₁, e₂, e₃, ne-eqb _ _ t₁, le-ltb _ _ t₂, le-ltb _ _ t₃, eq-eqb _ _ t₄, t₅, ne-eqb _ _ t₆, le-ltb _ _ t₇)
+    rw (← ea, ← ek, ← eb, ← ep, ← eq, e₁, e₂, e₃, ne-eqb _ _ t₁, le-ltb _ _ t₂, le-ltb _ _ t₃, eq-eqb _ _ t₄, t₅, ne-eqb _ _ t₆, ne-eqb _ _ t₇)
 
 reads : {m : List ℕ} {base e : ℕ} {x : Item} → Stands m base e x → Shape x
     → (l : Locator) × (bad : ℕ) × (locatorAt m base ≡ LocatorRead.Got l (e - base) bad) × LocatorItem x (locOf m l)

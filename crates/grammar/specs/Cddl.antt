@@ -11,22 +11,28 @@ use Rattle.cbor.specs.Tree.{Item, Items}
 use Rattle.syntax.specs.Message.{Loc, Obj, Pair, Aim, Ending, Msg}
 
 -- ---- items
+-- an unsigned number
 abbrev pub uint : ℕ → ℕ → Item
 uint width n = Item.number false width n
 
+-- a byte string
 abbrev pub bytes : ℕ → List ℕ → Item
 bytes width content = Item.string false width content
 
+-- a text string
 abbrev pub text : ℕ → List ℕ → Item
 text width content = Item.string true width content
 
+-- null, simple value 22
 abbrev pub null : Item
 null = Item.simple 0 22
 
+-- items one after the other
 abbrev pub list : List Item → Items
 list [] = Items.done
 list (x ∷ xs) = Items.more x (list xs)
 
+-- an array of these items
 abbrev pub array : ℕ → List Item → Item
 array width xs = Item.array width (list xs)
 
@@ -78,6 +84,7 @@ pub data PairItem : Item → Pair Value → Type 0 where
   untagged : {w v : ℕ} {x : Item} {obj : Obj Value} → ObjectiveItem x obj → PairItem (array w (x ∷ array v [] ∷ [])) (obj, none)
   tagged : {w : ℕ} {x y : Item} {obj : Obj Value} {loc : Loc} → ObjectiveItem x obj → LocatorItem y loc → PairItem (array w (x ∷ y ∷ [])) (obj, some loc)
 
+-- *[objective, (locator-option / [])]; that there is one at least is asked where it is due
 pub data PairItems : Items → List (Pair Value) → Type 0 where
   empty : PairItems Items.done []
   more : {x : Item} {p : Pair Value} {xs : Items} {ps : List (Pair Value)} → PairItem x p → PairItems xs ps → PairItems (Items.more x xs) (p ∷ ps)
@@ -108,11 +115,13 @@ pub data AimItems : Items → Aim → Option (Obj Value) → Type 0 where
   divert : {w k : ℕ} {xs ys : Items} {l : Loc} {ls : List Loc} {obj : Option (Obj Value)} → LocatorItems xs (l ∷ ls) → OptionalItems ys obj
       → AimItems (Items.more (Item.array w (Items.more (uint k 100) xs)) ys) (Aim.divert (l ∷ ls)) obj
 
+-- accept-option / decline-option
 pub data EndingItem : Item → Ending → Type 0 where
   accept : {w k : ℕ} → EndingItem (array w (uint k 101 ∷ [])) Ending.accept
   decline : {w k : ℕ} → EndingItem (array w (uint k 102 ∷ [])) Ending.decline
   reason : {w k t : ℕ} {content : List ℕ} → EndingItem (array w (uint k 102 ∷ text t content ∷ [])) (Ending.reason content)
 
+-- grasp-message: one case for each row of the rules' table of messages
 pub data MessageItem : Item → Msg Value → Type 0 where
   noop : {w k : ℕ} → MessageItem (array w (uint k 0 ∷ [])) Msg.noop
   discovery : {w k session : ℕ} {s i x : Item} {from : List ℕ} {obj : Obj Value} → Number s session → Initiator i from → ObjectiveItem x obj

@@ -19,9 +19,11 @@ unfoldable pub blockFrom : Reading → List ℕ → List ℕ
 blockFrom (Reading.Refused number) fields = fields
 blockFrom (Reading.Read m) fields = blockOf m
 
+-- what `grasp_read` answers
 unfoldable pub readNumber : List ℕ → ℕ
 readNumber s = numberFrom (readOf s)
 
+-- the block that it leaves
 unfoldable pub readBlock : List ℕ → List ℕ → List ℕ
 readBlock s fields = blockFrom (readOf s) fields
 
@@ -30,13 +32,16 @@ unfoldable pub locatorEndFrom : ℕ → LocatorRead → ℕ
 locatorEndFrom at (LocatorRead.Bad place) = 0
 locatorEndFrom at (LocatorRead.Got l size bad) = at + size
 
+-- the locator's numbers, or what was there
 unfoldable pub locatorFrom : LocatorRead → List ℕ → List ℕ
 locatorFrom (LocatorRead.Bad place) fields = fields
 locatorFrom (LocatorRead.Got l size bad) fields = locatorNumbers l
 
+-- what `grasp_locator` answers
 unfoldable pub locatorEnd : List ℕ → ℕ → ℕ
 locatorEnd s at = locatorEndFrom at (locatorAt s at)
 
+-- the numbers that it leaves
 unfoldable pub locatorAfter : List ℕ → ℕ → List ℕ → List ℕ
 locatorAfter s at fields = locatorFrom (locatorAt s at) fields
 
@@ -45,12 +50,15 @@ unfoldable pub pairEndFrom : ℕ → PairRead → ℕ
 pairEndFrom at (PairRead.Bad place) = 0
 pairEndFrom at (PairRead.Got o tag size bad long) = at + size
 
+-- the pair's numbers, or what was there
 unfoldable pub pairFrom : PairRead → List ℕ → List ℕ
 pairFrom (PairRead.Bad place) fields = fields
 pairFrom (PairRead.Got o tag size bad long) fields = pairNumbers o tag
 
+-- what `grasp_pair` answers
 unfoldable pub pairEnd : List ℕ → ℕ → ℕ
 pairEnd s at = pairEndFrom at (pairAt s at)
 
+-- the numbers that it leaves
 unfoldable pub pairAfter : List ℕ → ℕ → List ℕ → List ℕ
 pairAfter s at fields = pairFrom (pairAt s at) fields

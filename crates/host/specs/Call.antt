@@ -27,6 +27,7 @@ verdictNumber Relay = 7
 verdictNumber Noop = 8
 verdictNumber Hand = 9
 
+-- 1 where the message is handed up
 unfoldable pub upNumber : Bool → ℕ
 upNumber true = 1
 upNumber false = 0
@@ -36,6 +37,7 @@ unfoldable pub replyNumbers : Reply → Record → A.Answer
 replyNumbers (Refused number) r = record { refusal = number; verdict = 0; «handed_up» = 0; mask = 0; length = 0; node = r }
 replyNumbers (Given v up mask len) r = record { refusal = 0; verdict = verdictNumber v; «handed_up» = upNumber up; mask = mask; length = len; node = r }
 
+-- a call's answer
 unfoldable pub answerFrom : Called → A.Answer
 answerFrom b = replyNumbers (b .reply) (b .node)
 
@@ -69,6 +71,7 @@ pub record Left : Type 0 where
   pub output : List ℕ
   pub answer : List ℕ
 
+-- what is left, part by part
 abbrev pub leftOf : ℕ → Record → List ℕ → List ℕ → List ℕ → Left
 leftOf refusal node table output answer = record { refusal = refusal; node = node; table = table; output = output; answer = answer }
 

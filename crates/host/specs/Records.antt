@@ -25,6 +25,7 @@ nodeOf address f =
       tally = getD f 5 0;
     }))))
 
+-- a record's numbers
 unfoldable pub nodeNumbers : Record → List ℕ
 nodeNumbers r = r .port ∷ r .ttl ∷ r .interfaces ∷ r .links ∷ r .clock ∷ r .tally ∷ []
 

@@ -14,6 +14,7 @@ use Rattle.negotiation.specs.declared.State.the-variants.{Fresh, Open, Closed}
 unfoldable pub sideOf : ℕ → Side
 sideOf n = pick (eqb n 0) Us Them
 
+-- a side's number
 abbrev pub sideNumber : Side → ℕ
 sideNumber Us = 0
 sideNumber Them = 1

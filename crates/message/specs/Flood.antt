@@ -16,10 +16,12 @@ use Rattle.message.specs.declared.shape.Shape.the-variants.{Bad, Good}
 use Rattle.message.specs.Opening.{openingAt}
 use Rattle.message.specs.Sequence.{pairsFrom}
 
+-- a Flood whose other pairs were read
 unfoldable pub floodedBy : Opening → Pair → Series → PairsRead → Shape
 floodedBy o first pairs (PairsRead.Bad place) = Bad place
 floodedBy o first pairs (PairsRead.Ran end bad long) = Good (M.Flood (o .session) (o .initiator) (o .ttl) first pairs) end bad long
 
+-- one whose first pair was read; n pairs from `at` on in all
 unfoldable pub floodedOf : List ℕ → Opening → ℕ → ℕ → PairRead → Shape
 floodedOf s opening n at (PairRead.Bad place) = Bad place
 floodedOf s opening n at (PairRead.Got objective tag size bad long) =
@@ -29,6 +31,7 @@ floodedOf s opening n at (PairRead.Got objective tag size bad long) =
 unfoldable pub floodedAt : List ℕ → Opening → ℕ → ℕ → Shape
 floodedAt s opening n at = floodedOf s opening n at (pairAt s at)
 
+-- a Flood, by what was read of its opening
 unfoldable pub floodBy : List ℕ → ℕ → OpeningRead → Shape
 floodBy s n (OpeningRead.Bad place) = Bad place
 floodBy s n (OpeningRead.Got opening next) = floodedAt s opening (n - 4) next

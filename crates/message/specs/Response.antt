@@ -35,7 +35,7 @@ module _ (s : List ℕ) (opening : Opening) where
   restAt targets left at bad =
       pick (eqb left 0) (Good (responseOf opening targets Extra.Without) at bad 0) (restOf targets left at bad (objectiveAt objectiveLevels s at))
 
-  -- a divert whose locators, so many, were read from `from` on
+  -- a divert whose locators, so many, were read from `from` on; where a text leads one of them, that text departs
   unfoldable pub divertOf : ℕ → ℕ → ℕ → LocatorsRead → Shape
   divertOf left many from (LocatorsRead.Bad place) = Bad place
   divertOf left many from (LocatorsRead.Ran end over bad) =
@@ -45,7 +45,7 @@ module _ (s : List ℕ) (opening : Opening) where
   unfoldable pub divertAt : ℕ → ℕ → ℕ → ℕ → Shape
   divertAt left n at from = pick (ltb n 2) (Bad at) (divertOf left (n - 1) from (locatorsFrom s (n - 1) from 0))
 
-  -- locators that were read from `at` on, of n items
+  -- locators that were read from `at` on, of n items; where a text leads the first, that text departs
   unfoldable pub locatedOf : ℕ → ℕ → LocatorsRead → Shape
   locatedOf n at (LocatorsRead.Bad place) = Bad place
   locatedOf n at (LocatorsRead.Ran end left bad) =
@@ -64,6 +64,7 @@ module _ (s : List ℕ) (opening : Opening) where
       pick (eqb (itemsIn o) 0) located
       (pick (eqb (upTo 100 x) 100) (divertAt (n - 1) (o .arg) at (x .next)) located)
 
+-- a Response, by what was read of its opening
 unfoldable pub responseBy : List ℕ → ℕ → OpeningRead → Shape
 responseBy s n (OpeningRead.Bad place) = Bad place
 responseBy s n (OpeningRead.Got opening next) = targetsAt s opening (n - 4) next

@@ -25,7 +25,7 @@ unfoldable pub locatorThen : (ℕ → ℕ → LocatorsRead) → ℕ → ℕ → 
 locatorThen go at bad (LocatorRead.Bad place) = LocatorsRead.Bad place
 locatorThen go at bad (LocatorRead.Got l size bad′) = go (at + size) (firstOf bad bad′)
 
--- locators, n at most, up to an array that a text leads
+-- locators, n at most, up to an array that a text leads, which is an objective: where they end, how many of the n items are left, and the first bad text
 unfoldable pub locatorsFrom : List ℕ → ℕ → ℕ → ℕ → LocatorsRead
 locatorsFrom s zero at bad = LocatorsRead.Ran at 0 bad
 locatorsFrom s (suc n) at bad =
@@ -37,7 +37,7 @@ unfoldable pub pairThen : (ℕ → ℕ → ℕ → PairsRead) → ℕ → ℕ �
 pairThen go at bad long (PairRead.Bad place) = PairsRead.Bad place
 pairThen go at bad long (PairRead.Got o t size bad′ long′) = go (at + size) (firstOf bad bad′) (firstOf long long′)
 
--- n pairs
+-- n pairs: where they end, the first bad text and the first long name
 unfoldable pub pairsFrom : List ℕ → ℕ → ℕ → ℕ → ℕ → PairsRead
 pairsFrom s zero at bad long = PairsRead.Ran at bad long
 pairsFrom s (suc n) at bad long = pairThen (pairsFrom s n) at bad long (pairAt s at)

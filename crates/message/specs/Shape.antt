@@ -1,5 +1,6 @@
 -- The shapes of the kinds but Response and Flood (RFC 8990, section 2.8 and its CDDL): a message s of n items in all, the first
--- after the kind at `at`. A shape has the place where the message's parts end.
+-- after the kind at `at`. A good shape has the message, the place where its parts end, and the places of the first text that isn't UTF-8 and of the first name
+-- that is too long, 0 for none; a bad one has the place of the first departure, which is the message's own, 0, where the number of items is wrong.
 use Prim.Native.Nat.{ℕ, _+_}
 use mathlib.Core.List.{List}
 use lib.Dec.{ltb, eqb}

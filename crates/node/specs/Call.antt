@@ -33,6 +33,7 @@ pub record Call : Type 0 where
   pub message : List ℕ
   pub output : List ℕ
 
+-- a call, argument by argument
 abbrev pub callOf : ℕ → ℕ → List ℕ → List ℕ → List ℕ → Call
 callOf clock interface names message output = record { clock = clock; interface = interface; names = names; message = message; output = output }
 
@@ -42,6 +43,7 @@ pub record After : Type 0 where
   pub table : List ℕ
   pub output : List ℕ
 
+-- what is after a call, part by part
 abbrev pub afterOf : Called → List ℕ → List ℕ → After
 afterOf called table output = record { called = called; table = table; output = output }
 
@@ -55,6 +57,7 @@ barred r t clock interface names room =
     (pick (namesBad names) 16
     (pick (ltb room mostBytes) 17 0)))))
 
+-- a reply beside the record
 abbrev pub replies : Reply → Record → Called
 replies reply r = record { reply = reply; node = r }
 

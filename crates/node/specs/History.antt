@@ -24,6 +24,7 @@ use Rattle.node.specs.Call.{Call, After, nodeCall}
 
 -- ---- the list
 
+-- a node call, or a setting of the links
 pub data Event : Type 0 where
   call : Call → Event
   links : ℕ → Event
@@ -50,6 +51,7 @@ finally r t (links mask ∷ es) = finally (setLinks r mask .node) t es
 
 -- ---- what an answer says
 
+-- the verdict is RELAY
 unfoldable pub isRelay : Verdict → Bool
 isRelay Own = false
 isRelay Answer = false
@@ -61,14 +63,17 @@ isRelay Relay = true
 isRelay Noop = false
 isRelay Hand = false
 
+-- the answer is RELAY
 unfoldable pub saysRelay : Reply → Bool
 saysRelay (Refused number) = false
 saysRelay (Given v up mask len) = isRelay v
 
+-- the outgoing mask, none where the call is refused
 unfoldable pub maskOf : Reply → ℕ
 maskOf (Refused number) = 0
 maskOf (Given v up mask len) = mask
 
+-- how many bytes are written
 unfoldable pub lengthOf : Reply → ℕ
 lengthOf (Refused number) = 0
 lengthOf (Given v up mask len) = len
@@ -82,15 +87,18 @@ pub record Told : Type 0 where
   pub initiator : List ℕ
   pub count : ℕ
 
+-- a session, 0 where there is none
 unfoldable pub numberIn : Session → ℕ
 numberIn Session.Without = 0
 numberIn (Session.Number n) = n
 
+-- by what was read; nothing of a refused message
 unfoldable pub toldReading : List ℕ → Reading → Told
 toldReading s (Reading.Refused number) = record { kind = 0; session = 0; initiator = []; count = 0 }
 toldReading s (Reading.Read m) =
     record { kind = kindOf m; session = numberIn (sessionOf m); initiator = held s (initiatorOf m); count = countIn (objectiveOf m) }
 
+-- of the bytes s
 unfoldable pub told : List ℕ → Told
 told s = toldReading s (readOf s)
 
@@ -109,9 +117,11 @@ given x = told (x .call .message)
 unfoldable pub sent : Step → Told
 sent x = told (take (lengthOf (x .after .called .reply)) (x .after .output))
 
+-- the call's clock
 unfoldable pub clockOf : Step → ℕ
 clockOf x = x .call .clock
 
+-- the interface that the message came in by
 unfoldable pub arrivedOn : Step → ℕ
 arrivedOn x = x .call .interface
 
@@ -124,6 +134,7 @@ interfacesIn (suc n) mask = pick (hasBit mask n) (n ∷ interfacesIn n mask) (in
 unfoldable pub copies : Step → List ℕ
 copies x = interfacesIn 8 (maskOf (x .after .called .reply))
 
+-- the copies of these together
 unfoldable pub copiesOf : List Step → ℕ
 copiesOf [] = 0
 copiesOf (x ∷ xs) = length (copies x) + copiesOf xs

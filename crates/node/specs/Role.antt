@@ -17,6 +17,7 @@ use Rattle.node.specs.declared.role.Role.{Role}
 use Rattle.node_state.specs.declared.key.Key.{Key}
 use Rattle.node_state.specs.Key.{keyOf}
 
+-- what is looked at in a Discovery or a Flood
 abbrev pub spreadOf : Bool → ℕ → Span → Objective → Spread
 spreadOf flood session initiator objective = record { flood = flood; session = session; initiator = initiator; objective = objective }
 

@@ -9,10 +9,11 @@ use Rattle.base.specs.Bits.{hasBit}
 use Rattle.node_state.specs.declared.Record.{Record}
 use Rattle.node_state.specs.declared.Kept.{Kept}
 
--- house limits: how many interfaces a node has at most, and how many copies it tallies
+-- house limit: how many interfaces a node has at most
 abbrev pub mostInterfaces : ℕ
 mostInterfaces = 8
 
+-- house limit: how many copies it tallies at most
 abbrev pub mostTally : ℕ
 mostTally = 2 ^ 63
 

@@ -16,6 +16,7 @@ mostRows = 64
 abbrev pub tableNumbers : ℕ
 tableNumbers = 4 * mostRows
 
+-- a fresh table: every row is free
 unfoldable pub freshTable : List ℕ
 freshTable = replicate tableNumbers 0
 
@@ -70,10 +71,11 @@ someRow p = ltb (firstFrom p mostRows 0) mostRows
 unfoldable pub tableBad : ℕ → List ℕ → Bool
 tableBad now t = not (eqb (length t) tableNumbers) || someRow (rowBad now t)
 
--- house limits: how long a row lives, in ms
+-- house limits: how long a row lives, in ms; of a Discovery
 abbrev pub discoveryLife : ℕ
 discoveryLife = 60000
 
+-- and of a Flood
 abbrev pub floodLife : ℕ
 floodLife = 120000
 
@@ -90,6 +92,7 @@ unfoldable pub freeRows : ℕ → List ℕ → ℕ → List ℕ
 freeRows now t zero = t
 freeRows now t (suc n) = let f = freeRows now t n in pick (rowDead now f n) (putRow f n noKey 0) f
 
+-- the table with every dead row freed
 unfoldable pub freed : ℕ → List ℕ → List ℕ
 freed now t = freeRows now t mostRows
 

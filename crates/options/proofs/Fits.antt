@@ -23,7 +23,7 @@ use Rattle.options.specs.declared.locator.LocatorRead.{LocatorRead}
 use Rattle.options.specs.declared.objective.Objective.{Objective}
 use Rattle.options.specs.declared.objective.ObjectiveRead.{ObjectiveRead}
 use Rattle.options.specs.declared.pair.PairRead.{PairRead}
-use Rattle.options.specs.Locator.{isNull, addressFits, noProtocol, nullPort, protocolOf, portOf, locatorIn, locatorReached}
+use Rattle.options.specs.Locator.{isNull, addressFits, noProtocol, noPort, protocolOf, portOf, locatorIn, locatorReached}
 use Rattle.options.specs.Objective.{objectiveFrom, objectiveIn, objectiveNamed}
 use Rattle.options.specs.Pair.{isEmpty, pairLevels, pairTagged, pairTail, pairLed, pairIn}
 
@@ -54,14 +54,14 @@ protocol-leaf kind t =
     P p = (p ≡ noProtocol → ⊥) → Leaf t
 
 -- what is read as a port is a leaf
-port-leaf : (kind : ℕ) (t : Token) → portOf kind t ≤ nullPort → Leaf t
+port-leaf : (kind : ℕ) (t : Token) → (portOf kind t ≡ noPort → ⊥) → Leaf t
 unfolding portOf
 port-leaf kind t =
     pick-case P (eqb (t .major) 0) (λ e _. inl (omega (arith, eqb-true (t .major) 0 e)))
-    (λ _. both P (eqb kind 106) (pick-case P (isNull t) (λ e _. null-leaf t e) (λ _ h. absurd (omega arith))) (λ h. absurd (omega arith)))
+    (λ _. both P (eqb kind 106) (pick-case P (isNull t) (λ e _. null-leaf t e) (λ _ n. absurd (n refl))) (λ n. absurd (n refl)))
   where
     P : ℕ → Type 0
-    P p = p ≤ nullPort → Leaf t
+    P p = (p ≡ noPort → ⊥) → Leaf t
 
 -- a locator has six bytes at least, and lies within so many
 abbrev pub LocatorOk : ℕ → LocatorRead → Type 0
@@ -83,14 +83,14 @@ locator-told base s =
     (λ t₃. pick-case P (eqb (a .arg) 4)
     (λ t₄. pick-case P (addressFits kind b)
     (λ t₅. pick-case P (eqb (protocolOf kind p) noProtocol) (λ _. (tt, tt))
-    (λ t₆. pick-case P (ltb nullPort (portOf kind q)) (λ _. (tt, tt))
+    (λ t₆. pick-case P (eqb (portOf kind q) noPort) (λ _. (tt, tt))
     (λ t₇.
     let four : a .major ≡ 4 = is-array a (eqb-false (itemsIn a) 0 t₁) in
     let (number, same) = is-number 106 k (ltb-false 106 kind t₃) in
     let high : 103 ≤ kind = ltb-false kind 103 t₂ in
     let address = address-leaf kind b t₅ in
     let protocol = protocol-leaf kind p (eqb-false (protocolOf kind p) noProtocol t₆) in
-    let port = port-leaf kind q (ltb-false nullPort (portOf kind q) t₇) in
+    let port = port-leaf kind q (eqb-false (portOf kind q) noPort t₇) in
     let a₁ : 0 + 1 ≤ a .next = token-has s 0 .some (omega arith) in
     let k₁ : a .next + 2 ≤ k .next = token-has s (a .next) .wide (omega arith) in
     let b₁ : k .next + 1 ≤ b .next = token-has s (k .next) .some (leaf-there b address) in

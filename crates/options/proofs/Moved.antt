@@ -20,7 +20,7 @@ use Rattle.options.specs.declared.objective.ObjectiveRead.{ObjectiveRead
 use Rattle.options.specs.declared.pair.Tag.{Tag}
 use Rattle.options.specs.declared.pair.PairRead.{PairRead}
 use Rattle.options.specs.Text.{firstOf, contentIn}
-use Rattle.options.specs.Locator.{addressFits, noProtocol, nullPort, protocolOf, portOf, textOf, locatorIn, locatorReached}
+use Rattle.options.specs.Locator.{addressFits, noProtocol, noPort, protocolOf, portOf, textOf, locatorIn, locatorReached}
 use Rattle.options.specs.Objective.{objectiveIn, objectiveNamed}
 use Rattle.options.specs.Pair.{isEmpty, pairLevels, pairTagged, pairTail, pairLed, pairIn}
 use Rattle.options.proofs.Texts.{none-first, NoneMoves, bad-text-moves, long-name-moves}
@@ -49,7 +49,7 @@ locator-moves base base′ s =
     (λ t. one-test LocatorMoves (eqb (a .arg) 4)
     (one-test LocatorMoves (addressFits kind b)
     (one-test LocatorMoves (eqb (protocolOf kind p) noProtocol) tt
-    (one-test LocatorMoves (ltb nullPort (portOf kind q)) tt (locator-got (text t))))
+    (one-test LocatorMoves (eqb (portOf kind q) noPort) tt (locator-got (text t))))
     tt)
     tt)))
   where

@@ -22,20 +22,23 @@ isNull t = eqb (t .major) 7 && eqb (t .arg) 22 && eqb (t .body - t .at) 1
 unfoldable pub addressFits : ℕ → Token → Bool
 addressFits kind t = pick (leb 105 kind) (eqb (t .major) 3) (eqb (t .major) 2 && pick (eqb kind 103) (eqb (t .arg) 16) (eqb (t .arg) 4))
 
--- what a locator has for a protocol that is null, and what is read of anything else that is no protocol
+-- what a locator has for a protocol that is null
 abbrev pub nullProtocol : ℕ
 nullProtocol = 0
 
+-- what is read of anything else that is no protocol
 abbrev pub noProtocol : ℕ
 noProtocol = 255
 
--- the greatest port; what a locator has for a port that is null, and what is read of anything else that is no port
+-- the greatest port
 abbrev pub mostPort : ℕ
 mostPort = 65535
 
+-- what a locator has for a port that is null
 abbrev pub nullPort : ℕ
 nullPort = 65536
 
+-- what is read of anything else that is no port
 abbrev pub noPort : ℕ
 noPort = 65537
 
@@ -53,6 +56,7 @@ portOf kind t =
     (pick (leb (t .arg) mostPort) (t .arg) noPort)
     (pick (eqb kind 106) (pick (isNull t) nullPort noPort) noPort)
 
+-- the locator of a kind, by where its address or text stands
 unfoldable pub locatorOf : ℕ → ℕ → ℕ → ℕ → ℕ → Locator
 locatorOf kind at len protocol port =
     pick (eqb kind 103) (L.V6 at protocol port)
@@ -60,6 +64,7 @@ locatorOf kind at len protocol port =
     (pick (eqb kind 105) (L.Domain (spanOf at len) protocol port)
     (L.Uri (spanOf at len) protocol port)))
 
+-- where the text of a domain name or a URI is bad, else 0
 unfoldable pub textOf : ℕ → List ℕ → ℕ → ℕ
 textOf kind text place = pick (ltb kind 105) 0 (badText text place)
 
@@ -71,7 +76,7 @@ locatorReached base s kind at =
     let q = tokenAt s (p .next) in
     unless (addressFits kind b) (LR.Bad (base + b .at))
     (pick (eqb (protocolOf kind p) noProtocol) (LR.Bad (base + p .at))
-    (pick (ltb nullPort (portOf kind q)) (LR.Bad (base + q .at))
+    (pick (eqb (portOf kind q) noPort) (LR.Bad (base + q .at))
     (LR.Got (locatorOf kind (base + b .body) (b .next - b .body) (protocolOf kind p) (portOf kind q)) (q .next) (textOf kind (contentIn s b) (base + b .at)))))
 
 -- a locator: an array of four items, the first a kind

@@ -28,11 +28,13 @@ unfoldable pub pairTagged : ℕ → Objective → ℕ → ℕ → LocatorRead �
 pairTagged at o bad long (LR.Bad place) = PR.Bad place
 pairTagged at o bad long (LR.Got l size bad′) = PR.Got o (Tag.At l) (at + size) (firstOf bad bad′) long
 
+-- a pair from its second item on, which stands at `at`
 unfoldable pub pairTail : ℕ → List ℕ → ℕ → Objective → ℕ → ℕ → PairRead
 pairTail base s at o bad long =
     let t = tokenAt s at in
     pick (isEmpty t) (PR.Got o Tag.Empty (t .next) bad long) (pairTagged at o bad long (locatorIn (base + at) (drop at s)))
 
+-- a pair of n items, by what was read of its objective at `at`
 unfoldable pub pairLed : ℕ → List ℕ → ℕ → ℕ → ObjectiveRead → PairRead
 pairLed base s n at (OR.Bad place) = PR.Bad place
 pairLed base s n at (OR.Got o size bad long) = unless (eqb n 2) (PR.Bad base) (pairTail base s (at + size) o bad long)

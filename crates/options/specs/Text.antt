@@ -8,6 +8,7 @@ use Rattle.cbor.specs.declared.token.Token.{Token}
 use Rattle.utf8.specs.Utf8.{isUtf8}
 use Rattle.options.specs.declared.Span.{Span}
 
+-- the span of so many bytes from a place on
 abbrev pub spanOf : ℕ → ℕ → Span
 spanOf at len = record { at = at; len = len }
 

@@ -7,16 +7,19 @@ use crate::Span;
 use cbor::token;
 use cbor::token::Token;
 
-// What a locator has for a protocol that is null, and what is read of anything else that is no protocol.
+// What a locator has for a protocol that is null.
 const NULL_PROTOCOL: u8 = 0;
 
+// What is read of anything else that is no protocol.
 const NO_PROTOCOL: u8 = 255;
 
-// The greatest port; what a locator has for a port that is null, and what is read of anything else that is no port.
+// The greatest port.
 const MOST_PORT: u64 = 65_535;
 
+// What a locator has for a port that is null.
 const NULL_PORT: u32 = 65_536;
 
+// What is read of anything else that is no port.
 const NO_PORT: u32 = 65_537;
 
 // Where a locator's address, domain name or URI stands in the message, its protocol and its port; a null protocol is 0, a
@@ -88,7 +91,7 @@ fn read_reached(s: &[u8], base: usize, kind: u64, at: usize) -> LocatorRead
     }
     let q = token::number_or_null_at(s, p.next);
     let port = port_of(kind, q);
-    if NULL_PORT < port {
+    if port == NO_PORT {
         return LocatorRead::Bad(base + q.at);
     }
     let from = b.body;

@@ -18,6 +18,7 @@ pub data TextItems : Items → List (List ℕ) → Type 0 where
 pub data TextArray : Item → List (List ℕ) → Type 0 where
   array : {w : ℕ} {xs : Items} {contents : List (List ℕ)} → TextItems xs contents → TextArray (Item.array w xs) contents
 
+-- the names that bytes hold
 pub record OwnNames (s : List ℕ) : Type 0 where
   -- s is one item that passes refusals 1 to 7: its encoding and nothing more, at most 2,048 bytes and 8 levels, every head without fault
   pub one : OneItem s

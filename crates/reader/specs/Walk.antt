@@ -5,8 +5,10 @@ use lib.ListN.{length}
 use Rattle.cbor.specs.declared.item.ItemRead.{ItemRead}
 use Rattle.cbor.specs.Item.{firstItem, framedBy}
 
+-- by what the walk answers, of so many bytes
 unfoldable pub walkedBy : ℕ → ℕ → ItemRead → ℕ
 walkedBy later size r = framedBy (λ number place. number) later size r
 
+-- of the bytes s
 unfoldable pub walkedFirst : ℕ → List ℕ → ℕ
 walkedFirst later s = walkedBy later (length s) (firstItem 0 s)

@@ -21,7 +21,7 @@ withCount n o = record { name = o .name; flags = o .flags; count = n; value = o 
 unfoldable pub lowerObj : {A : Type 0} → Obj A → Obj A
 lowerObj o = withCount (o .count - 1) o
 
--- nothing else changes, and no other kind
+-- the message with that count one lower and all else the same; other kinds stay as they are
 unfoldable pub lowerMsg : {A : Type 0} → Msg A → Msg A
 lowerMsg Msg.noop = Msg.noop
 lowerMsg (Msg.discovery s i o) = Msg.discovery s i (lowerObj o)

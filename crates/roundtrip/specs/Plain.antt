@@ -11,5 +11,6 @@ unfoldable pub valueBytes : Value → List ℕ
 valueBytes none = []
 valueBytes (some x) = encode x
 
+-- the message with such values
 unfoldable pub plain : Msg Value → Msg (List ℕ)
 plain msg = valued valueBytes msg

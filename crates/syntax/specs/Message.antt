@@ -39,6 +39,7 @@ pub data Ending : Type 0 where
   decline : Ending
   reason : List ℕ → Ending
 
+-- grasp-message: one case for each row of the rules' table of messages
 pub data Msg (A : Type 0) : Type 0 where
   noop : Msg A
   discovery : (session : ℕ) (initiator : List ℕ) → Obj A → Msg A
@@ -56,9 +57,11 @@ pub data Msg (A : Type 0) : Type 0 where
 unfoldable pub valuedObj : {A B : Type 0} → (A → B) → Obj A → Obj B
 valuedObj f o = record { name = o .name; flags = o .flags; count = o .count; value = f (o .value) }
 
+-- in a pair
 unfoldable pub valuedPair : {A B : Type 0} → (A → B) → Pair A → Pair B
 valuedPair f p = (valuedObj f (p .0), p .1)
 
+-- in a message
 unfoldable pub valued : {A B : Type 0} → (A → B) → Msg A → Msg B
 valued f Msg.noop = Msg.noop
 valued f (Msg.discovery s i o) = Msg.discovery s i (valuedObj f o)

@@ -66,6 +66,7 @@ First (when P v up rules) w up′ = (P × (v ≡ w) × (up ≡ up′)) ⊎ ((P �
 First (otherwise v up) w up′ = (v ≡ w) × (up ≡ up′)
 
 module _ (r : Record) (t : List ℕ) (c : Call) where
+  -- a Discovery's, which is never handed up
   abbrev pub discoveryRules : ℕ → Span → Objective → Rules
   discoveryRules session initiator o =
       when (OwnInitiator r c initiator) Own false
@@ -86,6 +87,7 @@ module _ (r : Record) (t : List ℕ) (c : Call) where
       (when (Full t (c .clock)) NoRow true
       (otherwise Relay true)))))
 
+  -- by the kind: NOOP, HAND, and the two lists
   abbrev pub rulesOn : Message → Rules
   rulesOn M.Noop = otherwise Noop false
   rulesOn (M.Discovery session initiator objective) = discoveryRules session initiator objective

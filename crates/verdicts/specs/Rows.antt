@@ -36,6 +36,7 @@ pub record Live (now : ℕ) (t : List ℕ) (i : ℕ) : Type 0 where
   pub used : Used now t i
   pub young : now - cell t i 3 < used .life
 
+-- a used row that no longer lives
 pub record Dead (now : ℕ) (t : List ℕ) (i : ℕ) : Type 0 where
   pub used : Used now t i
   pub old : used .life ≤ now - cell t i 3

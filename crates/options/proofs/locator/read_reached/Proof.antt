@@ -56,7 +56,7 @@ add-t18 c = search needs
 returns-3 : tie.Need-returns-3
 unfolding locatorReached textOf pick
 returns-3 c =
-    rw (← c .before .before .before .before .before .before .before .before .before .string-at .ensures .is, ← c .before .before .before .before .before .before .before .before .address-fits .ensures, not-false (c .before .before .before .before .before .before .before .before .address-fits .result) (c .before .before .before .before .before .before .before .if1 .left), ← c .before .before .before .before .before .before .number-or-null-at .ensures .is, ← c .before .before .before .before .before .protocol-of .ensures, ne-eqb _ _ (c .before .before .before .before .if2 .left), ← c .before .before .before .number-or-null-at2 .ensures .is, ← c .before .before .port-of .ensures, lt-ltb _ _ (c .before .if3 .taken))
+    rw (← c .before .before .before .before .before .before .before .before .before .string-at .ensures .is, ← c .before .before .before .before .before .before .before .before .address-fits .ensures, not-false (c .before .before .before .before .before .before .before .before .address-fits .result) (c .before .before .before .before .before .before .before .if1 .left), ← c .before .before .before .before .before .before .number-or-null-at .ensures .is, ← c .before .before .before .before .before .protocol-of .ensures, ne-eqb _ _ (c .before .before .before .before .if2 .left), ← c .before .before .before .number-or-null-at2 .ensures .is, ← c .before .before .port-of .ensures, eq-eqb _ _ (c .before .if3 .taken))
 
 add-locator-of : tie.Need-add-locator-of
 add-locator-of c = search needs
@@ -70,7 +70,7 @@ locator-of-requires c κs = search needs
 returns-4 : tie.Need-returns-4
 unfolding locatorReached textOf pick
 returns-4 c =
-    rw (← c .before .before .before .before .before .before .before .before .before .before .string-at .ensures .is, ← c .before .before .before .before .before .before .before .before .before .address-fits .ensures, not-false (c .before .before .before .before .before .before .before .before .before .address-fits .result) (c .before .before .before .before .before .before .before .before .if1 .left), ← c .before .before .before .before .before .before .before .number-or-null-at .ensures .is, ← c .before .before .before .before .before .before .protocol-of .ensures, ne-eqb _ _ (c .before .before .before .before .before .if2 .left), ← c .before .before .before .before .number-or-null-at2 .ensures .is, ← c .before .before .before .port-of .ensures, le-ltb _ _ (c .before .before .if3 .left), ← c .before .locator-of .ensures, lt-ltb _ _ (c .if4 .taken))
+    rw (← c .before .before .before .before .before .before .before .before .before .before .string-at .ensures .is, ← c .before .before .before .before .before .before .before .before .before .address-fits .ensures, not-false (c .before .before .before .before .before .before .before .before .before .address-fits .result) (c .before .before .before .before .before .before .before .before .if1 .left), ← c .before .before .before .before .before .before .before .number-or-null-at .ensures .is, ← c .before .before .before .before .before .before .protocol-of .ensures, ne-eqb _ _ (c .before .before .before .before .before .if2 .left), ← c .before .before .before .before .number-or-null-at2 .ensures .is, ← c .before .before .before .port-of .ensures, ne-eqb _ _ (c .before .before .if3 .left), ← c .before .locator-of .ensures, lt-ltb _ _ (c .if4 .taken))
 
 sub-bad-text : tie.Need-sub-bad-text
 sub-bad-text c = search needs
@@ -90,7 +90,7 @@ bad-text-requires c κs = search needs
 returns-5 : tie.Need-returns-5
 unfolding locatorReached textOf pick
 returns-5 c =
-    rw (← c .before .before .before .before .before .before .before .before .before .before .before .before .before .string-at .ensures .is, ← c .before .before .before .before .before .before .before .before .before .before .before .before .address-fits .ensures, not-false (c .before .before .before .before .before .before .before .before .before .before .before .before .address-fits .result) (c .before .before .before .before .before .before .before .before .before .before .before .if1 .left), ← c .before .before .before .before .before .before .before .before .before .before .number-or-null-at .ensures .is, ← c .before .before .before .before .before .before .before .before .before .protocol-of .ensures, ne-eqb _ _ (c .before .before .before .before .before .before .before .before .if2 .left), ← c .before .before .before .before .before .before .before .number-or-null-at2 .ensures .is, ← c .before .before .before .before .before .before .port-of .ensures, le-ltb _ _ (c .before .before .before .before .before .if3 .left), ← c .before .before .before .before .locator-of .ensures, le-ltb _ _ (c .before .before .before .if4 .left), ← c .bad-text .ensures)
+    rw (← c .before .before .before .before .before .before .before .before .before .before .before .before .before .string-at .ensures .is, ← c .before .before .before .before .before .before .before .before .before .before .before .before .address-fits .ensures, not-false (c .before .before .before .before .before .before .before .before .before .before .before .before .address-fits .result) (c .before .before .before .before .before .before .before .before .before .before .before .if1 .left), ← c .before .before .before .before .before .before .before .before .before .before .number-or-null-at .ensures .is, ← c .before .before .before .before .before .before .before .before .before .protocol-of .ensures, ne-eqb _ _ (c .before .before .before .before .before .before .before .before .if2 .left), ← c .before .before .before .before .before .before .before .number-or-null-at2 .ensures .is, ← c .before .before .before .before .before .before .port-of .ensures, ne-eqb _ _ (c .before .before .before .before .before .if3 .left), ← c .before .before .before .before .locator-of .ensures, le-ltb _ _ (c .before .before .before .if4 .left), ← c .bad-text .ensures)
 
 pub read-reached-spec : {M : Type 1} → statement M
 read-reached-spec =
