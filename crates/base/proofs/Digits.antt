@@ -10,7 +10,7 @@ use lib.Arith.{digits-lt, digits-div, digits-mod}
 use lib.Pow.{pow-add, pow-mono, shr-lt}
 use lib.ListN.{length, take, getD, length-append}
 use lib.Seq.{getD-at, take-suc}
-use Rattle.base.specs.BigEndian.{bigEndian, bytesOf}
+use Rattle.base.specs.BigEndian.{FirstBytes, bigEndian, bytesOf}
 
 -- one byte more
 pub below-more : (n v b : ℕ) → v < 2 ^ (8 * n) → b < 2 ^ 8 → v * 256 + b < 2 ^ (8 * (n + 1))
@@ -35,10 +35,6 @@ read-back (suc n) v rest h =
     let e : 8 * suc n ≡ 8 * n + 8 = omega arith in
     rw (append-assoc, read-back n (v / 256) (v % 256 ∷ rest) (shr-lt (8 * n) 8 (rw e at h)), getD-at (bytesOf n (v / 256)) (v % 256) rest 0 n (length-bytes n (v / 256)))
     (div-add-mod' v 256)
-
--- the first n elements are bytes
-abbrev pub FirstBytes : ℕ → List ℕ → Type 0
-FirstBytes n s = (i : ℕ) → i < n → getD s i 0 < 2 ^ 8
 
 -- bytes are those of the number that they are read as
 pub spelled : (n : ℕ) (s : List ℕ) → FirstBytes n s → n ≤ length s → bytesOf n (bigEndian s n) ≡ take n s

@@ -7,6 +7,10 @@ use lib.ListN.{getD}
 abbrev pub Bytes : List ℕ → Type 0
 Bytes s = (i : ℕ) → getD s i 0 < 2 ^ 8
 
+-- the first n elements are bytes
+abbrev pub FirstBytes : ℕ → List ℕ → Type 0
+FirstBytes n s = (i : ℕ) → i < n → getD s i 0 < 2 ^ 8
+
 -- the number that the first n bytes of s spell
 unfoldable pub bigEndian : List ℕ → ℕ → ℕ
 bigEndian s zero = 0

@@ -13,9 +13,9 @@ use lib.Seq.{length-take-le}
 use lib.Dec.{ltb, eqb, lit<}
 use borrow.Author.Tests.{lt-ltb, le-ltb, lt-leb, ne-eqb, ltb-true, ltb-false, leb-true, leb-false, eqb-true, eqb-false}
 use Rattle.base.specs.Pick.{pick}
-use Rattle.base.specs.BigEndian.{bytesOf, Bytes}
+use Rattle.base.specs.BigEndian.{bytesOf, Bytes, FirstBytes}
 use Rattle.base.proofs.Picks.{pick-case}
-use Rattle.base.proofs.Digits.{length-bytes, read-back, FirstBytes, spelled, big-endian-lt, small-bytes}
+use Rattle.base.proofs.Digits.{length-bytes, read-back, spelled, big-endian-lt, small-bytes}
 use Rattle.cbor.specs.declared.head.Initial.{Initial}
 use Rattle.cbor.specs.declared.head.HeadRead.{HeadRead}
 use Rattle.cbor.specs.Head.{widthOf, leastOf, initialOf, argOf, judged, headFrom, headBy, headOf, headAt}
