@@ -1,8 +1,7 @@
--- A head stored byte by byte: the turns of `spell`, and the ends of `head`.
+-- Bytes stored, and a head byte by byte: the turns of `spell`, and the ends of `head`.
 -- Assumes nothing.
 use mathlib.Core.Path.{_≡_, refl, sym, _∙_}
 use mathlib.Core.Logic.{_⊎_, inl, inr}
-use mathlib.Core.Bool.{false}
 use mathlib.Core.List.{List, [], _∷_, _++_}
 use Prim.Native.Nat.{ℕ, suc, _+_, _*_, _-_, _/_, _%_, _^_, _<_, _≤_}
 use native.Mathlib.Nat.{add-zero}
@@ -17,7 +16,7 @@ use Rattle.base.specs.BigEndian.{bytesOf}
 use Rattle.base.proofs.Picks.{both}
 use Rattle.base.proofs.Digits.{length-bytes}
 use Rattle.cbor.specs.Tree.{headBytes, infoOf, Sized, shortest}
-use Rattle.cbor.specs.Put.{head, headFits, headEnd, headPut}
+use Rattle.cbor.specs.Put.{head, allEnd, allPut, headEnd, headPut}
 use Rattle.cbor.proofs.HeadExact.{length-head, shortest-right}
 
 -- the last element stored first
@@ -63,21 +62,29 @@ pub length-shortest : (major arg : ℕ) → length (head major arg) ≡ 1 + shor
 unfolding head
 length-shortest major arg = length-head major (shortest arg) arg
 
+-- ---- bytes that don't fit, and bytes that are stored
+module _ (l : List ℕ) (at : ℕ) (bs : List ℕ) where
+  pub all-over : length l < at + length bs → (length l + 1 ≡ allEnd l at bs) × (l ≡ allPut l at bs)
+  unfolding allEnd allPut pick
+  all-over h = rw (lt-leb (at + length bs) (length l) h) (refl, refl)
+
+  pub all-stored : at + length bs ≤ length l → (at + length bs ≡ allEnd l at bs) × (sets l at bs ≡ allPut l at bs)
+  unfolding allEnd allPut pick
+  all-stored h = rw (le-leb (at + length bs) (length l) h) (refl, refl)
+
 -- ---- the ends of `head`
 module _ (l : List ℕ) (at major arg : ℕ) where
-  no-fit : (6 < major) ⊎ (length l < at + length (head major arg)) → headFits (length l) at major arg ≡ false
-  unfolding headFits pick
-  no-fit (inl h) = rw (lt-ltb 6 major h)
-  no-fit (inr h) = both (λ b. b ≡ false) (ltb 6 major) refl (lt-leb (at + length (head major arg)) (length l) h)
-
   -- where the head has no place, the buffer is left as it was
   pub not-stored : (6 < major) ⊎ (length l < at + length (head major arg)) → (length l + 1 ≡ headEnd l at major arg) × (l ≡ headPut l at major arg)
   unfolding headEnd headPut pick
-  not-stored h = (rw (no-fit h), rw (no-fit h))
+  not-stored (inl h) = rw (lt-ltb 6 major h) (refl, refl)
+  not-stored (inr h) =
+      let r = all-over l at (head major arg) h in
+      (both (λ (n : ℕ). length l + 1 ≡ n) (ltb 6 major) refl (r .0), both (λ (t : List ℕ). l ≡ t) (ltb 6 major) refl (r .1))
 
   pub stored : major ≤ 6 → at + length (head major arg) ≤ length l → (at + length (head major arg) ≡ headEnd l at major arg) × (sets l at (head major arg) ≡ headPut l at major arg)
-  unfolding headEnd headPut headFits pick
-  stored m h = (rw (le-ltb 6 major m, le-leb (at + length (head major arg)) (length l) h), rw (le-ltb 6 major m, le-leb (at + length (head major arg)) (length l) h))
+  unfolding headEnd headPut pick
+  stored m h = rw (le-ltb 6 major m) (all-stored l at (head major arg) h)
 
   -- what the code finds, with the head's length and the additional information that it computes
   pub head-over : (len : ℕ) → len ≡ 1 + shortest arg → length l < at + len → (length l + 1 ≡ headEnd l at major arg) × (l ≡ headPut l at major arg)

@@ -4,6 +4,6 @@ pub mod Head
 pub mod Item
 pub mod Turn
 pub mod Token
-pub mod Put
 pub mod Tree
 pub mod Fault
+pub mod Put

@@ -1,7 +1,6 @@
--- The shortest head written (RFC 8949, section 4.1), from a position of a buffer on.
+-- The shortest head (RFC 8949, section 4.1), and bytes stored from a position of a buffer on.
 use Prim.Native.Nat.{ℕ, _+_}
 use mathlib.Core.List.{List, _++_}
-use mathlib.Core.Bool.{Bool, false}
 use lib.ListN.{length, drop}
 use lib.Seq.{sets}
 use lib.Dec.{leb, ltb}
@@ -16,14 +15,20 @@ head major arg = headBytes major (shortest arg) arg
 abbrev pub written : List ℕ → List ℕ → List ℕ
 written bs out = bs ++ drop (length bs) out
 
--- whether the head is one of major types 0 to 6 and ends inside so many bytes
-unfoldable pub headFits : ℕ → ℕ → ℕ → ℕ → Bool
-headFits room at major arg = pick (ltb 6 major) false (leb (at + length (head major arg)) room)
+-- where a step that would end at a place of so many bytes ends: there, or one past them
+abbrev pub endWithin : ℕ → ℕ → ℕ
+endWithin room end = pick (leb end room) end (room + 1)
 
--- the position after the head, one past the end where it doesn't fit
+-- bs stored from `at` on, and nothing where they don't fit: where they end, and the buffer then
+unfoldable pub allEnd : List ℕ → ℕ → List ℕ → ℕ
+allEnd l at bs = endWithin (length l) (at + length bs)
+
+unfoldable pub allPut : List ℕ → ℕ → List ℕ → List ℕ
+allPut l at bs = pick (leb (at + length bs) (length l)) (sets l at bs) l
+
+-- the shortest head of major types 0 to 6 stored likewise; none of another is stored
 unfoldable pub headEnd : List ℕ → ℕ → ℕ → ℕ → ℕ
-headEnd l at major arg = pick (headFits (length l) at major arg) (at + length (head major arg)) (length l + 1)
+headEnd l at major arg = pick (ltb 6 major) (length l + 1) (allEnd l at (head major arg))
 
--- the buffer with the head stored, unchanged where it doesn't fit
 unfoldable pub headPut : List ℕ → ℕ → ℕ → ℕ → List ℕ
-headPut l at major arg = pick (headFits (length l) at major arg) (sets l at (head major arg)) l
+headPut l at major arg = pick (ltb 6 major) l (allPut l at (head major arg))

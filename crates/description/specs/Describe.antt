@@ -77,20 +77,10 @@ unfoldable pub targetsOf : List ℕ → List ℕ → Bool → Aim
 targetsOf source list true = Aim.divert (locsOf source list)
 targetsOf source list false = Aim.locators (locsOf source list)
 
--- how many items of the Response they are
-unfoldable pub targetsMany : List ℕ → Bool → ℕ
-targetsMany list true = 1
-targetsMany list false = length list / locatorRow
-
 -- a Response's objective, which may be left out
 unfoldable pub extraOf : List ℕ → Extra → Option (Obj (List ℕ))
 extraOf source X.Without = none
 extraOf source (X.With o) = some (objOf source (entryOf o))
-
--- how many items of the Response it is
-unfoldable pub extraMany : Extra → ℕ
-extraMany X.Without = 0
-extraMany (X.With o) = 1
 
 -- an objective in seven numbers, from place k on: place and length of its name, flags, count, 0, place and length of its value
 unfoldable pub entryAt : List ℕ → ℕ → Entry

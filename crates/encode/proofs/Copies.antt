@@ -1,7 +1,7 @@
 -- Bytes stored one by one: after i turns the first i bytes are those of the list that is stored.
 -- Assumes nothing.
 use Prim.Native.Nat.{ℕ, _+_, _-_, _≤_, _<_}
-use mathlib.Core.Path.{_≡_, refl, sym, ap, _∙_}
+use mathlib.Core.Path.{_≡_, sym, ap, _∙_}
 use mathlib.Core.List.{List, _++_, append-assoc}
 use native.Mathlib.Nat.{add-sub-cancel-left}
 use native.Mathlib.Numerals.{add-one}
@@ -9,9 +9,8 @@ use native.Mathlib.Decide.{decLt}
 use native.Mathlib.Omega.{arith}
 use lib.ListN.{length, take, drop, getD, set, replicate, length-replicate, getD-replicate}
 use lib.Seq.{take-all, take-suc, take-suc-set, set-out, drop-drop, sets-eq}
-use borrow.Author.Tests.{le-leb, lt-leb}
-use Rattle.base.specs.Pick.{pick}
-use Rattle.encode.specs.Put.{allEnd, allPut}
+use Rattle.cbor.specs.Put.{allEnd, allPut}
+use Rattle.cbor.proofs.Stores.{all-stored}
 
 pub copy-turn : (to s : List ℕ) (i : ℕ) → i < length to → i < length s → take i to ≡ take i s → take (i + 1) (set to i (getD s i 0)) ≡ take (i + 1) s
 copy-turn to s i h k e = rw (add-one i, take-suc-set to i (getD s i 0) h, take-suc s i 0 k, e)
@@ -32,16 +31,12 @@ clear-turn to n i g e = go (decLt i (length to))
         ∙ copy-turn to (replicate n 0) i h (omega (arith, length-replicate {A = ℕ} n 0)) e
     go (no h) = ap (take (i + 1)) (set-out to i 0 (omega arith) ∙ clear-done to n i (omega arith) g e)
 
--- ---- the ends of `all`
-module _ (l bs : List ℕ) (at : ℕ) where
-  pub all-over : length l < at + length bs → (length l + 1 ≡ allEnd l at bs) × (l ≡ allPut l at bs)
-  unfolding allEnd allPut pick
-  all-over h = rw (lt-leb (at + length bs) (length l) h) (refl, refl)
-
-  -- bs in the place of a part that was lent
-  pub all-stored : {to : List ℕ} → at + length bs ≤ length l → to ≡ bs
-      → (at + length bs ≡ allEnd l at bs) × (take at l ++ (to ++ drop (at + length bs - at) (drop at l)) ≡ allPut l at bs)
-  unfolding allEnd allPut pick
-  all-stored {to} h e =
-      rw (le-leb (at + length bs) (length l) h, e, add-sub-cancel-left at (length bs), drop-drop (length bs) at l)
-      (refl, sym (append-assoc (take at l) bs (drop (at + length bs) l)) ∙ sym (sets-eq bs l at h))
+-- bytes in the place of a part that was lent
+pub lent-stored : (l bs : List ℕ) (at : ℕ) {to : List ℕ} → at + length bs ≤ length l → to ≡ bs
+    → (at + length bs ≡ allEnd l at bs) × (take at l ++ (to ++ drop (at + length bs - at) (drop at l)) ≡ allPut l at bs)
+lent-stored l bs at h e =
+    let r = all-stored l at bs h in (
+      r .0,
+      rw (e, add-sub-cancel-left at (length bs), drop-drop (length bs) at l, ← append-assoc (take at l) bs (drop (at + length bs) l))
+          (sym (sets-eq bs l at h) ∙ r .1),
+    )

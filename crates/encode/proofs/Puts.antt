@@ -11,9 +11,11 @@ use lib.ListN.{length, take, drop, set, replicate, length-append, length-drop, l
 use lib.Seq.{sets, sets-eq, length-sets, take-append-seam}
 use borrow.Author.Tests.{ltb-true, ltb-false, leb-true, le-ltb, le-leb, lt-leb}
 use Rattle.base.specs.Pick.{pick}
+use Rattle.base.proofs.Picks.{both}
 use Rattle.base.proofs.Parts.{sets-append}
-use Rattle.cbor.specs.Put.{head, headFits, headEnd, headPut}
-use Rattle.encode.specs.Put.{allEnd, allPut, frontEnd, frontPut, Wrote}
+use Rattle.cbor.specs.Put.{head, allEnd, allPut, headEnd, headPut}
+use Rattle.cbor.proofs.Stores.{all-over, all-stored}
+use Rattle.encode.specs.Put.{frontEnd, frontPut, Wrote}
 
 -- two steps in a row
 pub then : {l l′ l″ : List ℕ} {at m r : ℕ} {a b : List ℕ} → Wrote l l′ at a m → Wrote l′ l″ m b r → Wrote l l″ at (a ++ b) r
@@ -43,36 +45,22 @@ byte-over l at b g = record { same = refl; fits = λ h. absurd (omega arith); ov
 pub byte-in : (l : List ℕ) (at b : ℕ) → Wrote l (set l at b) at (b ∷ []) (at + 1)
 byte-in l at b = record { same = length-set l at b; fits = λ h. (refl, refl); over = λ h. h }
 
--- the shortest head
-pub head-in : (l l′ : List ℕ) (at major arg r : ℕ) → major < 7 → r ≡ headEnd l at major arg → l′ ≡ headPut l at major arg → Wrote l l′ at (head major arg) r
-unfolding headEnd headPut headFits pick
-head-in l l′ at major arg r m e p =
-    let m6 : major ≤ 6 = omega arith in
-    let e′ : r ≡ pick (leb (at + length (head major arg)) (length l)) (at + length (head major arg)) (length l + 1) = rw (le-ltb 6 major m6) at e in
-    let p′ : l′ ≡ pick (leb (at + length (head major arg)) (length l)) (sets l at (head major arg)) l = rw (le-ltb 6 major m6) at p in
-    record {
-      same = ap length p′ ∙ kept (leb (at + length (head major arg)) (length l));
-      fits = λ h. (rw (le-leb (at + length (head major arg)) (length l) h) at e′, rw (le-leb (at + length (head major arg)) (length l) h) at p′);
-      over = λ h. let q : r ≡ length l + 1 = rw (lt-leb (at + length (head major arg)) (length l) h) at e′ in omega arith;
-    }
-  where
-    kept : (t : Bool) → length (pick t (sets l at (head major arg)) l) ≡ length l
-    kept true = length-sets l at (head major arg)
-    kept false = refl
-
 -- bytes
 pub all-in : {l l′ bs : List ℕ} {at r : ℕ} → r ≡ allEnd l at bs → l′ ≡ allPut l at bs → Wrote l l′ at bs r
-unfolding allEnd allPut pick
+unfolding allPut
 all-in {l} {l′} {bs} {at} {r} e p =
     record {
-      same = ap length p ∙ kept (leb (at + length bs) (length l));
-      fits = λ h. (rw (le-leb (at + length bs) (length l) h) at e, rw (le-leb (at + length bs) (length l) h) at p);
-      over = λ h. let q : r ≡ length l + 1 = rw (lt-leb (at + length bs) (length l) h) at e in omega arith;
+      same = ap length p ∙ both (λ (t : List ℕ). length t ≡ length l) (leb (at + length bs) (length l)) (length-sets l at bs) refl;
+      fits = λ h. let q = all-stored l at bs h in (e ∙ sym (q .0), p ∙ sym (q .1));
+      over = λ h. let q = all-over l at bs h in omega (arith, q .0);
     }
-  where
-    kept : (t : Bool) → length (pick t (sets l at bs) l) ≡ length l
-    kept true = length-sets l at bs
-    kept false = refl
+
+-- the shortest head
+pub head-in : (l l′ : List ℕ) (at major arg r : ℕ) → major < 7 → r ≡ headEnd l at major arg → l′ ≡ headPut l at major arg → Wrote l l′ at (head major arg) r
+unfolding headEnd headPut pick
+head-in l l′ at major arg r m e p =
+    let m6 : major ≤ 6 = omega arith in
+    all-in (rw (le-ltb 6 major m6) at e) (rw (le-ltb 6 major m6) at p)
 
 -- bytes put at the front: their number, and what stands in the buffer
 pub finished : {l l′ bs : List ℕ} {r : ℕ} → Wrote l l′ 0 bs r → length bs ≤ length l → (r ≡ length bs) × (l′ ≡ bs ++ drop (length bs) l)

@@ -1,6 +1,6 @@
 -- Locators and pairs, row by row.
 -- Assumes nothing.
-use Prim.Native.Nat.{ℕ, _+_, _/_, _≤_}
+use Prim.Native.Nat.{ℕ, _+_, _≤_}
 use mathlib.Core.Path.{_≡_, refl, sym, ap, _∙_}
 use mathlib.Core.Bool.{Bool, true, false}
 use mathlib.Core.List.{List, [], _∷_, _++_, flatMap, append-assoc, append-nil}
@@ -12,8 +12,8 @@ use Rattle.encode.specs.Put.{Wrote}
 use Rattle.description.specs.Encoding.{targetItems, howMany}
 use Rattle.description.specs.declared.Extra.{Extra}
 use Rattle.description.specs.declared.Extra.the-variants as X
-use Rattle.description.specs.Describe.{locatorRow, pairRow, listOf, locsOf, pairsOf, targetsOf, targetsMany, extraOf, extraMany}
-use Rattle.description.proofs.Items.{length-up}
+use Rattle.description.specs.Describe.{listOf, targetsOf, extraOf}
+use Rattle.description.proofs.Items.{length-locs}
 use Rattle.encode.proofs.Puts.{then, still}
 
 -- one more
@@ -40,31 +40,24 @@ module _ {A : Type 0} (encode : A → List ℕ) (row : ℕ → A) where
   unfolding firstRows
   rows-done i n p q v = rw (le-antisymm p q) at v
 
--- how many items a Response's parts are
-pub targets-many : (source list : List ℕ) (d : Bool) → targetsMany list d ≡ targetItems (targetsOf source list d)
-unfolding targetsMany targetsOf targetItems locsOf
+-- how many items a Response's parts are, over no bytes as over any source
+pub targets-many : (source list : List ℕ) (d : Bool) → targetItems (targetsOf [] list d) ≡ targetItems (targetsOf source list d)
+unfolding targetItems targetsOf
 targets-many source list true = refl
-targets-many source list false = sym (length-up _ _)
+targets-many source list false = length-locs [] list ∙ sym (length-locs source list)
 
-pub extra-many : (source : List ℕ) (m : Extra) → extraMany m ≡ howMany (extraOf source m)
-unfolding extraMany howMany extraOf
+pub extra-many : (source : List ℕ) (m : Extra) → howMany (extraOf [] m) ≡ howMany (extraOf source m)
+unfolding howMany extraOf
 extra-many source X.Without = refl
 extra-many source (X.With o) = refl
 
-pub length-locs : (source list : List ℕ) → length (locsOf source list) ≡ length list / locatorRow
-unfolding locsOf
-length-locs source list = length-up _ _
+-- and that they are few
+pub targets-few : (source list : List ℕ) (d : Bool) (t : ℕ) → t ≡ targetItems (targetsOf source list d) → t ≤ 1 + length list
+unfolding targetItems targetsOf
+targets-few source list true t e = omega arith
+targets-few source list false t e = omega (arith, length-locs source list)
 
-pub targets-few : (list : List ℕ) (d : Bool) (t : ℕ) → t ≡ targetsMany list d → t ≤ 1 + length list
-unfolding targetsMany
-targets-few list true t e = omega arith
-targets-few list false t e = omega arith
-
-pub extra-few : (m : Extra) (t : ℕ) → t ≡ extraMany m → t ≤ 1
-unfolding extraMany
-extra-few X.Without t e = omega arith
-extra-few (X.With o) t e = omega arith
-
-pub length-pairs : (source list : List ℕ) → length (pairsOf source list) ≡ length list / pairRow
-unfolding pairsOf
-length-pairs source list = length-up _ _
+pub extra-few : (source : List ℕ) (m : Extra) (t : ℕ) → t ≡ howMany (extraOf source m) → t ≤ 1
+unfolding howMany extraOf
+extra-few source X.Without t e = omega arith
+extra-few source (X.With o) t e = omega arith

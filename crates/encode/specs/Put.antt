@@ -6,18 +6,7 @@ use lib.ListN.{length, replicate}
 use lib.Seq.{sets}
 use lib.Dec.{leb}
 use Rattle.base.specs.Pick.{pick}
-use Rattle.cbor.specs.Put.{written}
-
--- where a step that would end at a place of so many bytes ends: there, or one past them
-abbrev pub endWithin : ℕ → ℕ → ℕ
-endWithin room end = pick (leb end room) end (room + 1)
-
--- ---- `put::all`: bs stored from `at` on, and nothing where they don't fit
-unfoldable pub allEnd : List ℕ → ℕ → List ℕ → ℕ
-allEnd l at bs = endWithin (length l) (at + length bs)
-
-unfoldable pub allPut : List ℕ → ℕ → List ℕ → List ℕ
-allPut l at bs = pick (leb (at + length bs) (length l)) (sets l at bs) l
+use Rattle.cbor.specs.Put.{written, endWithin}
 
 -- ---- `message`: bs at the front of the buffer, which is cleared where they don't fit
 unfoldable pub frontEnd : List ℕ → List ℕ → ℕ

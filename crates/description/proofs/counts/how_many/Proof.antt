@@ -1,6 +1,7 @@
 -- `description::counts::how_many` meets its contract.
 -- Assumes nothing.
-use Rattle.description.specs.Describe.{extraMany}
+use Rattle.description.specs.Encoding.{howMany}
+use Rattle.description.specs.Describe.{extraOf}
 use borrow.Author.Needs.{needs}
 use Rattle.description.proofs.counts.how_many.Statement.{statement}
 use Rattle.description.proofs.counts.how_many.Tie as tie
@@ -14,11 +15,11 @@ enum-told-2 : tie.Need-enum-told-2
 enum-told-2 c = search needs
 
 returns : tie.Need-returns
-unfolding extraMany
+unfolding howMany extraOf
 returns c = rw (c .enum-told .given .1)
 
 returns-2 : tie.Need-returns-2
-unfolding extraMany
+unfolding howMany extraOf
 returns-2 c = rw (c .enum-told2 .given .1)
 
 pub how-many-spec : {M : Type 1} → statement M

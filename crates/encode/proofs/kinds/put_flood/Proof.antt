@@ -2,7 +2,7 @@
 -- Assumes nothing.
 use Rattle.description.specs.Encoding.{encodeMsg}
 use Rattle.encode.proofs.Puts.{then}
-use Rattle.encode.proofs.Rows.{length-pairs}
+use Rattle.description.proofs.Items.{length-pairs}
 use borrow.Author.Needs.{needs}
 use Rattle.encode.proofs.kinds.put_flood.Statement.{statement}
 use Rattle.encode.proofs.kinds.put_flood.Tie as tie

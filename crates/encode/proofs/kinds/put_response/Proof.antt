@@ -15,10 +15,10 @@ how-many-requires : tie.Need-how-many-requires
 how-many-requires c κs = search needs
 
 add-put-preamble : tie.Need-add-put-preamble
-add-put-preamble c = omega (arith, targets-few _ _ _ (c .before .before .target-items .ensures), extra-few _ _ (c .before .how-many .ensures))
+add-put-preamble c = omega (arith, targets-few _ _ _ _ (c .before .before .target-items .ensures), extra-few _ _ _ (c .before .how-many .ensures))
 
 add-put-preamble-2 : tie.Need-add-put-preamble-2
-add-put-preamble-2 c = omega (arith, targets-few _ _ _ (c .before .before .target-items .ensures), extra-few _ _ (c .before .how-many .ensures))
+add-put-preamble-2 c = omega (arith, targets-few _ _ _ _ (c .before .before .target-items .ensures), extra-few _ _ _ (c .before .how-many .ensures))
 
 put-preamble-requires : tie.Need-put-preamble-requires
 put-preamble-requires c κs = search needs

@@ -3,7 +3,7 @@
 use Rattle.description.specs.Encoding.{encodeTargets}
 use Rattle.description.specs.Describe.{targetsOf}
 use Rattle.encode.proofs.Puts.{then}
-use Rattle.encode.proofs.Rows.{length-locs}
+use Rattle.description.proofs.Items.{length-locs}
 use borrow.Author.Needs.{needs}
 use Rattle.encode.proofs.kinds.put_targets.Statement.{statement}
 use Rattle.encode.proofs.kinds.put_targets.Tie as tie

@@ -1,7 +1,8 @@
--- `encode::put::all` meets its contract: each answer is a law of `Copies`.
+-- `encode::put::all` meets its contract: bytes that fit are copied into a part that is lent.
 -- Assumes nothing.
 use native.Mathlib.Omega.{arith}
-use Rattle.encode.proofs.Copies.{all-over, all-stored}
+use Rattle.cbor.proofs.Stores.{all-over}
+use Rattle.encode.proofs.Copies.{lent-stored}
 use borrow.Author.Needs.{needs}
 use Rattle.encode.proofs.put.all.Statement.{statement}
 use Rattle.encode.proofs.put.all.Tie as tie
@@ -37,7 +38,7 @@ same-length : tie.Need-same-length
 same-length c = search needs
 
 returns-3 : tie.Need-returns-3
-returns-3 c = all-stored _ _ _ (omega arith) (c .before .before .copy .ensures)
+returns-3 c = lent-stored _ _ _ (omega arith) (c .before .before .copy .ensures)
 
 pub all-spec : {M : Type 1} → statement M
 all-spec =
