@@ -96,7 +96,7 @@ module _ {s : List ℕ} {n at next : ℕ} (k : Kinded s 9 n at) {opening : Openi
       (join (h .session .stands) (join (h .initiator .stands) (join (h .ttl .stands) stand)))
       (λ w v. MessageItem.flood (Number.number (h .session .low)) (Initiator.initiator (h .initiator .size)) (Number.number (h .ttl .low)) pairs)
       (λ full. Describes.flood (kind-is k) (number-is-here (h .session)) (initiator-is (h .initiator)) (number-is-here (h .ttl))
-      (record { items = Items.more (i .item) (r .items); stand = subst (λ (e : ℕ). StandAll s next e (Items.more (i .item) (r .items))) full stand; many = omega (arith, r .counted); are = pairs }) (i .opened) (i .objective) (i .tag))
+      (record { items = Items.more (i .item) (r .items); stand = subst (λ (e : ℕ). StandAll s next e (Items.more (i .item) (r .items))) full stand; many = omega (arith, r .counted); are = pairs }) (i .described))
       (then-noted Utf8 (pairTexts (i .pair)) (flatMap pairTexts (r .pairs)) (i .texts) (r .texts))
       (then-noted Short (i .pair .0 .name ∷ []) (map pairName (r .pairs)) (single (i .names)) (r .names))
 
@@ -137,7 +137,7 @@ unfolding count depth pairsFrom
 pairs-complete {p = p} a d PairItems.empty bad long = (p, bad, long, refl)
 pairs-complete {s} {p} a d (PairItems.more {xs = xs} i is) bad long =
     let c = split a in
-    let (o, t, bad′, long′, same, _, _, _, _) = pair-read (c .first) (omega arith) i in
+    let (o, t, bad′, long′, same, _) = pair-read (c .first) (omega arith) i in
     passed s p (count xs) bad long same (omega (arith, c .first .end)) (pairs-complete (c .rest) (omega arith) is (firstOf bad bad′) (firstOf long long′))
 
 -- the first pair, and then others
@@ -152,7 +152,7 @@ flooded-complete : {s : List ℕ} {p e parts : ℕ} {xs : Items} {pair : Pair Va
 unfolding count depth
 flooded-complete {s} {p} {parts = parts} opening a d counted (PairItems.more {xs = xs} i is) =
     let c = split a in
-    let (o, t, bad, long, same, _, _, _, _) = pair-read (c .first) (omega arith) i in
+    let (o, t, bad, long, same, _) = pair-read (c .first) (omega arith) i in
     first-passed s p parts opening {n = count xs} {m = c .mid} (omega arith) (omega (arith, c .first .end)) same (pairs-complete (c .rest) (omega arith) is bad long)
 
 -- there is a pair

@@ -29,7 +29,7 @@ use Rattle.syntax.specs.Message.{Obj}
 use Rattle.grammar.specs.Cddl.{uint, text, ObjectiveItem, Value}
 use Rattle.grammar.specs.Stands.{Stands, StandAll, ArrayHead, ValueIs, itemsWith, ObjectiveIs, ObjectiveStands}
 use Rattle.grammar.proofs.Bridge.{split, join, none as no-more, none-end, only, last, stands-once, lift, lift-first, sink-first, advances, token-heading, number-token, text-token, array-token}
-use Rattle.grammar.proofs.Pieces.{array-items, number-is, number-here, text-size, content-bytes, text-at, array-at, array-head, lift-head, content-there}
+use Rattle.grammar.proofs.Pieces.{array-items, number-is, number-here, text-size, content-bytes, text-at, array-at, array-head, lift-head}
 use Rattle.grammar.proofs.Texts.{bad-text, long-name}
 use Rattle.grammar.proofs.Sizes.{sized-item, item-sized}
 
@@ -198,7 +198,6 @@ begun levels {m} {base} {e} {u = u} {i} {j} {flags} {number} {name} {rest} st fe
     let n : Token = record { at = top .body; major = 3; arg = length name; body = string .body; next = c₁ .mid } in
     let f : Token = record { at = c₁ .mid; major = 0; arg = flags; body = c₂ .mid; next = c₂ .mid } in
     let c : Token = record { at = c₂ .mid; major = 0; arg = number; body = c₃ .mid; next = c₃ .mid } in
-    let (size, _, _) = content-there m base (string .body) (c₁ .mid) name (string .end) (string .content) in
     record {
       n = n;
       f = f;
@@ -217,7 +216,7 @@ begun levels {m} {base} {e} {u = u} {i} {j} {flags} {number} {name} {rest} st fe
             flags-at = base + c₁ .mid;
             opened = subst (ArrayHead m base (base + top .body)) counted (lift-head (top .head));
             name-item = lift base (c₁ .first);
-            name = ap₂ spanOf (omega (arith, string .end)) size;
+            name = ap₂ spanOf (omega (arith, string .end)) (omega (arith, string .end));
             flags-item = lift base (c₂ .first);
             flags = number-is 15 f refl few;
             count-item = lift base (c₃ .first);

@@ -159,7 +159,7 @@ module _ (s : List ℕ) where
   kind-says list (Describes.synch {session} k n o) i d e room =
       let goal = objective-goals o in
       record { parts = (refl, goal .says); is = ap (Msg.synch session) (goal .is) }
-  kind-says list (Describes.flood {session} {ttl} k n from t series h o tag) (MessageItem.flood sy sz sv pairs) d e room =
+  kind-says list (Describes.flood {session} {ttl} k n from t series pair) (MessageItem.flood sy sz sv pairs) d e room =
       let c = string-cuts (from .stands) (from .held) in
       let rows = pairs-lent list (omega (arith, d, pairs-deep pairs (series .are))) (series .stand) (series .are) (series .many ∙ pairs-count (series .are)) room in
       record { parts = (c .inside, rows .says); is = ap₂ (λ (i : List ℕ) (ps : List (Pair (List ℕ))). Msg.flood session i ttl ps) (c .is) (rows .are) }

@@ -6,34 +6,25 @@ use mathlib.Core.List.{List, [], _∷_, _++_, map}
 use mathlib.Core.Option.{Option, none, some}
 use Prim.Native.Nat.{ℕ, suc, _+_, _*_, _-_, _≤_}
 use native.Mathlib.Nat.{add-assoc}
-use native.Mathlib.Decide.{decLt}
 use native.Mathlib.Omega.{arith}
 use borrow.Author.Tests.{ne-eqb}
-use lib.ListN.{length, drop, getD, length-drop}
+use lib.ListN.{length, getD}
 use lib.Seq.{sets, getD-append-add}
 use Rattle.base.specs.Pick.{pick}
-use Rattle.base.proofs.Parts.{drop-past}
-use Rattle.base.proofs.Picks.{both}
 use Rattle.cbor.specs.Item.{leftUnder}
-use Rattle.cbor.specs.Tree.{Item, Items, depth, depths}
-use Rattle.cbor.specs.Head.{headAt}
-use Rattle.cbor.specs.Token.{nothingAt, tokenFrom, tokenAt, itemsIn}
+use Rattle.cbor.specs.Tree.{Items, depth, depths}
 use Rattle.options.specs.declared.locator.Locator.{Locator}
 use Rattle.options.specs.declared.locator.Locator.the-variants as L
-use Rattle.options.specs.declared.locator.LocatorRead.{LocatorRead}
 use Rattle.options.specs.declared.objective.Objective.{Objective}
-use Rattle.options.specs.declared.objective.ObjectiveRead.{ObjectiveRead}
 use Rattle.options.specs.declared.pair.Tag.{Tag}
 use Rattle.options.specs.declared.pair.PairRead.{PairRead}
-use Rattle.options.specs.Locator.{locatorIn, locatorNumbers}
-use Rattle.options.specs.Objective.{objectiveIn}
-use Rattle.options.specs.Pair.{pairTagged, pairTail, pairLed, pairIn, pairAt, five, tagNumbers, pairNumbers}
+use Rattle.options.specs.Locator.{locatorNumbers}
+use Rattle.options.specs.Pair.{pairAt, five, tagNumbers, pairNumbers}
 use Rattle.options.proofs.Fits.{pair-within}
 use Rattle.syntax.specs.Message.{Loc, Obj, Pair, valuedPair}
-use Rattle.grammar.specs.Cddl.{LocatorItem, Value, PairItem, PairItems}
-use Rattle.grammar.specs.Stands as S
-use Rattle.grammar.specs.Stands.{StandAll, tagLoc}
-use Rattle.grammar.proofs.Bridge.{split, advances, stands-within}
+use Rattle.grammar.specs.Cddl.{Value, PairItems}
+use Rattle.grammar.specs.Stands.{StandAll, TagIs}
+use Rattle.grammar.proofs.Bridge.{split}
 use Rattle.grammar.proofs.Pairs.{pair-read}
 use Rattle.description.specs.declared.rows.Entry.{Entry}
 use Rattle.description.specs.declared.rows.LocatorRow.{LocatorRow}
@@ -44,51 +35,7 @@ use Rattle.roundtrip.specs.Plain.{valueBytes}
 use Rattle.roundtrip.specs.Says.{EntrySays, LocatorRowSays, Blank}
 use Rattle.rewrite.proofs.Filled.{Tells, Chain}
 use Rattle.rewrite.proofs.Spans.{Goals, objective-goals}
-use Rattle.rewrite.proofs.Locators.{TextIn, TextOk, text-ok, locator-told}
-
--- ---- the text of a pair's locator lies in the message
-abbrev TagIn : List ℕ → Tag → Type 0
-TagIn m Tag.Empty = Unit {0}
-TagIn m (Tag.At l) = TextIn m l
-
--- of an answer
-abbrev TagOk : List ℕ → PairRead → Type 0
-TagOk m (PairRead.Bad place) = Unit {0}
-TagOk m (PairRead.Got o tag size bad long) = TagIn m tag
-
-tagged-ok : (m : List ℕ) (at : ℕ) (o : Objective) (bad long : ℕ) (x : LocatorRead) → TextOk m x → TagOk m (pairTagged at o bad long x)
-unfolding pairTagged
-tagged-ok m at o bad long (LocatorRead.Bad place) h = tt
-tagged-ok m at o bad long (LocatorRead.Got l size b) h = h
-
--- of no bytes
-none-ok : (m : List ℕ) (base : ℕ) → TextOk m (locatorIn base [])
-unfolding locatorIn tokenAt tokenFrom nothingAt itemsIn headAt pick
-none-ok m base = tt
-
-tail-ok : (m : List ℕ) (base : ℕ) (s : List ℕ) (at : ℕ) (o : Objective) (bad long : ℕ) → base + length s ≤ length m → TagOk m (pairTail base s at o bad long)
-unfolding pairTail
-tail-ok m base s at o bad long k = both (TagOk m) _ tt (tagged-ok m at o bad long (locatorIn (base + at) (drop at s)) text)
-  where
-    -- past the end there is no locator
-    text : TextOk m (locatorIn (base + at) (drop at s))
-    text =
-        elim (decLt (length s) at) [
-          | yes l ↦ subst (λ (t : List ℕ). TextOk m (locatorIn (base + at) t)) (sym (drop-past s at (omega arith))) (none-ok m (base + at))
-          | no l ↦ text-ok m (base + at) (drop at s) (omega (arith, length-drop at s))
-        ]
-
-led-ok : (m : List ℕ) (base : ℕ) (s : List ℕ) (n at : ℕ) (x : ObjectiveRead) → base + length s ≤ length m → TagOk m (pairLed base s n at x)
-unfolding pairLed
-led-ok m base s n at (ObjectiveRead.Bad place) k = tt
-led-ok m base s n at (ObjectiveRead.Got o size bad long) k = both (TagOk m) _ (tail-ok m base s (at + size) o bad long k) tt
-
--- what is read at a place
-tag-ok : (m : List ℕ) (base : ℕ) (s : List ℕ) → base + length s ≤ length m → TagOk m (pairIn base s)
-unfolding pairIn
-tag-ok m base s k =
-    both (TagOk m) _ tt
-    (led-ok m base s _ _ (objectiveIn 3 _ (drop (tokenAt s 0 .next) s)) k)
+use Rattle.rewrite.proofs.Locators.{locator-told}
 
 -- ---- a row
 -- a tag has five numbers
@@ -139,21 +86,11 @@ known : {m : List ℕ} {p : LocatorRow} → LocatorRowSays m p → locOrNone m p
 unfolding locOrNone pick
 known {p = p} says = rw (ne-eqb (p .kind) 0 (λ e. omega (arith, says .least)))
 
-tag-locator : {m : List ℕ} {x : Item} (l : Locator) → TextIn m l → LocatorItem x (S.locOf m l) → (rest : List ℕ)
-    → TagRowIs m (locatorRowAt (tagNumbers (Tag.At l) ++ rest) 0) (some (S.locOf m l))
-unfolding tagNumbers
-tag-locator l t i rest = let told = locator-told l t i rest in record { is = known (told .says) ∙ ap some (told .is); says = inr (told .says) }
-
 -- of what was read
-tag-tells : {m : List ℕ} {x : Item} {pair : Pair Value} (tag : Tag) → TagIn m tag → PairItem x pair → tagLoc m tag ≡ pair .1 → (rest : List ℕ)
-    → TagRowIs m (locatorRowAt (tagNumbers tag ++ rest) 0) (pair .1)
-unfolding tagLoc
-tag-tells Tag.Empty t (PairItem.untagged o) e rest = tag-empty _ rest
-tag-tells Tag.Empty t (PairItem.tagged o l) e rest = absurd (let z : _≡_ {A = ℕ} 0 1 = cc in omega arith)
-tag-tells (Tag.At l) t (PairItem.untagged o) e rest = absurd (let z : _≡_ {A = ℕ} 0 1 = cc in omega arith)
-tag-tells {m} (Tag.At l) t (PairItem.tagged {y = y} {loc = loc} o i) e rest =
-    let same : S.locOf m l ≡ loc = cc in
-    subst (λ (k : Loc). TagRowIs m (locatorRowAt (tagNumbers (Tag.At l) ++ rest) 0) (some k)) same (tag-locator l t (subst (LocatorItem y) (sym same) i) rest)
+tag-tells : {m : List ℕ} {p : ℕ} {tag : Tag} {loc : Option Loc} → TagIs m p tag loc → (rest : List ℕ) → TagRowIs m (locatorRowAt (tagNumbers tag ++ rest) 0) loc
+unfolding tagNumbers
+tag-tells TagIs.empty rest = tag-empty _ rest
+tag-tells (TagIs.at i) rest = let told = locator-told i rest in record { is = known (told .says) ∙ ap some (told .is); says = inr (told .says) }
 
 -- ---- the rows of all
 -- what a row is, what it tells, and that it is in order
@@ -198,10 +135,9 @@ module _ (s : List ℕ) where
   pairs-rows d a PairItems.empty = ([], Chain.end)
   pairs-rows {p} d a (PairItems.more {ps = ps} i is) =
       let c = split a in
-      let (o, tag, bad, long, read, at, mid, objective, described) = pair-read (c .first) (omega (arith, d)) i in
-      let text : TagIn s tag = subst (TagOk s) read (tag-ok s p (drop p s) (omega (arith, length-drop p s, stands-within (c .first), advances (c .first)))) in
+      let (o, tag, bad, long, read, described) = pair-read (c .first) (omega (arith, d)) i in
       let (rows, more) = pairs-rows (omega (arith, d)) (c .rest) is in (
         R.pairCells o tag ∷ rows,
-        Chain.step (pair-twelve o tag) (λ i list. pair-row p i list read) (pair-tells o tag (objective-goals objective) (tag-tells tag text i described))
+        Chain.step (pair-twelve o tag) (λ i list. pair-row p i list read) (pair-tells o tag (objective-goals (described .objective)) (tag-tells (described .tag)))
             (subst (λ (k : ℕ). Pairs k rows (map (valuedPair valueBytes) ps)) (sym (pair-next p read)) more),
       )

@@ -207,5 +207,5 @@ pub hole : {s : List ℕ} {m : Message} {msg : Msg Value} {x : Item} {o : Object
     → Hole s (o .«count_at») (o .value .at) (o .count) msg
 hole Lowers.discovery (Describes.discovery kind number initiator objective) (MessageItem.discovery sy sz i) g deep e =
     discovery-hole objective sy sz (counted-is i) (stands-whole g e) deep
-hole Lowers.flood (Describes.flood kind number initiator live series opened objective tag) (MessageItem.flood sy sz sv (PairItems.more i rest)) g deep e =
-    flood-hole kind number initiator live opened objective sy sz sv (paired-is i) rest (stands-whole g e) deep
+hole Lowers.flood (Describes.flood kind number initiator live series pair) (MessageItem.flood sy sz sv (PairItems.more i rest)) g deep e =
+    flood-hole kind number initiator live (pair .opened) (pair .objective) sy sz sv (paired-is i) rest (stands-whole g e) deep
