@@ -1,6 +1,6 @@
 -- The eleven kinds together: what `examined` answers of bytes that are one item.
 -- Assumes nothing.
-use mathlib.Core.Path.{_≡_, refl, sym, ap, _∙_, subst}
+use mathlib.Core.Path.{_≡_, refl, ap, _∙_, subst}
 use mathlib.Core.Logic.{_⊎_, inl, inr, _≢_}
 use mathlib.Core.List.{List, _++_, append-assoc}
 use mathlib.Core.Bool.{true, false}
@@ -34,7 +34,7 @@ use Rattle.exact.specs.Rows.{UnknownKind}
 use Rattle.exact.proofs.Whole.{IfGood, ShapeOk, Reads, Kinded, WholeIs, stands, one-bytes, fills}
 use Rattle.exact.proofs.Heads.{uint-at, uint-passed, array-passed}
 use Rattle.exact.proofs.Plain.{noop-sound, noop-complete, wait-sound, wait-complete, invalid-sound, invalid-complete, invalid-with-complete, end-sound, end-complete}
-use Rattle.exact.proofs.Exchange.{discovery-sound, discovery-complete, request-negotiation-sound, request-synchronization-sound, negotiate-sound, synch-sound, exchange-complete}
+use Rattle.exact.proofs.Exchange.{discovery-sound, discovery-complete, Exchange, exchange-sound, exchange-complete}
 use Rattle.exact.proofs.Response.{response-sound, response-complete}
 use Rattle.exact.proofs.Flood.{flood-sound, flood-complete}
 
@@ -64,20 +64,17 @@ shape-sound {s} {kind} {n} {at} k known =
     of-kind : (kind′ : ℕ) → kind ≡ kind′ → Kinded s kind′ n at
     of-kind kind′ e = subst (λ (v : ℕ). Kinded s v n at) e k
 
-    to : (kind′ : ℕ) → kind ≡ kind′ → ShapeOk s (exchangeAt s kind′ n at) → ShapeOk s (exchangeAt s kind n at)
-    to kind′ e = subst (λ (v : ℕ). ShapeOk s (exchangeAt s v n at)) (sym e)
-
     exchange : 3 ≤ kind → kind ≤ 8 → (6 ≤ kind → 8 ≤ kind) → ShapeOk s (exchangeAt s kind n at)
     exchange lo hi high =
         elim (decLt kind 4) [
-          | yes l ↦ let e : kind ≡ 3 = omega arith in to 3 e (request-negotiation-sound (of-kind 3 e))
+          | yes l ↦ let e : kind ≡ 3 = omega arith in exchange-sound {msg = Msg.request-negotiation} (rw e Exchange.request-negotiation) k
           | no l ↦
               elim (decLt kind 5) [
-                | yes l′ ↦ let e : kind ≡ 4 = omega arith in to 4 e (request-synchronization-sound (of-kind 4 e))
+                | yes l′ ↦ let e : kind ≡ 4 = omega arith in exchange-sound {msg = Msg.request-synchronization} (rw e Exchange.request-synchronization) k
                 | no l′ ↦
                     elim (decLt kind 6) [
-                      | yes l″ ↦ let e : kind ≡ 5 = omega arith in to 5 e (negotiate-sound (of-kind 5 e))
-                      | no l″ ↦ let e : kind ≡ 8 = omega (arith, high (omega arith)) in to 8 e (synch-sound (of-kind 8 e))
+                      | yes l″ ↦ let e : kind ≡ 5 = omega arith in exchange-sound {msg = Msg.negotiate} (rw e Exchange.negotiate) k
+                      | no l″ ↦ let e : kind ≡ 8 = omega (arith, high (omega arith)) in exchange-sound {msg = Msg.synch} (rw e Exchange.synch) k
                     ]
               ]
         ]
