@@ -1,6 +1,6 @@
 -- The rows of locators that were read: their numbers are stored, and tell the locators that stand in the message.
 -- Assumes nothing.
-use mathlib.Core.Path.{_≡_, refl, sym, ap, _∙_, subst}
+use mathlib.Core.Path.{_≡_, refl, ap, _∙_}
 use mathlib.Core.List.{List, [], _∷_, _++_}
 use Prim.Native.Nat.{ℕ, suc, _+_, _*_, _-_}
 use native.Mathlib.Nat.{add-assoc}
@@ -46,40 +46,32 @@ pub locator-row-behind : (ns rest : List ℕ) (i : ℕ) → length ns ≡ locato
 locator-row-behind ns rest i e = let sum : locatorRow * suc i ≡ length ns + locatorRow * i = omega arith in ap (locatorRowAt (ns ++ rest)) sum ∙ locator-row-shift ns rest (locatorRow * i)
 
 -- ---- what it tells
--- a locator that was read is what the row of its numbers says
-pub record LocatorRowIs (m : List ℕ) (p : LocatorRow) (loc : Loc) : Type 0 where
-  pub is : locatorRowLoc m p ≡ loc
-  pub says : LocatorRowSays m p
-
--- by its items
-addressed-told : {m : List ℕ} {q p : ℕ} {kind address : Item} {l : Locator} {loc : Loc} → Stands m q p address → Addressed p kind address l loc → (rest : List ℕ)
-    → LocatorRowIs m (locatorRowAt (locatorNumbers l ++ rest) 0) loc
-unfolding locatorNumbers locatorRowAt locatorRowLoc pick
-addressed-told st (Addressed.v6 h) rest =
-    let c = string-cuts st h in
-    record { is = rw (c .is); says = record { least = lit≤ tt; most = lit≤ tt; content = c .inside } }
-addressed-told st (Addressed.v4 h) rest =
-    let c = string-cuts st h in
-    record { is = rw (c .is); says = record { least = lit≤ tt; most = lit≤ tt; content = c .inside } }
-addressed-told st (Addressed.domain h) rest =
-    let c = string-cuts st h in
-    record { is = rw (c .is); says = record { least = lit≤ tt; most = lit≤ tt; content = c .inside } }
-addressed-told st (Addressed.uri h x y) rest =
-    let c = string-cuts st h in
-    record { is = rw (c .is, x, y); says = record { least = lit≤ tt; most = lit≤ tt; content = c .inside } }
-
-pub locator-told : {m : List ℕ} {p : ℕ} {l : Locator} {loc : Loc} → LocatorIs m p l loc → (rest : List ℕ) → LocatorRowIs m (locatorRowAt (locatorNumbers l ++ rest) 0) loc
-locator-told i = addressed-told (i .address-item) (i .is)
-
--- ---- the rows of all
--- what a row is, and what is told of it
+-- what a row is
 abbrev pub locatorRowOf : List ℕ → ℕ → LocatorRow
 locatorRowOf list i = locatorRowAt list (locatorRow * i)
 
+-- the first row tells a locator
+abbrev pub LocatorTold : List ℕ → List ℕ → Loc → Type 0
+LocatorTold s = Tells locatorRowOf (locatorRowLoc s) (LocatorRowSays s)
+
+-- by its items
+addressed-told : {m : List ℕ} {q p : ℕ} {kind address : Item} {l : Locator} {loc : Loc} → Stands m q p address → Addressed p kind address l loc → (rest : List ℕ)
+    → LocatorTold m (locatorNumbers l ++ rest) loc
+unfolding locatorNumbers locatorRowAt locatorRowLoc pick
+addressed-told st (Addressed.v6 h) rest = let c = string-cuts st h in (rw (c .is), record { least = lit≤ tt; most = lit≤ tt; content = c .inside })
+addressed-told st (Addressed.v4 h) rest = let c = string-cuts st h in (rw (c .is), record { least = lit≤ tt; most = lit≤ tt; content = c .inside })
+addressed-told st (Addressed.domain h) rest = let c = string-cuts st h in (rw (c .is), record { least = lit≤ tt; most = lit≤ tt; content = c .inside })
+addressed-told st (Addressed.uri h x y) rest = let c = string-cuts st h in (rw (c .is, x, y), record { least = lit≤ tt; most = lit≤ tt; content = c .inside })
+
+-- a locator that was read, by the row of its numbers
+pub locator-told : {m : List ℕ} {p : ℕ} {l : Locator} {loc : Loc} → LocatorIs m p l loc → (rest : List ℕ) → LocatorTold m (locatorNumbers l ++ rest) loc
+locator-told i = addressed-told (i .address-item) (i .is)
+
+-- ---- the rows of all
 module _ (s : List ℕ) where
   -- rows of locators
   abbrev pub Locators : ℕ → List (List ℕ) → List Loc → Type 0
-  Locators = Chain locatorRow (locatorNext s) (locatorStored s) (Tells locatorRowOf (locatorRowLoc s) (LocatorRowSays s))
+  Locators = Chain locatorRow (locatorNext s) (locatorStored s) (LocatorTold s)
 
   -- one row
   locator-row : (p : ℕ) {l : Locator} {size bad : ℕ} (i : ℕ) (list : List ℕ) → locatorAt s p ≡ LocatorRead.Got l size bad
@@ -95,12 +87,8 @@ module _ (s : List ℕ) where
   -- the locators that stand in a message
   pub locators-rows : {p e : ℕ} {xs : Items} {ls : List Loc} → StandAll s p e xs → LocatorItems xs ls → (rows : List (List ℕ)) × Locators p rows ls
   locators-rows a LocatorItems.empty = ([], Chain.end)
-  locators-rows {p} a (LocatorItems.more {ls = ls} i is) =
+  locators-rows {p} a (LocatorItems.more i is) =
       let c = split a in
       let (l, bad, read, described) = locator-read (c .first) i in
-      let told = locator-told described in
-      let (rows, more) = locators-rows (c .rest) is in (
-        locatorNumbers l ∷ rows,
-        Chain.step (locator-five l) (λ i list. locator-row p i list read) (λ rest. (told rest .is, told rest .says))
-            (subst (λ (k : ℕ). Locators k rows ls) (sym (locator-next p read)) more),
-      )
+      let (rows, more) = locators-rows (c .rest) is in
+      (locatorNumbers l ∷ rows, Chain.step (locator-five l) (λ i list. locator-row p i list read) (locator-told described) (locator-next p read) more)

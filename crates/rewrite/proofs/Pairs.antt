@@ -23,7 +23,7 @@ use Rattle.options.specs.Pair.{pairAt, five, tagNumbers, pairNumbers}
 use Rattle.options.proofs.Fits.{pair-within}
 use Rattle.syntax.specs.Message.{Loc, Obj, Pair, valuedPair}
 use Rattle.grammar.specs.Cddl.{Value, PairItems}
-use Rattle.grammar.specs.Stands.{StandAll, TagIs}
+use Rattle.grammar.specs.Stands.{StandAll, TagIs, PairIs}
 use Rattle.grammar.proofs.Bridge.{split}
 use Rattle.grammar.proofs.Pairs.{pair-read}
 use Rattle.description.specs.declared.rows.Entry.{Entry}
@@ -34,8 +34,8 @@ use Rattle.describe.specs.Rows as R
 use Rattle.roundtrip.specs.Plain.{valueBytes}
 use Rattle.roundtrip.specs.Says.{EntrySays, LocatorRowSays, Blank}
 use Rattle.rewrite.proofs.Filled.{Tells, Chain}
-use Rattle.rewrite.proofs.Spans.{Goals, objective-goals}
-use Rattle.rewrite.proofs.Locators.{locator-told}
+use Rattle.rewrite.proofs.Spans.{objective-goals}
+use Rattle.rewrite.proofs.Locators.{locatorRowOf, locator-told}
 
 -- ---- a row
 -- a tag has five numbers
@@ -71,26 +71,25 @@ pub row-behind : (ns rest : List ℕ) (i : ℕ) → length ns ≡ pairRow → ro
 row-behind ns rest i e = let sum : pairRow * suc i ≡ length ns + pairRow * i = omega arith in ap (rowAt (ns ++ rest)) sum ∙ row-shift ns rest (pairRow * i)
 
 -- ---- what it tells
--- a pair's locator: five zeros, or its locator's numbers
-pub record TagRowIs (m : List ℕ) (p : LocatorRow) (tag : Option Loc) : Type 0 where
-  pub is : locOrNone m p ≡ tag
-  pub says : Blank p ⊎ LocatorRowSays m p
+-- the first row of five numbers tells a pair's locator or none, by five zeros
+abbrev TagTold : List ℕ → List ℕ → Option Loc → Type 0
+TagTold s = Tells locatorRowOf (locOrNone s) (λ p. Blank p ⊎ LocatorRowSays s p)
 
 -- none
-tag-empty : (m rest : List ℕ) → TagRowIs m (locatorRowAt (tagNumbers Tag.Empty ++ rest) 0) none
+tag-empty : (m rest : List ℕ) → TagTold m (tagNumbers Tag.Empty ++ rest) none
 unfolding tagNumbers locatorRowAt locOrNone pick
-tag-empty m rest = record { is = refl; says = inl (record { kind = refl; at = refl; len = refl; protocol = refl; port = refl }) }
+tag-empty m rest = (refl, inl (record { kind = refl; at = refl; len = refl; protocol = refl; port = refl }))
 
 -- a locator of a known kind isn't none
 known : {m : List ℕ} {p : LocatorRow} → LocatorRowSays m p → locOrNone m p ≡ some (locatorRowLoc m p)
 unfolding locOrNone pick
 known {p = p} says = rw (ne-eqb (p .kind) 0 (λ e. omega (arith, says .least)))
 
--- of what was read
-tag-tells : {m : List ℕ} {p : ℕ} {tag : Tag} {loc : Option Loc} → TagIs m p tag loc → (rest : List ℕ) → TagRowIs m (locatorRowAt (tagNumbers tag ++ rest) 0) loc
+-- a tag that was read
+tag-told : {m : List ℕ} {p : ℕ} {tag : Tag} {loc : Option Loc} → TagIs m p tag loc → (rest : List ℕ) → TagTold m (tagNumbers tag ++ rest) loc
 unfolding tagNumbers
-tag-tells TagIs.empty rest = tag-empty _ rest
-tag-tells (TagIs.at i) rest = let told = locator-told i rest in record { is = known (told .says) ∙ ap some (told .is); says = inr (told .says) }
+tag-told TagIs.empty rest = tag-empty _ rest
+tag-told (TagIs.at i) rest = let (is, says) = locator-told i rest in (known says ∙ ap some is, inr says)
 
 -- ---- the rows of all
 -- what a row is, what it tells, and that it is in order
@@ -106,9 +105,13 @@ pub record InOrder (s : List ℕ) (r : Row) : Type 0 where
   pub locator : Blank (r .locator) ⊎ LocatorRowSays s (r .locator)
 
 module _ (s : List ℕ) where
+  -- the first row tells a pair
+  abbrev PairTold : List ℕ → Pair (List ℕ) → Type 0
+  PairTold = Tells rowOf (pairOf s) (InOrder s)
+
   -- rows of pairs
   abbrev pub Pairs : ℕ → List (List ℕ) → List (Pair (List ℕ)) → Type 0
-  Pairs = Chain pairRow (R.pairNext s) (R.pairStored s) (Tells rowOf (pairOf s) (InOrder s))
+  Pairs = Chain pairRow (R.pairNext s) (R.pairStored s) PairTold
 
   -- one row
   pair-row : (p : ℕ) {o : Objective} {tag : Tag} {size bad long : ℕ} (i : ℕ) (list : List ℕ) → pairAt s p ≡ PairRead.Got o tag size bad long
@@ -121,23 +124,20 @@ module _ (s : List ℕ) where
   unfolding R.pairNext R.pairNextFrom
   pair-next p {e} {o} {tag} {bad} {long} q = ap (R.pairNextFrom p) q ∙ omega (arith, pair-within s p p _ (PairRead.Got o tag (e - p) bad long) refl q .1)
 
-  -- what the numbers tell
-  pair-tells : {obj : Obj Value} {loc : Option Loc} (o : Objective) (tag : Tag) → Goals s o obj → ((rest : List ℕ) → TagRowIs s (locatorRowAt (tagNumbers tag ++ rest) 0) loc) → (rest : List ℕ)
-      → Tells rowOf (pairOf s) (InOrder s) (R.pairCells o tag ++ rest) (valuedPair valueBytes (obj, loc))
+  -- what the numbers of a pair that was read tell
+  pair-told : {p : ℕ} {o : Objective} {tag : Tag} {pair : Pair Value} → PairIs s p o tag pair → (rest : List ℕ) → PairTold (R.pairCells o tag ++ rest) (valuedPair valueBytes pair)
   unfolding R.pairCells pairNumbers rowAt entryAt locatorRowAt entryOf goalOf valuedPair
-  pair-tells {loc = loc} o tag goal told rest =
-      let tag-is = subst (λ (ns : List ℕ). TagRowIs s (locatorRowAt (ns ++ rest) 0) loc) (sym (tag-five tag)) (told rest) in
-      (ap₂ (λ (x : Obj (List ℕ)) (y : Option Loc). (x, y)) (goal .is) (tag-is .is), record { count-at = refl; objective = goal .says; locator = tag-is .says })
+  pair-told {tag = tag} {pair} i rest =
+      let goal = objective-goals (i .objective) in
+      let (is, says) = subst (λ (ns : List ℕ). TagTold s (ns ++ rest) (pair .1)) (sym (tag-five tag)) (tag-told (i .tag) rest) in
+      (ap₂ (λ (x : Obj (List ℕ)) (y : Option Loc). (x, y)) (goal .is) is, record { count-at = refl; objective = goal .says; locator = says })
 
   -- the pairs that stand in a message
   pub pairs-rows : {p e : ℕ} {xs : Items} {ps : List (Pair Value)} → depths xs ≤ leftUnder 1 → StandAll s p e xs → PairItems xs ps → (rows : List (List ℕ)) × Pairs p rows (map (valuedPair valueBytes) ps)
   unfolding depth
   pairs-rows d a PairItems.empty = ([], Chain.end)
-  pairs-rows {p} d a (PairItems.more {ps = ps} i is) =
+  pairs-rows {p} d a (PairItems.more i is) =
       let c = split a in
       let (o, tag, bad, long, read, described) = pair-read (c .first) (omega (arith, d)) i in
-      let (rows, more) = pairs-rows (omega (arith, d)) (c .rest) is in (
-        R.pairCells o tag ∷ rows,
-        Chain.step (pair-twelve o tag) (λ i list. pair-row p i list read) (pair-tells o tag (objective-goals (described .objective)) (tag-tells (described .tag)))
-            (subst (λ (k : ℕ). Pairs k rows (map (valuedPair valueBytes) ps)) (sym (pair-next p read)) more),
-      )
+      let (rows, more) = pairs-rows (omega (arith, d)) (c .rest) is in
+      (R.pairCells o tag ∷ rows, Chain.step {rows = rows} (pair-twelve o tag) (λ i list. pair-row p i list read) (pair-told described) (pair-next p read) more)
