@@ -30,7 +30,6 @@ use Rattle.message.specs.Flood.{floodedBy, floodedOf, floodedAt, floodBy, flood
 use Rattle.exact.specs.Describes.{Describes}
 use Rattle.exact.proofs.Noted.{single, none-noted, then-noted, more-noted}
 use Rattle.exact.proofs.Whole.{partLevels, IfGood, ShapeOk, past-case, Reads, skipped, Kinded, kind-is, built}
-use Rattle.exact.proofs.Heads.{number-is-here, initiator-is}
 use Rattle.exact.proofs.Opening.{OpeningHere, OpeningOk, opening-sound, opening-complete}
 
 -- ---- what is read stands there
@@ -93,9 +92,9 @@ module _ {s : List ℕ} {n at next : ℕ} (k : Kinded s 9 n at) {opening : Openi
       let pairs = PairItems.more (i .is) (r .are) in
       let stand = join (i .stands) (r .stand) in
       built k _ _ (Msg.flood _ (h .initiator .content) _ (i .pair ∷ r .pairs)) (omega (arith, r .counted))
-      (join (h .session .stands) (join (h .initiator .stands) (join (h .ttl .stands) stand)))
+      (join (h .session .is .stands) (join (h .initiator .is .stands) (join (h .ttl .is .stands) stand)))
       (λ w v. MessageItem.flood (Number.number (h .session .low)) (Initiator.initiator (h .initiator .size)) (Number.number (h .ttl .low)) pairs)
-      (λ full. Describes.flood (kind-is k) (number-is-here (h .session)) (initiator-is (h .initiator)) (number-is-here (h .ttl))
+      (λ full. Describes.flood (kind-is k) (h .session .is) (h .initiator .is) (h .ttl .is)
       (record { items = Items.more (i .item) (r .items); stand = subst (λ (e : ℕ). StandAll s next e (Items.more (i .item) (r .items))) full stand; many = omega (arith, r .counted); are = pairs }) (i .described))
       (then-noted Utf8 (pairTexts (i .pair)) (flatMap pairTexts (r .pairs)) (i .texts) (r .texts))
       (then-noted Short (i .pair .0 .name ∷ []) (map pairName (r .pairs)) (single (i .names)) (r .names))
