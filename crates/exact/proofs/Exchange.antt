@@ -22,7 +22,7 @@ use Rattle.message.specs.Opening.{objectiveLevels}
 use Rattle.message.specs.Shape.{discovered, discoveryAt, exchangeOf, exchanged, exchangeAt}
 use Rattle.exact.specs.Describes.{KindIs, NumberIs, Describes}
 use Rattle.exact.proofs.Noted.{single}
-use Rattle.exact.proofs.Whole.{partLevels, IfGood, ShapeOk, past-case, held-case, Reads, taken, skipped, Kinded, kind-is, built}
+use Rattle.exact.proofs.Whole.{partLevels, IfGood, ShapeOk, past-case, held-case, Reads, taken, skipped, Kinded, built}
 use Rattle.exact.proofs.Heads.{NumberHere, InitiatorHere, number-at-most, initiator-at, number-passed, initiator-passed}
 
 -- ---- 1, Discovery
@@ -35,7 +35,7 @@ discovered-sound {s} {q = q} k i j (ObjectiveRead.Got o size bad long) e =
     let x = objective-sound objectiveLevels s q o size bad long (k .bytes) e in
     built k _ _ (Msg.discovery _ (j .content) (x .obj)) refl (join (i .is .stands) (join (j .is .stands) (last (x .stands))))
     (λ w v. MessageItem.discovery (Number.number (i .low)) (Initiator.initiator (j .size)) (x .is))
-    (λ full. Describes.discovery (kind-is k) (i .is) (j .is) (subst (λ (e : ℕ). ObjectiveIs s q e o (x .obj)) full (x .described))) (single (x .texts)) (single (x .names))
+    (λ full. Describes.discovery (k .is) (i .is) (j .is) (subst (λ (e : ℕ). ObjectiveIs s q e o (x .obj)) full (x .described))) (single (x .texts)) (single (x .names))
 
 -- what is read is a Discovery
 pub discovery-sound : {s : List ℕ} {n at : ℕ} → Kinded s 1 n at → ShapeOk s (discoveryAt s n at)
@@ -107,7 +107,7 @@ exchanged-sound {s} {p = p} {session} {msg} c k i (ObjectiveRead.Got o size bad 
     let x = objective-sound objectiveLevels s p o size bad long (k .bytes) e in
     let (text, name) = exchange-text session (x .obj) c in
     built k _ _ (msg session (x .obj)) refl (join (i .is .stands) (last (x .stands))) (λ w v. exchange-item c (Number.number (i .low)) (x .is))
-    (λ full. exchange-tells c (kind-is k) (i .is) (subst (λ (e : ℕ). ObjectiveIs s p e o (x .obj)) full (x .described)))
+    (λ full. exchange-tells c (k .is) (i .is) (subst (λ (e : ℕ). ObjectiveIs s p e o (x .obj)) full (x .described)))
     (rw text (single (x .texts))) (rw name (single (x .names)))
 
 -- what is read is a message of the kind

@@ -29,7 +29,7 @@ use Rattle.message.specs.Sequence.{pairThen, pairsFrom}
 use Rattle.message.specs.Flood.{floodedBy, floodedOf, floodedAt, floodBy, floodAt}
 use Rattle.exact.specs.Describes.{Describes}
 use Rattle.exact.proofs.Noted.{single, none-noted, then-noted, more-noted}
-use Rattle.exact.proofs.Whole.{partLevels, IfGood, ShapeOk, past-case, Reads, skipped, Kinded, kind-is, built}
+use Rattle.exact.proofs.Whole.{partLevels, IfGood, ShapeOk, past-case, Reads, skipped, Kinded, built}
 use Rattle.exact.proofs.Opening.{OpeningHere, OpeningOk, opening-sound, opening-complete}
 
 -- ---- what is read stands there
@@ -94,7 +94,7 @@ module _ {s : List ℕ} {n at next : ℕ} (k : Kinded s 9 n at) {opening : Openi
       built k _ _ (Msg.flood _ (h .initiator .content) _ (i .pair ∷ r .pairs)) (omega (arith, r .counted))
       (join (h .session .is .stands) (join (h .initiator .is .stands) (join (h .ttl .is .stands) stand)))
       (λ w v. MessageItem.flood (Number.number (h .session .low)) (Initiator.initiator (h .initiator .size)) (Number.number (h .ttl .low)) pairs)
-      (λ full. Describes.flood (kind-is k) (h .session .is) (h .initiator .is) (h .ttl .is)
+      (λ full. Describes.flood (k .is) (h .session .is) (h .initiator .is) (h .ttl .is)
       (record { items = Items.more (i .item) (r .items); stand = subst (λ (e : ℕ). StandAll s next e (Items.more (i .item) (r .items))) full stand; many = omega (arith, r .counted); are = pairs }) (i .described))
       (then-noted Utf8 (pairTexts (i .pair)) (flatMap pairTexts (r .pairs)) (i .texts) (r .texts))
       (then-noted Short (i .pair .0 .name ∷ []) (map pairName (r .pairs)) (single (i .names)) (r .names))

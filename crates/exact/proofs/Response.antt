@@ -38,7 +38,7 @@ use Rattle.message.specs.Sequence.{locatorsFrom}
 use Rattle.message.specs.Response.{responseOf, restOf, restAt, divertOf, divertAt, locatedOf, locatedAt, targetsAt, responseBy, responseAt}
 use Rattle.exact.specs.Describes.{AimIs, ExtraIs, Describes}
 use Rattle.exact.proofs.Noted.{clean, single, none-noted, first-noted, then-noted, more-noted}
-use Rattle.exact.proofs.Whole.{partLevels, IfGood, ShapeOk, past-case, held-case, Reads, taken, skipped, Kinded, kind-is, built}
+use Rattle.exact.proofs.Whole.{partLevels, IfGood, ShapeOk, past-case, held-case, Reads, taken, skipped, Kinded, built}
 use Rattle.exact.proofs.Heads.{uint-passed, array-passed}
 use Rattle.exact.proofs.Exchange.{objective-reads}
 use Rattle.exact.proofs.Opening.{OpeningHere, OpeningOk, opening-sound, opening-complete}
@@ -117,7 +117,7 @@ module _ {s : List ℕ} {n at next : ℕ} (k : Kinded s 2 n at) {opening : Openi
       built k _ _ (Msg.response _ (h .initiator .content) _ aim obj) (counted ∙ omega arith)
       (join (h .session .is .stands) (join (h .initiator .is .stands) (join (h .ttl .is .stands) stand)))
       (λ w v. MessageItem.response (Number.number (h .session .low)) (Initiator.initiator (h .initiator .size)) (Number.number (h .ttl .low)) are)
-      (λ full. Describes.response (kind-is k) (h .session .is) (h .initiator .is) (h .ttl .is) pointed (followed full)) texts names
+      (λ full. Describes.response (k .is) (h .session .is) (h .initiator .is) (h .ttl .is) pointed (followed full)) texts names
 
   -- locators, and what follows them
   located-finish : {many p′ left bad end bad′ long : ℕ} {extra : Extra} {xs : Items} {ls : List Loc} → n ≡ 4 + (count xs + left) → many ≡ count xs → (count xs ≡ 0 → ⊥)

@@ -137,7 +137,7 @@ module _ {s : List ℕ} (one : OneItem s) where
       let four = is-array (tokenAt s 0) filled in
       let h = token-heading s 0 (tokenAt s 0) (one-bytes one) refl (omega arith) in
       let i = uint-at (one-bytes one) number in
-      record { bytes = one-bytes one; from = tokenAt s 0 .next; width = i .width; opened = array-head h four; lead = i .stands }
+      record { bytes = one-bytes one; is = record { many = _; from = _; width = i .width; opened = array-head h four; stands = i .stands }; many = refl }
 
   -- an item of an unknown kind, a departure, or a message that is described
   pub examined-case : (P : Examined → Type 0) → ((place : ℕ) → UnknownKind (one .item) → P (E.Refused 8 place)) → ((place : ℕ) → P (E.Refused 9 place))
