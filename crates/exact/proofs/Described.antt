@@ -37,13 +37,13 @@ use Rattle.exact.specs.Describes.{KindIs, NumberIs, InitiatorIs, AimIs, 
 
 -- ---- from one start
 -- items end at one place
-ends-once : {s : List ℕ} {p p′ e e′ : ℕ} {x y : Item} → p ≡ p′ → Stands s p e x → Stands s p′ e′ y → e ≡ e′
+pub ends-once : {s : List ℕ} {p p′ e e′ : ℕ} {x y : Item} → p ≡ p′ → Stands s p e x → Stands s p′ e′ y → e ≡ e′
 ends-once {s} {p} {e′ = e′} {y = y} q a b =
     let b′ = subst (λ (k : ℕ). Stands s k e′ y) (sym q) b in
     a .end ∙ ap (λ (z : Item). p + length (encode z)) (stands-once a b′) ∙ sym (b′ .end)
 
 -- the head of an array ends at one place
-head-once : {s : List ℕ} {p p′ q q′ n n′ : ℕ} → p ≡ p′ → ArrayHead s p q n → ArrayHead s p′ q′ n′ → q ≡ q′
+pub head-once : {s : List ℕ} {p p′ q q′ n n′ : ℕ} → p ≡ p′ → ArrayHead s p q n → ArrayHead s p′ q′ n′ → q ≡ q′
 head-once {s} {p} {p′} {q} {q′} {n} {n′} e a b =
     let first : headAt (drop p s) ≡ HeadRead.Head 4 n (length (headBytes 4 (a .width) n)) = ap headAt (a .is) ∙ head-read 4 (a .width) n (drop q s) (a .right) in
     let second : headAt (drop p′ s) ≡ HeadRead.Head 4 n′ (length (headBytes 4 (b .width) n′)) = ap headAt (b .is) ∙ head-read 4 (b .width) n′ (drop q′ s) (b .right) in

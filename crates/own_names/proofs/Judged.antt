@@ -1,7 +1,7 @@
 -- Own names held against the answer on them, both ways: the frame and the array's head around the texts.
 -- Assumes nothing.
 use mathlib.Core.Path.{_≡_, refl, sym, ap, _∙_, subst}
-use mathlib.Core.List.{List, _++_, append-nil, List·Memᴰ}
+use mathlib.Core.List.{List, List·Memᴰ}
 use mathlib.Core.Bool.{true, false, not, _||_, true≢false}
 use Prim.Native.Nat.{ℕ, _≤_}
 use native.Mathlib.Omega.{arith}
@@ -10,7 +10,6 @@ use lib.Dec.{ltb, eqb}
 use borrow.Author.Tests.{eqb-true, ltb-false, not-false, eq-eqb, ne-eqb, le-ltb}
 use Rattle.base.specs.Pick.{pick}
 use Rattle.base.proofs.Picks.{pick-case, past}
-use Rattle.base.proofs.Parts.{drop-past}
 use Rattle.base.proofs.Bools.{or-left, or-right}
 use Rattle.cbor.specs.declared.item.ItemRead.{ItemRead}
 use Rattle.cbor.specs.declared.token.Token.{Token}
@@ -19,7 +18,7 @@ use Rattle.cbor.specs.Token.{tokenAt}
 use Rattle.cbor.specs.Tree.{Item, Items, count, depth, encode}
 use Rattle.cbor.proofs.Accepts.{item-accepts}
 use Rattle.grammar.specs.Stands.{Stands, StandAll}
-use Rattle.grammar.proofs.Bridge.{array-token, small-heading, advances}
+use Rattle.grammar.proofs.Bridge.{array-token, small-heading, advances, whole-stands}
 use Rattle.grammar.proofs.Pieces.{array-at}
 use Rattle.exact.proofs.Whole.{stands}
 use Rattle.exact.proofs.Answers.{walked}
@@ -81,11 +80,6 @@ framed-good s (ItemRead.Ends end) =
     pick-case (λ r. r ≡ false → (ItemRead.Ends end ≡ ItemRead.Ends (length s)) × (arrayBad s ≡ false)) (eqb end (length s))
     (λ e q. (ap ItemRead.Ends (eqb-true end (length s) e), q)) (λ e q. absurd (true≢false q))
 
--- an item that stands at the start and is as long as the whole is the whole
-whole : {s : List ℕ} {e : ℕ} {x : Item} → Stands s 0 e x → length (encode x) ≡ length s → encode x ≡ s
-whole {s} {e} {x} a long =
-    sym (append-nil (encode x)) ∙ ap (λ (r : List ℕ). encode x ++ r) (sym (drop-past s e (omega (arith, a .end)))) ∙ sym (a .is)
-
 -- the walk took the whole, and the array is good
 array-own : {s : List ℕ} → length s ≤ mostBytes → firstItem 0 s ≡ ItemRead.Ends (length s) → arrayBad s ≡ false → OwnNames s
 unfolding arrayBad depth
@@ -105,7 +99,7 @@ array-own {s} most all good =
     let ends : ItemRead.Ends (length (encode x)) ≡ ItemRead.Ends (length s) = sym (ap (firstItem 0) (stand .is) ∙ item-accepts 0 x (drop (n .end) s) (stand .good) shallow) ∙ all in
     let long : length (encode x) ≡ length s = cc in
     record {
-      one = record { item = x; bytes = whole stand long; most = most; good = stand .good; shallow = shallow };
+      one = record { item = x; bytes = whole-stands (subst (λ (k : ℕ). Stands s 0 k x) (omega (arith, stand .end)) stand); most = most; good = stand .good; shallow = shallow };
       names = n .names;
       are = TextArray.array (n .are);
       few = omega (arith, n .many, texts-counted (n .are));
