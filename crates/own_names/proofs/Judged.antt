@@ -12,15 +12,15 @@ use Rattle.base.specs.Pick.{pick}
 use Rattle.base.proofs.Picks.{pick-case, past}
 use Rattle.base.proofs.Bools.{or-left, or-right}
 use Rattle.cbor.specs.declared.item.ItemRead.{ItemRead}
-use Rattle.cbor.specs.declared.token.Token.{Token}
 use Rattle.cbor.specs.Item.{mostLevels, firstItem}
 use Rattle.cbor.specs.Token.{tokenAt}
 use Rattle.cbor.specs.Tree.{Item, Items, count, depth, encode}
 use Rattle.cbor.proofs.Accepts.{item-accepts}
-use Rattle.grammar.specs.Stands.{Stands, StandAll}
-use Rattle.grammar.proofs.Bridge.{array-token, small-heading, advances, whole-stands}
+use Rattle.grammar.specs.Stands.{Stands}
+use Rattle.grammar.proofs.Bridge.{last, small-heading, advances, whole-stands}
 use Rattle.grammar.proofs.Pieces.{array-at}
 use Rattle.exact.proofs.Whole.{stands}
+use Rattle.exact.proofs.Heads.{ArrayPassed, array-passed}
 use Rattle.exact.proofs.Answers.{walked}
 use Rattle.message.specs.Read.{mostBytes}
 use Rattle.names.specs.Names.{mostNames, goodNames, arrayBad, framedBad, namesBad, namedFrom, isNamed}
@@ -30,36 +30,26 @@ use Rattle.own_names.proofs.Texts.{texts-counted, texts-flat, names-sou
 -- ---- own names are found good
 -- the array's token, and its texts
 record TextsRead (s : List ℕ) (names : List (List ℕ)) : Type 0 where
-  pub items : Items
-  pub are : TextItems items names
-  pub major : tokenAt s 0 .major ≡ 4
-  pub arg : tokenAt s 0 .arg ≡ count items
-  pub stand : StandAll s (tokenAt s 0 .next) (length s) items
+  items : Items
+  are : TextItems items names
+  array : ArrayPassed s 0 (length s) items Items.done
 
 texts-read : {s : List ℕ} {x : Item} {names : List (List ℕ)} → Stands s 0 (length s) x → TextArray x names → TextsRead s names
-texts-read {s} stand (TextArray.array {xs = xs} are) =
-    let t = array-token stand in
-    record {
-      items = xs;
-      are = are;
-      major = ap (λ (w : Token). w .major) (t .token);
-      arg = ap (λ (w : Token). w .arg) (t .token);
-      stand = subst (λ (k : ℕ). StandAll s k (length s) xs) (sym (ap (λ (w : Token). w .next) (t .token))) (t .items);
-    }
+texts-read stand (TextArray.array are) = record { items = _; are = are; array = array-passed (last stand) }
 
 module _ {s : List ℕ} (o : OwnNames s) where
   read : TextsRead s (o .names)
   read = texts-read (stands (o .one)) (o .are)
 
   few-read : tokenAt s 0 .arg ≤ mostNames
-  few-read = omega (arith, read .arg, texts-counted (read .are), o .few)
+  few-read = omega (arith, read .array .arg, texts-counted (read .are), o .few)
 
   array-good : arrayBad s ≡ false
   unfolding arrayBad
   array-good =
       let a = tokenAt s 0 in
-      let all : goodNames s (a .arg) (a .next) ≡ true = rw (read .arg) (names-complete (read .are) (read .stand) (o .utf8) (o .short)) in
-      rw (eq-eqb (a .major) 4 (read .major), le-ltb mostNames (a .arg) few-read, all) refl
+      let all : goodNames s (a .arg) (a .next) ≡ true = rw (read .array .arg) (names-complete (read .are) (read .array .items) (o .utf8) (o .short)) in
+      rw (eq-eqb (a .major) 4 (read .array .major), le-ltb mostNames (a .arg) few-read, all) refl
 
   pub names-good : namesBad s ≡ false
   unfolding namesBad framedBad pick
@@ -119,10 +109,10 @@ names-own {s} q =
 module _ {s : List ℕ} (name : List ℕ) (o : OwnNames s) where
   named-read : isNamed s name ≡ namedFrom s name (count (read o .items)) (tokenAt s 0 .next)
   unfolding isNamed pick
-  named-read = rw (le-ltb mostNames (tokenAt s 0 .arg) (few-read o), ← read o .arg) refl
+  named-read = rw (le-ltb mostNames (tokenAt s 0 .arg) (few-read o), ← read o .array .arg) refl
 
   pub named-member : isNamed s name ≡ true → List·Memᴰ name (o .names)
-  named-member e = named-sound name (read o .are) (read o .stand) (sym named-read ∙ e)
+  named-member e = named-sound name (read o .are) (read o .array .items) (sym named-read ∙ e)
 
   pub member-named : List·Memᴰ name (o .names) → isNamed s name ≡ true
-  member-named m = named-read ∙ named-complete name (read o .are) (read o .stand) m
+  member-named m = named-read ∙ named-complete name (read o .are) (read o .array .items) m

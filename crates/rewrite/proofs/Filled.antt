@@ -48,7 +48,7 @@ pub data Chain {X : Type 0} (size : ℕ) (next : ℕ → ℕ) (row : ℕ → ℕ
 
 module _ {X : Type 0} {size : ℕ} {next : ℕ → ℕ} {row : ℕ → ℕ → List ℕ → List ℕ} {Told : List ℕ → X → Type 0} where
   -- all rows have so many numbers
-  pub joined-length : {at : ℕ} {rows : List (List ℕ)} {xs : List X} → Chain size next row Told at rows xs → length (joined rows) ≡ size * length rows
+  joined-length : {at : ℕ} {rows : List (List ℕ)} {xs : List X} → Chain size next row Told at rows xs → length (joined rows) ≡ size * length rows
   unfolding joined
   joined-length Chain.end = sym (mul-zero size)
   joined-length (Chain.step {ns = ns} {rows = rows} len stored told goes more) =
