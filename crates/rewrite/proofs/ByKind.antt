@@ -28,8 +28,8 @@ use Rattle.roundtrip.proofs.Encodes.{pairs-many}
 use Rattle.rewrite.specs.Lent.{rowsLent}
 use Rattle.rewrite.proofs.Filled.{joined, lent, told-rows}
 use Rattle.rewrite.proofs.Spans.{string-cuts, value-cuts, end-cuts, objective-goals}
-use Rattle.rewrite.proofs.Locators.{locatorRowOf, locator-row-behind, Locators, locators-rows}
-use Rattle.rewrite.proofs.Pairs.{rowAt, rowOf, row-behind, pairOf, InOrder, Pairs, pairs-rows}
+use Rattle.rewrite.proofs.Locators.{locator-row-shift, Locators, locators-rows}
+use Rattle.rewrite.proofs.Pairs.{rowAt, row-shift, pairOf, InOrder, Pairs, pairs-rows}
 
 -- ---- how many levels the items of pairs have: as many as any others of the same pairs
 -- an objective's are those of its value
@@ -59,7 +59,7 @@ module _ (s : List ℕ) where
   locators-told : {at : ℕ} {rows : List (List ℕ)} {ls : List Loc} → Locators s at rows ls → LocatorsTold (joined rows) ls
   unfolding locsOf rowLoc
   locators-told chain =
-      let (says, are) = told-rows locatorRowOf (locatorRowLoc s) (LocatorRowSays s) locator-row-behind (lit< tt) chain in
+      let (says, are) = told-rows locatorRowAt (locatorRowLoc s) (LocatorRowSays s) locator-row-shift (lit< tt) chain in
       record { says = says; are = are }
 
   -- a list of pairs
@@ -70,7 +70,7 @@ module _ (s : List ℕ) where
   paired-rows : {at : ℕ} {rows : List (List ℕ)} {ps : List (Pair (List ℕ))} → Pairs s at rows ps → Paired (joined rows) ps
   unfolding pairsOf rowPair rowAt
   paired-rows chain =
-      let (says, are) = told-rows rowOf (pairOf s) (InOrder s) row-behind (lit< tt) chain in
+      let (says, are) = told-rows rowAt (pairOf s) (InOrder s) row-shift (lit< tt) chain in
       record {
         says = record { whole = says .whole; each = λ i h. let r = says .each i h in record { count-at = r .count-at; objective = r .objective; locator = r .locator } };
         are = are;

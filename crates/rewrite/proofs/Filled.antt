@@ -35,10 +35,9 @@ up-same f g zero h = refl
 up-same f g (suc n) h = ap₂ (λ l x. l ++ (x ∷ [])) (up-same f g n h) (h n)
 
 -- ---- rows
-module _ {A X : Type 0} (view : List ℕ → ℕ → A) (f : A → X) (Holds : A → Type 0) where
-  -- the first row of a list is x, and in order
-  abbrev pub Tells : List ℕ → X → Type 0
-  Tells list x = (f (view list 0) ≡ x) × Holds (view list 0)
+-- what stands at the start of a list is x, and in order
+abbrev pub Tells : {A X : Type 0} → (List ℕ → ℕ → A) → (A → X) → (A → Type 0) → List ℕ → X → Type 0
+Tells view f Holds list x = (f (view list 0) ≡ x) × Holds (view list 0)
 
 -- the elements xs from `at` on, each with its row of `size` numbers: they are stored in their place, and tell the element, whatever follows them
 pub data Chain {X : Type 0} (size : ℕ) (next : ℕ → ℕ) (row : ℕ → ℕ → List ℕ → List ℕ) (Told : List ℕ → X → Type 0) : ℕ → List (List ℕ) → List X → Type 0 where
@@ -92,29 +91,36 @@ module _ {X : Type 0} {size : ℕ} {next : ℕ → ℕ} {row : ℕ → ℕ → L
 whole-rows : (n k len : ℕ) → 0 < n → len ≡ n * k → (len % n ≡ 0) × (len / n ≡ k)
 whole-rows n k len h e = (rw e (mul-mod-right n k), rw e (mul-div-cancel-left k h))
 
+-- row i + 1, behind the first, is row i
+behind : {A : Type 0} {size : ℕ} (view : List ℕ → ℕ → A) → ((a b : List ℕ) (k : ℕ) → view (a ++ b) (length a + k) ≡ view b k) → (ns rest : List ℕ) (i : ℕ) → length ns ≡ size
+    → view (ns ++ rest) (size * suc i) ≡ view rest (size * i)
+behind {size = size} view shift ns rest i e =
+    let sum : size * suc i ≡ length ns + size * i = omega (arith, mul-suc size i) in
+    ap (view (ns ++ rest)) sum ∙ shift ns rest (size * i)
+
 module _ {A X : Type 0} {size : ℕ} {next : ℕ → ℕ} {row : ℕ → ℕ → List ℕ → List ℕ} (view : List ℕ → ℕ → A) (f : A → X) (Holds : A → Type 0)
-    (shift : (ns rest : List ℕ) (i : ℕ) → length ns ≡ size → view (ns ++ rest) (suc i) ≡ view rest i) where
+    (shift : (a b : List ℕ) (k : ℕ) → view (a ++ b) (length a + k) ≡ view b k) where
   -- each is in order
-  told-each : {at : ℕ} {rows : List (List ℕ)} {xs : List X} → Chain size next row (Tells view f Holds) at rows xs → (i : ℕ) → i < length rows → Holds (view (joined rows) i)
+  told-each : {at : ℕ} {rows : List (List ℕ)} {xs : List X} → Chain size next row (Tells view f Holds) at rows xs → (i : ℕ) → i < length rows → Holds (view (joined rows) (size * i))
   unfolding joined
   told-each Chain.end i h = absurd (omega arith)
-  told-each (Chain.step {rows = rows} len stored told goes more) zero h = told (joined rows) .1
+  told-each (Chain.step {rows = rows} len stored told goes more) zero h = rw (mul-zero size) (told (joined rows) .1)
   told-each (Chain.step {ns = ns} {rows = rows} len stored told goes more) (suc i) h =
-      subst Holds (sym (shift ns (joined rows) i len)) (told-each more i (omega arith))
+      subst Holds (sym (behind view shift ns (joined rows) i len)) (told-each more i (omega arith))
 
   -- and they are all of xs
   told-all : {at : ℕ} {rows : List (List ℕ)} {xs : List X} → Chain size next row (Tells view f Holds) at rows xs
-      → listOf (λ i. f (view (joined rows) i)) (length rows) ≡ xs
+      → listOf (λ i. f (view (joined rows) (size * i))) (length rows) ≡ xs
   unfolding joined listOf
   told-all Chain.end = refl
   told-all (Chain.step {ns = ns} {rows = rows} len stored told goes more) =
-      up-first (λ i. f (view (ns ++ joined rows) i)) (length rows)
-      ∙ ap₂ (λ x l. x ∷ l) (told (joined rows) .0)
-      (up-same (λ i. f (view (ns ++ joined rows) (suc i))) (λ i. f (view (joined rows) i)) (length rows) (λ i. ap f (shift ns (joined rows) i len)) ∙ told-all more)
+      up-first (λ i. f (view (ns ++ joined rows) (size * i))) (length rows)
+      ∙ ap₂ (λ x l. x ∷ l) (rw (mul-zero size) (told (joined rows) .0))
+      (up-same (λ i. f (view (ns ++ joined rows) (size * suc i))) (λ i. f (view (joined rows) (size * i))) (length rows) (λ i. ap f (behind view shift ns (joined rows) i len)) ∙ told-all more)
 
   -- so they are whole rows, in order, of xs
   pub told-rows : {at : ℕ} {rows : List (List ℕ)} {xs : List X} → 0 < size → Chain size next row (Tells view f Holds) at rows xs
-      → Rows (joined rows) size (λ i. Holds (view (joined rows) i)) × (listOf (λ i. f (view (joined rows) i)) (length (joined rows) / size) ≡ xs)
+      → Rows (joined rows) size (λ i. Holds (view (joined rows) (size * i))) × (listOf (λ i. f (view (joined rows) (size * i))) (length (joined rows) / size) ≡ xs)
   told-rows {rows = rows} some chain =
       let (whole, many) = whole-rows size (length rows) (length (joined rows)) some (joined-length chain) in
       (record { whole = whole; each = λ i h. told-each chain i (rw many at h) }, rw many (told-all chain))

@@ -2,7 +2,7 @@
 -- Assumes nothing.
 use mathlib.Core.Path.{_≡_, refl, ap, _∙_}
 use mathlib.Core.List.{List, [], _∷_, _++_}
-use Prim.Native.Nat.{ℕ, suc, _+_, _*_, _-_}
+use Prim.Native.Nat.{ℕ, _+_, _*_, _-_}
 use native.Mathlib.Nat.{add-assoc}
 use native.Mathlib.Omega.{arith}
 use lib.Dec.{lit≤}
@@ -20,7 +20,6 @@ use Rattle.grammar.specs.Cddl.{LocatorItems}
 use Rattle.grammar.specs.Stands.{Stands, StandAll, Addressed, LocatorIs}
 use Rattle.grammar.proofs.Bridge.{split}
 use Rattle.grammar.proofs.Locators.{locator-read}
-use Rattle.description.specs.declared.rows.LocatorRow.{LocatorRow}
 use Rattle.description.specs.Describe.{locatorRow, locatorRowLoc, locatorRowAt}
 use Rattle.describe.specs.Rows.{locatorNextFrom, locatorStoredFrom, locatorNext, locatorStored}
 use Rattle.roundtrip.specs.Says.{LocatorRowSays}
@@ -37,22 +36,14 @@ locator-five (L.Domain name protocol port) = refl
 locator-five (L.Uri uri protocol port) = refl
 
 -- the numbers behind others
-locator-row-shift : (a b : List ℕ) (k : ℕ) → locatorRowAt (a ++ b) (length a + k) ≡ locatorRowAt b k
+pub locator-row-shift : (a b : List ℕ) (k : ℕ) → locatorRowAt (a ++ b) (length a + k) ≡ locatorRowAt b k
 unfolding locatorRowAt
 locator-row-shift a b k = simp (add-assoc, getD-append-add)
 
--- row i + 1, behind the first, is row i
-pub locator-row-behind : (ns rest : List ℕ) (i : ℕ) → length ns ≡ locatorRow → locatorRowAt (ns ++ rest) (locatorRow * suc i) ≡ locatorRowAt rest (locatorRow * i)
-locator-row-behind ns rest i e = let sum : locatorRow * suc i ≡ length ns + locatorRow * i = omega arith in ap (locatorRowAt (ns ++ rest)) sum ∙ locator-row-shift ns rest (locatorRow * i)
-
 -- ---- what it tells
--- what a row is
-abbrev pub locatorRowOf : List ℕ → ℕ → LocatorRow
-locatorRowOf list i = locatorRowAt list (locatorRow * i)
-
 -- the first row tells a locator
 abbrev pub LocatorTold : List ℕ → List ℕ → Loc → Type 0
-LocatorTold s = Tells locatorRowOf (locatorRowLoc s) (LocatorRowSays s)
+LocatorTold s = Tells locatorRowAt (locatorRowLoc s) (LocatorRowSays s)
 
 -- by its items
 addressed-told : {m : List ℕ} {q p : ℕ} {kind address : Item} {l : Locator} {loc : Loc} → Stands m q p address → Addressed p kind address l loc → (rest : List ℕ)

@@ -4,7 +4,7 @@ use mathlib.Core.Path.{_≡_, refl, sym, ap, ap₂, _∙_, subst}
 use mathlib.Core.Logic.{_⊎_, inl, inr}
 use mathlib.Core.List.{List, [], _∷_, _++_, map}
 use mathlib.Core.Option.{Option, none, some}
-use Prim.Native.Nat.{ℕ, suc, _+_, _*_, _-_, _≤_}
+use Prim.Native.Nat.{ℕ, _+_, _*_, _-_, _≤_}
 use native.Mathlib.Nat.{add-assoc}
 use native.Mathlib.Omega.{arith}
 use borrow.Author.Tests.{ne-eqb}
@@ -35,7 +35,7 @@ use Rattle.roundtrip.specs.Plain.{valueBytes}
 use Rattle.roundtrip.specs.Says.{EntrySays, LocatorRowSays, Blank}
 use Rattle.rewrite.proofs.Filled.{Tells, Chain}
 use Rattle.rewrite.proofs.Spans.{objective-goals}
-use Rattle.rewrite.proofs.Locators.{locatorRowOf, locator-told}
+use Rattle.rewrite.proofs.Locators.{locator-told}
 
 -- ---- a row
 -- a tag has five numbers
@@ -62,18 +62,14 @@ unfoldable pub rowAt : List ℕ → ℕ → Row
 rowAt list k = record { count-at = getD list (k + 4) 0; entry = entryAt list k; locator = locatorRowAt list (k + entryRow) }
 
 -- the numbers behind others
-row-shift : (a b : List ℕ) (k : ℕ) → rowAt (a ++ b) (length a + k) ≡ rowAt b k
+pub row-shift : (a b : List ℕ) (k : ℕ) → rowAt (a ++ b) (length a + k) ≡ rowAt b k
 unfolding rowAt entryAt locatorRowAt
 row-shift a b k = simp (add-assoc, getD-append-add)
-
--- row i + 1, behind the first, is row i
-pub row-behind : (ns rest : List ℕ) (i : ℕ) → length ns ≡ pairRow → rowAt (ns ++ rest) (pairRow * suc i) ≡ rowAt rest (pairRow * i)
-row-behind ns rest i e = let sum : pairRow * suc i ≡ length ns + pairRow * i = omega arith in ap (rowAt (ns ++ rest)) sum ∙ row-shift ns rest (pairRow * i)
 
 -- ---- what it tells
 -- the first row of five numbers tells a pair's locator or none, by five zeros
 abbrev TagTold : List ℕ → List ℕ → Option Loc → Type 0
-TagTold s = Tells locatorRowOf (locOrNone s) (λ p. Blank p ⊎ LocatorRowSays s p)
+TagTold s = Tells locatorRowAt (locOrNone s) (λ p. Blank p ⊎ LocatorRowSays s p)
 
 -- none
 tag-empty : (m rest : List ℕ) → TagTold m (tagNumbers Tag.Empty ++ rest) none
@@ -92,10 +88,7 @@ tag-told TagIs.empty rest = tag-empty _ rest
 tag-told (TagIs.at i) rest = let (is, says) = locator-told i rest in (known says ∙ ap some is, inr says)
 
 -- ---- the rows of all
--- what a row is, what it tells, and that it is in order
-abbrev pub rowOf : List ℕ → ℕ → Row
-rowOf list i = rowAt list (pairRow * i)
-
+-- what a row tells, and that it is in order
 abbrev pub pairOf : List ℕ → Row → Pair (List ℕ)
 pairOf s r = (objOf s (r .entry), locOrNone s (r .locator))
 
@@ -107,7 +100,7 @@ pub record InOrder (s : List ℕ) (r : Row) : Type 0 where
 module _ (s : List ℕ) where
   -- the first row tells a pair
   abbrev PairTold : List ℕ → Pair (List ℕ) → Type 0
-  PairTold = Tells rowOf (pairOf s) (InOrder s)
+  PairTold = Tells rowAt (pairOf s) (InOrder s)
 
   -- rows of pairs
   abbrev pub Pairs : ℕ → List (List ℕ) → List (Pair (List ℕ)) → Type 0
