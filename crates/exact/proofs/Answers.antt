@@ -97,7 +97,7 @@ message-shape {s} i =
 pub data Answer (s : List ℕ) : Examined → Type 0 where
   size : (length s ≡ 0) ⊎ (mostBytes < length s) → Answer s (E.Refused 1 0)
   head : {number place : ℕ} → Fits s → FirstFault mostLevels s number place → Answer s (E.Refused number place)
-  more : {e : ℕ} → Fits s → ItemIs mostLevels s e → e < length s → Answer s (E.Refused 7 e)
+  more : {e : ℕ} → length s ≤ mostBytes → ItemIs mostLevels s e → e < length s → Answer s (E.Refused 7 e)
   kind : {place : ℕ} (one : OneItem s) → UnknownKind (one .item) → Answer s (E.Refused 8 place)
   shape : {place : ℕ} → OneItem s → Answer s (E.Refused 9 place)
   text : {place : ℕ} (m : IsMessage s) → (TextsGood (m .msg) → ⊥) → Answer s (E.Refused 11 place)
@@ -130,7 +130,7 @@ module _ {s : List ℕ} (b : Bytes s) where
       examined-case one (Answer s) (λ place u. Answer.kind one u) (λ place. Answer.shape one) (judged-answer one))
       (λ t.
       let i = item-exact 0 s end b e in
-      Answer.more fits i (omega (arith, i .within, eqb-false end (length s) t)))
+      Answer.more (fits .most) i (omega (arith, i .within, eqb-false end (length s) t)))
 
   -- whatever the bytes
   pub answer : Answer s (readPlaced s)

@@ -25,7 +25,7 @@ use Rattle.options.specs.Text.{spanOf}
 use Rattle.options.specs.Locator.{nullProtocol, nullPort}
 use Rattle.syntax.specs.Message.{Loc, orNull, Obj, Pair, Aim, Ending, Msg}
 use Rattle.grammar.specs.Cddl.{uint, LocatorItems, PairItems, Value}
-use Rattle.grammar.specs.Stands.{Stands, ArrayHead, Before, Addressed, TagIs, ValueIs, ObjectiveIs}
+use Rattle.grammar.specs.Stands.{Stands, ArrayHead, Before, Addressed, TagIs, ValueIs, ObjectiveIs, PairIs}
 use Rattle.grammar.proofs.Bridge.{stands-once}
 use Rattle.message.specs.declared.Series.{Series}
 use Rattle.message.specs.declared.Targets.{Targets}
@@ -37,13 +37,13 @@ use Rattle.exact.specs.Describes.{KindIs, NumberIs, InitiatorIs, AimIs, 
 
 -- ---- from one start
 -- items end at one place
-ends-once : {s : List ℕ} {p p′ e e′ : ℕ} {x y : Item} → p ≡ p′ → Stands s p e x → Stands s p′ e′ y → e ≡ e′
+pub ends-once : {s : List ℕ} {p p′ e e′ : ℕ} {x y : Item} → p ≡ p′ → Stands s p e x → Stands s p′ e′ y → e ≡ e′
 ends-once {s} {p} {e′ = e′} {y = y} q a b =
     let b′ = subst (λ (k : ℕ). Stands s k e′ y) (sym q) b in
     a .end ∙ ap (λ (z : Item). p + length (encode z)) (stands-once a b′) ∙ sym (b′ .end)
 
 -- the head of an array ends at one place
-head-once : {s : List ℕ} {p p′ q q′ n n′ : ℕ} → p ≡ p′ → ArrayHead s p q n → ArrayHead s p′ q′ n′ → q ≡ q′
+pub head-once : {s : List ℕ} {p p′ q q′ n n′ : ℕ} → p ≡ p′ → ArrayHead s p q n → ArrayHead s p′ q′ n′ → q ≡ q′
 head-once {s} {p} {p′} {q} {q′} {n} {n′} e a b =
     let first : headAt (drop p s) ≡ HeadRead.Head 4 n (length (headBytes 4 (a .width) n)) = ap headAt (a .is) ∙ head-read 4 (a .width) n (drop q s) (a .right) in
     let second : headAt (drop p′ s) ≡ HeadRead.Head 4 n′ (length (headBytes 4 (b .width) n′)) = ap headAt (b .is) ∙ head-read 4 (b .width) n′ (drop q′ s) (b .right) in
@@ -154,6 +154,17 @@ tag-once q TagIs.empty TagIs.empty = refl
 tag-once q (TagIs.at a) (TagIs.at b) =
     ap Tag.At (addressed-once (ends-once (ends-once (head-once q (a .opened) (b .opened)) (a .kind-item) (b .kind-item)) (a .address-item) (b .address-item)) (a .is) (b .is))
 
+-- a pair by its parts
+abbrev pair-of : Objective → Tag → P.Pair
+pair-of objective tag = record { objective = objective; tag = tag }
+
+-- from one start
+pair-once : {s : List ℕ} {p p′ : ℕ} {o o′ : Objective} {t t′ : Tag} {pair : Pair Value} → p ≡ p′ → PairIs s p o t pair → PairIs s p′ o′ t′ pair → pair-of o t ≡ pair-of o′ t′
+pair-once q a b =
+    let same = objective-once (head-once q (a .opened) (b .opened)) (a .objective) (b .objective) in
+    let mid = a .objective .ends ∙ ap (λ (x : Objective). x .value .at + x .value .len) same ∙ sym (b .objective .ends) in
+    ap₂ (λ (x : Objective) (y : Tag). pair-of x y) same (tag-once mid (a .tag) (b .tag))
+
 -- ---- series, and what a Response holds
 -- series by their parts
 abbrev series-of : ℕ → ℕ → Series
@@ -161,10 +172,6 @@ series-of at many = record { at = at; many = many }
 
 series-ext : (i i′ : Series) → i .at ≡ i′ .at → i .many ≡ i′ .many → i ≡ i′
 series-ext i i′ a b = ap₂ (λ (at many : ℕ). series-of at many) a b
-
--- a pair by its parts
-abbrev pair-of : Objective → Tag → P.Pair
-pair-of objective tag = record { objective = objective; tag = tag }
 
 -- there are as many items as locators
 pub locators-count : {xs : Items} {ls : List Loc} → LocatorItems xs ls → count xs ≡ length ls
@@ -218,12 +225,10 @@ described-once (Describes.negotiate {session} _ _ o) (Describes.negotiate _ _ o�
 described-once (Describes.end {session} r) (Describes.end r′) = ap (M.End session) (outcome-once r r′)
 described-once Describes.wait Describes.wait = refl
 described-once (Describes.synch {session} _ _ o) (Describes.synch _ _ o′) = ap (M.Synch session) (objective-ended o o′)
-described-once (Describes.flood {first = first} {series = series} k n i t is h o tag) (Describes.flood {first = first′} {series = series′} k′ n′ i′ t′ is′ h′ o′ tag′) =
+described-once (Describes.flood {first = first} {series = series} k n i t is pair) (Describes.flood {first = first′} {series = series′} k′ n′ i′ t′ is′ pair′) =
     let (after, initiator) = initiator-once (number-once (kind-once k k′) n n′) i i′ in
     let place = number-once after t t′ in
-    let objective = objective-once (head-once place h h′) o o′ in
-    let tagged = tag-once (o .ends ∙ ap (λ (x : Objective). x .value .at + x .value .len) objective ∙ sym (o′ .ends)) tag tag′ in
-    let pair = ap₂ (λ (x : Objective) (y : Tag). pair-of x y) objective tagged in
+    let same = pair-once place pair pair′ in
     let pairs = series-ext series series′ place (is .many ∙ pairs-count (is .are) ∙ sym (pairs-count (is′ .are)) ∙ sym (is′ .many)) in
     cc
 described-once (Describes.invalid {session} {span = span} k n v e) (Describes.invalid {span = span′} k′ n′ v′ e′) =

@@ -22,8 +22,8 @@ use Rattle.message.specs.Opening.{objectiveLevels}
 use Rattle.message.specs.Shape.{discovered, discoveryAt, exchangeOf, exchanged, exchangeAt}
 use Rattle.exact.specs.Describes.{KindIs, NumberIs, Describes}
 use Rattle.exact.proofs.Noted.{single}
-use Rattle.exact.proofs.Whole.{partLevels, IfGood, ShapeOk, past-case, held-case, Reads, taken, skipped, Kinded, kind-is, built}
-use Rattle.exact.proofs.Heads.{NumberHere, number-is-here, InitiatorHere, initiator-is, number-at-most, initiator-at, number-passed, initiator-passed}
+use Rattle.exact.proofs.Whole.{partLevels, IfGood, ShapeOk, past-case, held-case, Reads, taken, skipped, Kinded, built}
+use Rattle.exact.proofs.Heads.{NumberHere, InitiatorHere, number-at-most, initiator-at, number-passed, initiator-passed}
 
 -- ---- 1, Discovery
 -- the objective
@@ -33,9 +33,9 @@ unfolding discovered count textsOf namesOf
 discovered-sound k i j (ObjectiveRead.Bad place) e = IfGood.bad
 discovered-sound {s} {q = q} k i j (ObjectiveRead.Got o size bad long) e =
     let x = objective-sound objectiveLevels s q o size bad long (k .bytes) e in
-    built k _ _ (Msg.discovery _ (j .content) (x .obj)) refl (join (i .stands) (join (j .stands) (last (x .stands))))
+    built k _ _ (Msg.discovery _ (j .content) (x .obj)) refl (join (i .is .stands) (join (j .is .stands) (last (x .stands))))
     (λ w v. MessageItem.discovery (Number.number (i .low)) (Initiator.initiator (j .size)) (x .is))
-    (λ full. Describes.discovery (kind-is k) (number-is-here i) (initiator-is j) (subst (λ (e : ℕ). ObjectiveIs s q e o (x .obj)) full (x .described))) (single (x .texts)) (single (x .names))
+    (λ full. Describes.discovery (k .is) (i .is) (j .is) (subst (λ (e : ℕ). ObjectiveIs s q e o (x .obj)) full (x .described))) (single (x .texts)) (single (x .names))
 
 -- what is read is a Discovery
 pub discovery-sound : {s : List ℕ} {n at : ℕ} → Kinded s 1 n at → ShapeOk s (discoveryAt s n at)
@@ -66,86 +66,57 @@ discovery-complete a i j o d =
     taken _ refl (skipped _ e (taken _ e′ (objective-reads c′ d o (discovered _ _ _) (λ _ _ _ _. Reads.reads))))
 
 -- ---- 3, 4, 5 and 8
--- a kind that has a session and an objective
-record Exchange (kind : ℕ) : Type 0 where
-  msg : ℕ → Obj Value → Msg Value
-  item : (w v session : ℕ) (i x : Item) (obj : Obj Value) → Number i session → ObjectiveItem x obj → MessageItem (array w (uint v kind ∷ i ∷ x ∷ [])) (msg session obj)
-  tells : (s : List ℕ) (p q session : ℕ) (o : Objective) (obj : Obj Value) → KindIs s kind p → NumberIs s p q session → ObjectiveIs s q (length s) o obj
-      → Describes s (exchangeOf kind session o) (msg session obj)
-  texts : (session : ℕ) (obj : Obj Value) → textsOf (msg session obj) ≡ obj .name ∷ []
-  names : (session : ℕ) (obj : Obj Value) → namesOf (msg session obj) ≡ obj .name ∷ []
+-- the kinds that have a session and an objective, and their messages
+pub data Exchange : ℕ → (ℕ → Obj Value → Msg Value) → Type 0 where
+  request-negotiation : Exchange 3 Msg.request-negotiation
+  request-synchronization : Exchange 4 Msg.request-synchronization
+  negotiate : Exchange 5 Msg.negotiate
+  synch : Exchange 8 Msg.synch
+
+-- the message's item
+exchange-item : {kind w v session : ℕ} {msg : ℕ → Obj Value → Msg Value} {i x : Item} {obj : Obj Value} → Exchange kind msg → Number i session → ObjectiveItem x obj
+    → MessageItem (array w (uint v kind ∷ i ∷ x ∷ [])) (msg session obj)
+exchange-item Exchange.request-negotiation = MessageItem.request-negotiation
+exchange-item Exchange.request-synchronization = MessageItem.request-synchronization
+exchange-item Exchange.negotiate = MessageItem.negotiate
+exchange-item Exchange.synch = MessageItem.synch
+
+-- what describes it
+exchange-tells : {s : List ℕ} {kind p q session : ℕ} {msg : ℕ → Obj Value → Msg Value} {o : Objective} {obj : Obj Value} → Exchange kind msg → KindIs s kind p → NumberIs s p q session → ObjectiveIs s q (length s) o obj
+    → Describes s (exchangeOf kind session o) (msg session obj)
+unfolding exchangeOf pick
+exchange-tells Exchange.request-negotiation = Describes.request-negotiation
+exchange-tells Exchange.request-synchronization = Describes.request-synchronization
+exchange-tells Exchange.negotiate = Describes.negotiate
+exchange-tells Exchange.synch = Describes.synch
+
+-- its only text and name
+exchange-text : {kind : ℕ} {msg : ℕ → Obj Value → Msg Value} (session : ℕ) (obj : Obj Value) → Exchange kind msg → (textsOf (msg session obj) ≡ obj .name ∷ []) × (namesOf (msg session obj) ≡ obj .name ∷ [])
+unfolding textsOf namesOf
+exchange-text session obj Exchange.request-negotiation = (refl, refl)
+exchange-text session obj Exchange.request-synchronization = (refl, refl)
+exchange-text session obj Exchange.negotiate = (refl, refl)
+exchange-text session obj Exchange.synch = (refl, refl)
 
 -- the objective
-exchanged-sound : {s : List ℕ} {kind at p session : ℕ} → Exchange kind → Kinded s kind 3 at → NumberHere s at p session
+exchanged-sound : {s : List ℕ} {kind at p session : ℕ} {msg : ℕ → Obj Value → Msg Value} → Exchange kind msg → Kinded s kind 3 at → NumberHere s at p session
     → (x : ObjectiveRead) → objectiveAt objectiveLevels s p ≡ x → ShapeOk s (exchanged kind session p x)
 unfolding exchanged count
 exchanged-sound c k i (ObjectiveRead.Bad place) e = IfGood.bad
-exchanged-sound {s} {kind} {at} {p} {session} c k i (ObjectiveRead.Got o size bad long) e =
+exchanged-sound {s} {p = p} {session} {msg} c k i (ObjectiveRead.Got o size bad long) e =
     let x = objective-sound objectiveLevels s p o size bad long (k .bytes) e in
-    built k _ _ (c .msg session (x .obj)) refl (join (i .stands) (last (x .stands)))
-    (λ w v. c .item w v session _ _ (x .obj) (Number.number (i .low)) (x .is))
-    (λ full. c .tells s at p session o (x .obj) (kind-is k) (number-is-here i) (subst (λ (e : ℕ). ObjectiveIs s p e o (x .obj)) full (x .described)))
-    (rw (c .texts) (single (x .texts))) (rw (c .names) (single (x .names)))
+    let (text, name) = exchange-text session (x .obj) c in
+    built k _ _ (msg session (x .obj)) refl (join (i .is .stands) (last (x .stands))) (λ w v. exchange-item c (Number.number (i .low)) (x .is))
+    (λ full. exchange-tells c (k .is) (i .is) (subst (λ (e : ℕ). ObjectiveIs s p e o (x .obj)) full (x .described)))
+    (rw text (single (x .texts))) (rw name (single (x .names)))
 
 -- what is read is a message of the kind
-exchange-sound : {s : List ℕ} {kind n at : ℕ} → Exchange kind → Kinded s kind n at → ShapeOk s (exchangeAt s kind n at)
+pub exchange-sound : {s : List ℕ} {kind n at : ℕ} {msg : ℕ → Obj Value → Msg Value} → Exchange kind msg → Kinded s kind n at → ShapeOk s (exchangeAt s kind n at)
 unfolding exchangeAt
 exchange-sound {s} {kind} {n} {at} c k =
     held-case _
     (λ three. past-case _
     (λ e. exchanged-sound c (subst (λ (n : ℕ). Kinded s kind n at) (eqb-true n 3 three) k) (number-at-most (k .bytes) e) _ refl))
-
--- Request Negotiation
-pub request-negotiation-sound : {s : List ℕ} {n at : ℕ} → Kinded s 3 n at → ShapeOk s (exchangeAt s 3 n at)
-unfolding exchangeOf pick textsOf namesOf
-request-negotiation-sound =
-    exchange-sound
-    (record {
-      msg = Msg.request-negotiation;
-      item = λ w v session i x obj. MessageItem.request-negotiation;
-      tells = λ s p q session o obj. Describes.request-negotiation;
-      texts = λ session obj. refl;
-      names = λ session obj. refl;
-    })
-
--- Request Synchronization
-pub request-synchronization-sound : {s : List ℕ} {n at : ℕ} → Kinded s 4 n at → ShapeOk s (exchangeAt s 4 n at)
-unfolding exchangeOf pick textsOf namesOf
-request-synchronization-sound =
-    exchange-sound
-    (record {
-      msg = Msg.request-synchronization;
-      item = λ w v session i x obj. MessageItem.request-synchronization;
-      tells = λ s p q session o obj. Describes.request-synchronization;
-      texts = λ session obj. refl;
-      names = λ session obj. refl;
-    })
-
--- Negotiate
-pub negotiate-sound : {s : List ℕ} {n at : ℕ} → Kinded s 5 n at → ShapeOk s (exchangeAt s 5 n at)
-unfolding exchangeOf pick textsOf namesOf
-negotiate-sound =
-    exchange-sound
-    (record {
-      msg = Msg.negotiate;
-      item = λ w v session i x obj. MessageItem.negotiate;
-      tells = λ s p q session o obj. Describes.negotiate;
-      texts = λ session obj. refl;
-      names = λ session obj. refl;
-    })
-
--- Synch
-pub synch-sound : {s : List ℕ} {n at : ℕ} → Kinded s 8 n at → ShapeOk s (exchangeAt s 8 n at)
-unfolding exchangeOf pick textsOf namesOf
-synch-sound =
-    exchange-sound
-    (record {
-      msg = Msg.synch;
-      item = λ w v session i x obj. MessageItem.synch;
-      tells = λ s p q session o obj. Describes.synch;
-      texts = λ session obj. refl;
-      names = λ session obj. refl;
-    })
 
 -- such a message is read, whatever the kind
 pub exchange-complete : {s : List ℕ} (kind : ℕ) {at e session : ℕ} {x y : Item} {obj : Obj Value} → StandAll s at e (list (x ∷ y ∷ []))

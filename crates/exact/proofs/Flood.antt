@@ -29,8 +29,7 @@ use Rattle.message.specs.Sequence.{pairThen, pairsFrom}
 use Rattle.message.specs.Flood.{floodedBy, floodedOf, floodedAt, floodBy, floodAt}
 use Rattle.exact.specs.Describes.{Describes}
 use Rattle.exact.proofs.Noted.{single, none-noted, then-noted, more-noted}
-use Rattle.exact.proofs.Whole.{partLevels, IfGood, ShapeOk, past-case, Reads, skipped, Kinded, kind-is, built}
-use Rattle.exact.proofs.Heads.{number-is-here, initiator-is}
+use Rattle.exact.proofs.Whole.{partLevels, IfGood, ShapeOk, past-case, Reads, skipped, Kinded, built}
 use Rattle.exact.proofs.Opening.{OpeningHere, OpeningOk, opening-sound, opening-complete}
 
 -- ---- what is read stands there
@@ -93,10 +92,10 @@ module _ {s : List ℕ} {n at next : ℕ} (k : Kinded s 9 n at) {opening : Openi
       let pairs = PairItems.more (i .is) (r .are) in
       let stand = join (i .stands) (r .stand) in
       built k _ _ (Msg.flood _ (h .initiator .content) _ (i .pair ∷ r .pairs)) (omega (arith, r .counted))
-      (join (h .session .stands) (join (h .initiator .stands) (join (h .ttl .stands) stand)))
+      (join (h .session .is .stands) (join (h .initiator .is .stands) (join (h .ttl .is .stands) stand)))
       (λ w v. MessageItem.flood (Number.number (h .session .low)) (Initiator.initiator (h .initiator .size)) (Number.number (h .ttl .low)) pairs)
-      (λ full. Describes.flood (kind-is k) (number-is-here (h .session)) (initiator-is (h .initiator)) (number-is-here (h .ttl))
-      (record { items = Items.more (i .item) (r .items); stand = subst (λ (e : ℕ). StandAll s next e (Items.more (i .item) (r .items))) full stand; many = omega (arith, r .counted); are = pairs }) (i .opened) (i .objective) (i .tag))
+      (λ full. Describes.flood (k .is) (h .session .is) (h .initiator .is) (h .ttl .is)
+      (record { items = Items.more (i .item) (r .items); stand = subst (λ (e : ℕ). StandAll s next e (Items.more (i .item) (r .items))) full stand; many = omega (arith, r .counted); are = pairs }) (i .described))
       (then-noted Utf8 (pairTexts (i .pair)) (flatMap pairTexts (r .pairs)) (i .texts) (r .texts))
       (then-noted Short (i .pair .0 .name ∷ []) (map pairName (r .pairs)) (single (i .names)) (r .names))
 
@@ -137,7 +136,7 @@ unfolding count depth pairsFrom
 pairs-complete {p = p} a d PairItems.empty bad long = (p, bad, long, refl)
 pairs-complete {s} {p} a d (PairItems.more {xs = xs} i is) bad long =
     let c = split a in
-    let (o, t, bad′, long′, same, _, _, _, _) = pair-read (c .first) (omega arith) i in
+    let (o, t, bad′, long′, same, _) = pair-read (c .first) (omega arith) i in
     passed s p (count xs) bad long same (omega (arith, c .first .end)) (pairs-complete (c .rest) (omega arith) is (firstOf bad bad′) (firstOf long long′))
 
 -- the first pair, and then others
@@ -152,7 +151,7 @@ flooded-complete : {s : List ℕ} {p e parts : ℕ} {xs : Items} {pair : Pair Va
 unfolding count depth
 flooded-complete {s} {p} {parts = parts} opening a d counted (PairItems.more {xs = xs} i is) =
     let c = split a in
-    let (o, t, bad, long, same, _, _, _, _) = pair-read (c .first) (omega arith) i in
+    let (o, t, bad, long, same, _) = pair-read (c .first) (omega arith) i in
     first-passed s p parts opening {n = count xs} {m = c .mid} (omega arith) (omega (arith, c .first .end)) same (pairs-complete (c .rest) (omega arith) is bad long)
 
 -- there is a pair

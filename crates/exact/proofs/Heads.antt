@@ -15,7 +15,7 @@ use Rattle.cbor.specs.Token.{tokenAt, upTo}
 use Rattle.cbor.specs.Tree.{Item, Items, count}
 use Rattle.options.specs.declared.Span.{Span}
 use Rattle.options.specs.Text.{spanOf, contentIn, contentOf}
-use Rattle.grammar.specs.Cddl.{uint, bytes, Number, Initiator}
+use Rattle.grammar.specs.Cddl.{uint, Number, Initiator}
 use Rattle.grammar.specs.Stands.{Stands, StandAll, Before}
 use Rattle.grammar.proofs.Bridge.{Heading, token-heading, split, string-major, number-token, text-token, array-token}
 use Rattle.grammar.proofs.Pieces.{Some, number-at, content-bytes, text-at, number-here, number-is}
@@ -26,13 +26,8 @@ use Rattle.exact.specs.Describes.{NumberIs, InitiatorIs}
 -- ---- from tokens to items
 -- a number within the limit of sessions, ttls and waiting times
 pub record NumberHere (s : List ℕ) (p e n : ℕ) : Type 0 where
-  pub width : ℕ
+  pub is : NumberIs s p e n
   pub low : n ≤ mostNumber
-  pub stands : Stands s p e (uint width n)
-
--- as a number of the message
-pub number-is-here : {s : List ℕ} {p e n : ℕ} → NumberHere s p e n → NumberIs s p e n
-number-is-here h = record { width = h .width; stands = h .stands }
 
 -- a string, and where its bytes stand
 pub record StringHere (text : Bool) (s : List ℕ) (p : ℕ) : Type 0 where
@@ -43,15 +38,9 @@ pub record StringHere (text : Bool) (s : List ℕ) (p : ℕ) : Type 0 where
 
 -- a byte string of 4 or 16 bytes, and where they stand
 pub record InitiatorHere (s : List ℕ) (p e : ℕ) (span : Span) : Type 0 where
-  pub width : ℕ
   pub content : List ℕ
-  pub stands : Stands s p e (bytes width content)
+  pub is : InitiatorIs s p e span content
   pub size : (length content ≡ 4) ⊎ (length content ≡ 16)
-  pub held : Before e content span
-
--- as an initiator
-pub initiator-is : {s : List ℕ} {p e : ℕ} {span : Span} (h : InitiatorHere s p e span) → InitiatorIs s p e span (h .content)
-initiator-is h = record { width = h .width; stands = h .stands; held = h .held }
 
 module _ {s : List ℕ} {p : ℕ} (b : Bytes s) where
   heading : tokenAt s p .major < 8 → Heading s p (tokenAt s p)
@@ -66,7 +55,7 @@ module _ {s : List ℕ} {p : ℕ} (b : Bytes s) where
   number-at-most e =
       let small = ltb-false mostNumber (upTo mostNumber (tokenAt s p)) e in
       let i = number-here mostNumber (tokenAt s p) b refl small in
-      record { width = i .width; low = small; stands = i .stands }
+      record { is = record { width = i .width; stands = i .stands }; low = small }
 
   -- a byte string, or a text
   pub string-at : (text : Bool) → tokenAt s p .major ≡ cond text 3 2 → StringHere text s p
@@ -82,7 +71,7 @@ module _ {s : List ℕ} {p : ℕ} (b : Bytes s) where
   initiator-at e =
       let (two, size) = initiated (tokenAt s p) e in
       let h = string-at false two in
-      record { width = h .width; content = contentIn s (tokenAt s p); stands = h .stands; size = rw (h .long) size; held = h .held }
+      record { content = contentIn s (tokenAt s p); is = record { width = h .width; stands = h .stands; held = h .held }; size = rw (h .long) size }
 
 -- ---- from items to tokens: the test, and the items after it
 -- what passes the test of an initiator

@@ -89,7 +89,7 @@ module _ {s : List ℕ} (b : Bytes s) where
 
 -- ---- what stands there is read
 -- an array that a number leads
-pub number-led : {s : List ℕ} {p e w v n : ℕ} {ys xs : Items} → StandAll s p e (Items.more (Item.array w (Items.more (uint v n) ys)) xs)
+number-led : {s : List ℕ} {p e w v n : ℕ} {ys xs : Items} → StandAll s p e (Items.more (Item.array w (Items.more (uint v n) ys)) xs)
     → (tokenAt s (tokenAt s p .next) .major ≡ 0) × (tokenAt s (tokenAt s p .next) .arg ≡ n)
 number-led a = let (number, arg, rest) = uint-passed (array-passed a .items) in (number, arg)
 

@@ -30,8 +30,8 @@ use Rattle.message.specs.declared.shape.Shape.the-variants as S
 use Rattle.message.specs.Shape.{noopAt, waitAt, invalidAt, optionAt, endAt}
 use Rattle.exact.specs.Describes.{OutcomeIs, Describes}
 use Rattle.exact.proofs.Noted.{clean, single}
-use Rattle.exact.proofs.Whole.{partLevels, kind-is, ShapeOk, past-case, held-case, Reads, taken, skipped, Kinded, built}
-use Rattle.exact.proofs.Heads.{number-is-here, NumberHere, number-at-most, number-passed, uint-passed, string-passed, array-passed, string-at}
+use Rattle.exact.proofs.Whole.{partLevels, ShapeOk, past-case, held-case, Reads, taken, skipped, Kinded, built}
+use Rattle.exact.proofs.Heads.{NumberHere, number-at-most, number-passed, uint-passed, string-passed, array-passed, string-at}
 
 -- ---- 0, Noop
 -- what is read is a Noop
@@ -39,7 +39,7 @@ pub noop-sound : {s : List ℕ} {n at : ℕ} → Kinded s 0 n at → ShapeOk s (
 unfolding noopAt count textsOf namesOf
 noop-sound {n = n} k =
     held-case _
-    (λ one. built k _ Items.done Msg.noop (eqb-true n 1 one) (no-items (stands-within (k .lead))) (λ w v. MessageItem.noop) (λ _. Describes.noop) (clean tt) (clean tt))
+    (λ one. built k _ Items.done Msg.noop (eqb-true n 1 one) (no-items (stands-within (k .is .stands))) (λ w v. MessageItem.noop) (λ _. Describes.noop) (clean tt) (clean tt))
 
 -- a Noop is read
 pub noop-complete : (at : ℕ) → Reads (noopAt 1 at)
@@ -57,7 +57,7 @@ wait-sound {n = n} k =
     (λ e′.
     let i = number-at-most (k .bytes) e in
     let t = number-at-most (k .bytes) e′ in
-    built k _ _ (Msg.wait _ _) (eqb-true n 3 three) (join (i .stands) (last (t .stands)))
+    built k _ _ (Msg.wait _ _) (eqb-true n 3 three) (join (i .is .stands) (last (t .is .stands)))
     (λ w v. MessageItem.wait (Number.number (i .low)) (Number.number (t .low))) (λ _. Describes.wait) (clean tt) (clean tt))))
 
 -- a Wait is read
@@ -82,13 +82,13 @@ invalid-sound {s} {n} {at} k =
     let few : 2 ≤ n = ltb-false n 2 lo in
     let most : n ≤ 3 = ltb-false 3 n hi in
     pick-case (ShapeOk s) _
-    (λ two. built k _ _ (Msg.invalid _ none) (eqb-true n 2 two) (last (i .stands)) (λ w v. MessageItem.invalid (Number.number (i .low)))
-    (λ full. Describes.invalid (kind-is k) (number-is-here i) (ValueIs.absent refl) (omega arith)) (clean tt) (clean tt))
+    (λ two. built k _ _ (Msg.invalid _ none) (eqb-true n 2 two) (last (i .is .stands)) (λ w v. MessageItem.invalid (Number.number (i .low)))
+    (λ full. Describes.invalid (k .is) (i .is) (ValueIs.absent refl) (omega arith)) (clean tt) (clean tt))
     (λ more. past-case _
     (λ some-len.
     let (item, there, _) = sized-item 1 s p (k .bytes) (eqb-false (sizeAt 1 s p) 0 some-len) in
-    built k _ _ (Msg.invalid _ (some item)) (omega (arith, eqb-false n 2 more)) (join (i .stands) (last there))
-    (λ w v. MessageItem.invalid-with (Number.number (i .low))) (λ full. Describes.invalid (kind-is k) (number-is-here i) (ValueIs.present there) full) (clean tt) (clean tt))))))
+    built k _ _ (Msg.invalid _ (some item)) (omega (arith, eqb-false n 2 more)) (join (i .is .stands) (last there))
+    (λ w v. MessageItem.invalid-with (Number.number (i .low))) (λ full. Describes.invalid (k .is) (i .is) (ValueIs.present there) full) (clean tt) (clean tt))))))
 
 -- an Invalid without an item is read
 pub invalid-complete : {s : List ℕ} {at e session : ℕ} {x : Item} → StandAll s at e (list (x ∷ [])) → Number x session → Reads (invalidAt s 2 at)
@@ -111,7 +111,7 @@ module _ {s : List ℕ} {at p session : ℕ} (k : Kinded s 6 3 at) (i : NumberHe
       → bad ≡ 0 ↔ Every Utf8 (endingTexts ending) → ShapeOk s (S.Good (M.End session outcome) e bad 0)
   unfolding count textsOf namesOf
   ended {e} {x = x} {ending = ending} stands is described texts =
-      built k e _ (Msg.end session ending) refl (join (i .stands) (last stands)) (λ w v. MessageItem.end (Number.number (i .low)) is)
+      built k e _ (Msg.end session ending) refl (join (i .is .stands) (last stands)) (λ w v. MessageItem.end (Number.number (i .low)) is)
       (λ full. Describes.end (described full)) texts (clean tt)
 
   -- what is read is an accept or a decline

@@ -47,8 +47,8 @@ unfolding readOf placeless readPlaced framed pick
 row-given s _ (Row.size (inl e)) = rw (eq-eqb (length s) 0 e)
 row-given s _ (Row.size (inr h)) = rw (ne-eqb (length s) 0 (λ z. omega arith), lt-ltb mostBytes (length s) h)
 row-given s n (Row.head {place = place} fits f) = ap placeless (placed-fit fits ∙ ap (framed s) (refusal-complete 0 s n place f))
-row-given s _ (Row.more {e} fits i less) =
-    ap placeless (placed-fit fits ∙ ap (framed s) (item-found 0 s e i)) ∙ rw (ne-eqb e (length s) (λ z. omega arith))
+row-given s _ (Row.more {e} most i less) =
+    ap placeless (placed-fit (record { some = λ z. omega arith; most = most }) ∙ ap (framed s) (item-found 0 s e i)) ∙ rw (ne-eqb e (length s) (λ z. omega arith))
 row-given s _ (Row.kind one u) = ap placeless (placed-one one ∙ unknown-complete (stands one) u .1)
 row-given s _ (Row.shape one known none) =
     ap placeless (placed-one one)
@@ -66,7 +66,7 @@ row-of : {s : List ℕ} {number place : ℕ} → readPlaced s ≡ E.Refused numb
 unfolding readOf placeless
 row-of e (Answer.size h) = Row.size h
 row-of e (Answer.head fits f) = Row.head fits f
-row-of e (Answer.more fits i less) = Row.more fits i less
+row-of e (Answer.more most i less) = Row.more most i less
 row-of e (Answer.kind one u) = Row.kind one u
 row-of {s} e (Answer.shape one) =
     Row.shape one (λ u. refused-8-9 (row-given s 8 (Row.kind one u)) (ap placeless e))

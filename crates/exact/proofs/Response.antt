@@ -38,8 +38,8 @@ use Rattle.message.specs.Sequence.{locatorsFrom}
 use Rattle.message.specs.Response.{responseOf, restOf, restAt, divertOf, divertAt, locatedOf, locatedAt, targetsAt, responseBy, responseAt}
 use Rattle.exact.specs.Describes.{AimIs, ExtraIs, Describes}
 use Rattle.exact.proofs.Noted.{clean, single, none-noted, first-noted, then-noted, more-noted}
-use Rattle.exact.proofs.Whole.{partLevels, IfGood, ShapeOk, past-case, held-case, Reads, taken, skipped, Kinded, kind-is, built}
-use Rattle.exact.proofs.Heads.{number-is-here, initiator-is, uint-passed, array-passed}
+use Rattle.exact.proofs.Whole.{partLevels, IfGood, ShapeOk, past-case, held-case, Reads, taken, skipped, Kinded, built}
+use Rattle.exact.proofs.Heads.{uint-passed, array-passed}
 use Rattle.exact.proofs.Exchange.{objective-reads}
 use Rattle.exact.proofs.Opening.{OpeningHere, OpeningOk, opening-sound, opening-complete}
 use Rattle.exact.proofs.Locators.{LocatorsOk, locators-sound, locator-led, objective-led, locators-complete}
@@ -115,9 +115,9 @@ module _ {s : List ℕ} {n at next : ℕ} (k : Kinded s 2 n at) {opening : Openi
   unfolding count textsOf namesOf
   responded {aim = aim} {obj} counted stand are pointed followed texts names =
       built k _ _ (Msg.response _ (h .initiator .content) _ aim obj) (counted ∙ omega arith)
-      (join (h .session .stands) (join (h .initiator .stands) (join (h .ttl .stands) stand)))
+      (join (h .session .is .stands) (join (h .initiator .is .stands) (join (h .ttl .is .stands) stand)))
       (λ w v. MessageItem.response (Number.number (h .session .low)) (Initiator.initiator (h .initiator .size)) (Number.number (h .ttl .low)) are)
-      (λ full. Describes.response (kind-is k) (number-is-here (h .session)) (initiator-is (h .initiator)) (number-is-here (h .ttl)) pointed (followed full)) texts names
+      (λ full. Describes.response (k .is) (h .session .is) (h .initiator .is) (h .ttl .is) pointed (followed full)) texts names
 
   -- locators, and what follows them
   located-finish : {many p′ left bad end bad′ long : ℕ} {extra : Extra} {xs : Items} {ls : List Loc} → n ≡ 4 + (count xs + left) → many ≡ count xs → (count xs ≡ 0 → ⊥)
@@ -145,7 +145,7 @@ module _ {s : List ℕ} {n at next : ℕ} (k : Kinded s 2 n at) {opening : Openi
   -- locators first
   located-sound : (parts : ℕ) → n ≡ 4 + parts → ShapeOk s (locatedAt s opening parts next)
   unfolding locatedAt
-  located-sound parts counted = located-of-sound counted _ (locators-sound (k .bytes) parts next 0 (stands-within (h .ttl .stands)))
+  located-sound parts counted = located-of-sound counted _ (locators-sound (k .bytes) parts next 0 (stands-within (h .ttl .is .stands)))
 
   -- a divert, and what follows it
   divert-finish : {many from p′ q left bad end bad′ long v : ℕ} {extra : Extra} {xs : Items} {ls : List Loc} → n ≡ 5 + left → many ≡ count xs → (count xs ≡ 0 → ⊥)

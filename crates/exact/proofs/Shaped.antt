@@ -1,6 +1,6 @@
 -- The eleven kinds together: what `examined` answers of bytes that are one item.
 -- Assumes nothing.
-use mathlib.Core.Path.{_≡_, refl, sym, ap, _∙_, subst}
+use mathlib.Core.Path.{_≡_, refl, ap, _∙_, subst}
 use mathlib.Core.Logic.{_⊎_, inl, inr, _≢_}
 use mathlib.Core.List.{List, _++_, append-assoc}
 use mathlib.Core.Bool.{true, false}
@@ -15,7 +15,7 @@ use Rattle.base.proofs.Picks.{pick-case}
 use Rattle.cbor.specs.declared.token.Token.{Token}
 use Rattle.cbor.specs.Item.{mostLevels}
 use Rattle.cbor.specs.Token.{tokenAt, itemsIn}
-use Rattle.cbor.specs.Tree.{Item, Items, Right, headBytes, count, encode, encodes, depth}
+use Rattle.cbor.specs.Tree.{Item, Items, Right, Good, headBytes, count, encode, encodes, depth}
 use Rattle.cbor.proofs.Tokens.{is-array}
 use Rattle.syntax.specs.Message.{Msg}
 use Rattle.grammar.specs.Cddl.{uint, MessageItem, Value}
@@ -34,7 +34,7 @@ use Rattle.exact.specs.Rows.{UnknownKind}
 use Rattle.exact.proofs.Whole.{IfGood, ShapeOk, Reads, Kinded, WholeIs, stands, one-bytes, fills}
 use Rattle.exact.proofs.Heads.{uint-at, uint-passed, array-passed}
 use Rattle.exact.proofs.Plain.{noop-sound, noop-complete, wait-sound, wait-complete, invalid-sound, invalid-complete, invalid-with-complete, end-sound, end-complete}
-use Rattle.exact.proofs.Exchange.{discovery-sound, discovery-complete, request-negotiation-sound, request-synchronization-sound, negotiate-sound, synch-sound, exchange-complete}
+use Rattle.exact.proofs.Exchange.{discovery-sound, discovery-complete, Exchange, exchange-sound, exchange-complete}
 use Rattle.exact.proofs.Response.{response-sound, response-complete}
 use Rattle.exact.proofs.Flood.{flood-sound, flood-complete}
 
@@ -64,63 +64,50 @@ shape-sound {s} {kind} {n} {at} k known =
     of-kind : (kind′ : ℕ) → kind ≡ kind′ → Kinded s kind′ n at
     of-kind kind′ e = subst (λ (v : ℕ). Kinded s v n at) e k
 
-    to : (kind′ : ℕ) → kind ≡ kind′ → ShapeOk s (exchangeAt s kind′ n at) → ShapeOk s (exchangeAt s kind n at)
-    to kind′ e = subst (λ (v : ℕ). ShapeOk s (exchangeAt s v n at)) (sym e)
-
     exchange : 3 ≤ kind → kind ≤ 8 → (6 ≤ kind → 8 ≤ kind) → ShapeOk s (exchangeAt s kind n at)
     exchange lo hi high =
         elim (decLt kind 4) [
-          | yes l ↦ let e : kind ≡ 3 = omega arith in to 3 e (request-negotiation-sound (of-kind 3 e))
+          | yes l ↦ let e : kind ≡ 3 = omega arith in exchange-sound {msg = Msg.request-negotiation} (rw e Exchange.request-negotiation) k
           | no l ↦
               elim (decLt kind 5) [
-                | yes l′ ↦ let e : kind ≡ 4 = omega arith in to 4 e (request-synchronization-sound (of-kind 4 e))
+                | yes l′ ↦ let e : kind ≡ 4 = omega arith in exchange-sound {msg = Msg.request-synchronization} (rw e Exchange.request-synchronization) k
                 | no l′ ↦
                     elim (decLt kind 6) [
-                      | yes l″ ↦ let e : kind ≡ 5 = omega arith in to 5 e (negotiate-sound (of-kind 5 e))
-                      | no l″ ↦ let e : kind ≡ 8 = omega (arith, high (omega arith)) in to 8 e (synch-sound (of-kind 8 e))
+                      | yes l″ ↦ let e : kind ≡ 5 = omega arith in exchange-sound {msg = Msg.negotiate} (rw e Exchange.negotiate) k
+                      | no l″ ↦ let e : kind ≡ 8 = omega (arith, high (omega arith)) in exchange-sound {msg = Msg.synch} (rw e Exchange.synch) k
                     ]
               ]
         ]
 
 -- ---- which items a kind can lead
--- an array
-data IsArray : Item → Type 0 where
-  array : {w : ℕ} {xs : Items} → IsArray (Item.array w xs)
+-- an item by its head's major type
+data Headed : ℕ → Item → Type 0 where
+  unsigned : {w n : ℕ} → Headed 0 (uint w n)
+  negative : {w n : ℕ} → Headed 1 (Item.number true w n)
+  bytes : {w : ℕ} {bs : List ℕ} → Headed 2 (Item.string false w bs)
+  text : {w : ℕ} {bs : List ℕ} → Headed 3 (Item.string true w bs)
+  array : {w : ℕ} {xs : Items} → Headed 4 (Item.array w xs)
+  map : {w : ℕ} {xs : Items} → Headed 5 (Item.map w xs)
+  tagged : {w n : ℕ} {x : Item} → Headed 6 (Item.tagged w n x)
+  simple : {w n : ℕ} → Headed 7 (Item.simple w n)
 
--- what holds of arrays
-array-case : (P : Item → Type 0) {x : Item} → ((w : ℕ) (xs : Items) → P (Item.array w xs)) → IsArray x → P x
-array-case P f (IsArray.array {w} {xs}) = f w xs
+-- an item that stands where a token is read has its major type
+headed : {s : List ℕ} {p e : ℕ} (k : ℕ) (x : Item) → Stands s p e x → tokenAt s p .major ≡ k → k < 8 → Headed k x
+unfolding encode
+headed {s} {p} {e} k x a same low = by x (a .good) (a .is)
+  where
+    of : {m w n : ℕ} (r : List ℕ) → Right m w n → drop p s ≡ headBytes m w n ++ r → m ≡ k
+    of r right is = headed-major s p _ _ _ r right is (omega arith) ∙ same
 
--- where a token of a major type is read, an item of no other major type stands
-module _ (s : List ℕ) (p e : ℕ) where
-  other : {A : Type 0} {m w n : ℕ} (k : ℕ) → tokenAt s p .major ≡ k → k < 8 → m ≢ k → Right m w n → (r : List ℕ) → drop p s ≡ headBytes m w n ++ r → A
-  other k same low ne right r is = absurd (ne (headed-major s p _ _ _ r right is (omega arith) ∙ same))
-
-  -- of an array's, an array
-  array-there : (x : Item) → Stands s p e x → tokenAt s p .major ≡ 4 → IsArray x
-  unfolding encode
-  array-there (Item.number true w n) a four = other 4 four (lit< tt) (λ z. omega arith) (a .good) _ (a .is)
-  array-there (Item.number false w n) a four = other 4 four (lit< tt) (λ z. omega arith) (a .good) _ (a .is)
-  array-there (Item.string true w bs) a four = other 4 four (lit< tt) (λ z. omega arith) (a .good .0) _ (a .is ∙ append-assoc (headBytes 3 w (length bs)) bs (drop e s))
-  array-there (Item.string false w bs) a four = other 4 four (lit< tt) (λ z. omega arith) (a .good .0) _ (a .is ∙ append-assoc (headBytes 2 w (length bs)) bs (drop e s))
-  array-there (Item.array w xs) a four = IsArray.array
-  array-there (Item.map w xs) a four = other 4 four (lit< tt) (λ z. omega arith) (a .good .0) _ (a .is ∙ append-assoc (headBytes 5 w (count xs / 2)) (encodes xs) (drop e s))
-  array-there (Item.tagged w n x) a four = other 4 four (lit< tt) (λ z. omega arith) (a .good .0) _ (a .is ∙ append-assoc (headBytes 6 w n) (encode x) (drop e s))
-  array-there (Item.simple w n) a four = other 4 four (lit< tt) (λ z. omega arith) (a .good) _ (a .is)
-
-  -- and of an unsigned number's that is no kind, one that no known kind has first
-  lead-there : (x : Item) {v : ℕ} {xs : Items} → Stands s p e x → tokenAt s p .major ≡ 0 → 9 < tokenAt s p .arg → tokenAt s p .arg ≢ 99 → UnknownKind (Item.array v (Items.more x xs))
-  unfolding encode
-  lead-there (Item.number true w n) a none high ne = other 0 none (lit< tt) (λ z. omega arith) (a .good) _ (a .is)
-  lead-there (Item.number false w n) a none high ne =
-      let same : tokenAt s p .arg ≡ n = ap (λ (t : Token). t .arg) (number-token a) in
-      UnknownKind.unknown {n = n} (omega arith) (λ z. ne (same ∙ z))
-  lead-there (Item.string true w bs) a none high ne = other 0 none (lit< tt) (λ z. omega arith) (a .good .0) _ (a .is ∙ append-assoc (headBytes 3 w (length bs)) bs (drop e s))
-  lead-there (Item.string false w bs) a none high ne = other 0 none (lit< tt) (λ z. omega arith) (a .good .0) _ (a .is ∙ append-assoc (headBytes 2 w (length bs)) bs (drop e s))
-  lead-there (Item.array w xs) a none high ne = other 0 none (lit< tt) (λ z. omega arith) (a .good .0) _ (a .is ∙ append-assoc (headBytes 4 w (count xs)) (encodes xs) (drop e s))
-  lead-there (Item.map w xs) a none high ne = other 0 none (lit< tt) (λ z. omega arith) (a .good .0) _ (a .is ∙ append-assoc (headBytes 5 w (count xs / 2)) (encodes xs) (drop e s))
-  lead-there (Item.tagged w n x) a none high ne = other 0 none (lit< tt) (λ z. omega arith) (a .good .0) _ (a .is ∙ append-assoc (headBytes 6 w n) (encode x) (drop e s))
-  lead-there (Item.simple w n) a none high ne = other 0 none (lit< tt) (λ z. omega arith) (a .good) _ (a .is)
+    by : (x : Item) → Good x → drop p s ≡ encode x ++ drop e s → Headed k x
+    by (Item.number true w n) g is = rw (← of _ g is) Headed.negative
+    by (Item.number false w n) g is = rw (← of _ g is) Headed.unsigned
+    by (Item.string true w bs) g is = rw (← of _ (g .0) (is ∙ append-assoc (headBytes 3 w (length bs)) bs (drop e s))) Headed.text
+    by (Item.string false w bs) g is = rw (← of _ (g .0) (is ∙ append-assoc (headBytes 2 w (length bs)) bs (drop e s))) Headed.bytes
+    by (Item.array w xs) g is = rw (← of _ (g .0) (is ∙ append-assoc (headBytes 4 w (count xs)) (encodes xs) (drop e s))) Headed.array
+    by (Item.map w xs) g is = rw (← of _ (g .0) (is ∙ append-assoc (headBytes 5 w (count xs / 2)) (encodes xs) (drop e s))) Headed.map
+    by (Item.tagged w n x) g is = rw (← of _ (g .0) (is ∙ append-assoc (headBytes 6 w n) (encode x) (drop e s))) Headed.tagged
+    by (Item.simple w n) g is = rw (← of _ g is) Headed.simple
 
 -- an array with items, led by an unsigned number that is no kind, as its heads say
 record UnknownLead (s : List ℕ) : Type 0 where
@@ -129,18 +116,17 @@ record UnknownLead (s : List ℕ) : Type 0 where
   high : 9 < tokenAt s (tokenAt s 0 .next) .arg
   other : tokenAt s (tokenAt s 0 .next) .arg ≢ 99
 
--- and where an array stands that is so led, it is of no known kind
-unknown-array : {s : List ℕ} {e w : ℕ} (xs : Items) → Stands s 0 e (Item.array w xs) → UnknownLead s → UnknownKind (Item.array w xs)
-unfolding count itemsIn pick
-unknown-array Items.done a u =
-    let t = array-passed (last a) in
-    absurd (u .filled (rw (t .major, t .arg)))
-unknown-array {s} (Items.more y ys) a u = lead-there s _ _ y (split (array-passed (last a) .items) .first) (u .number) (u .high) (u .other)
-
 -- an item that is so led is of no known kind
 unknown-there : {s : List ℕ} {e : ℕ} {x : Item} → Stands s 0 e x → UnknownLead s → UnknownKind x
-unknown-there {s} {e} {x} stands u =
-    array-case (λ (x : Item). Stands s 0 e x → UnknownKind x) (λ w xs a. unknown-array xs a u) (array-there s 0 e x stands (is-array (tokenAt s 0) (u .filled))) stands
+unfolding count itemsIn pick
+unknown-there {s} {e} {x} a u = array-led (headed 4 x a (is-array (tokenAt s 0) (u .filled)) (lit< tt)) a
+  where
+    lead : {w : ℕ} {y : Item} {ys : Items} {q : ℕ} → Headed 0 y → Stands s (tokenAt s 0 .next) q y → UnknownKind (Item.array w (Items.more y ys))
+    lead (Headed.unsigned {n = n}) a = let arg = ap (λ (t : Token). t .arg) (number-token a) in UnknownKind.unknown {n = n} (rw (← arg) (u .high)) (rw (← arg) (u .other))
+
+    array-led : {x : Item} → Headed 4 x → Stands s 0 e x → UnknownKind x
+    array-led (Headed.array {xs = Items.done}) a = let t = array-passed (last a) in absurd (u .filled (rw (t .major, t .arg)))
+    array-led (Headed.array {xs = Items.more y ys}) a = let c = split (array-passed (last a) .items) in lead (headed 0 y (c .first) (u .number) (lit< tt)) (c .first)
 
 -- ---- the answers
 module _ {s : List ℕ} (one : OneItem s) where
@@ -151,7 +137,7 @@ module _ {s : List ℕ} (one : OneItem s) where
       let four = is-array (tokenAt s 0) filled in
       let h = token-heading s 0 (tokenAt s 0) (one-bytes one) refl (omega arith) in
       let i = uint-at (one-bytes one) number in
-      record { bytes = one-bytes one; from = tokenAt s 0 .next; width = i .width; opened = array-head h four; lead = i .stands }
+      record { bytes = one-bytes one; is = record { many = _; from = _; width = i .width; opened = array-head h four; stands = i .stands }; many = refl }
 
   -- an item of an unknown kind, a departure, or a message that is described
   pub examined-case : (P : Examined → Type 0) → ((place : ℕ) → UnknownKind (one .item) → P (E.Refused 8 place)) → ((place : ℕ) → P (E.Refused 9 place))

@@ -16,7 +16,7 @@ use Rattle.cbor.proofs.Unique.{unique}
 use Rattle.syntax.specs.Message.{Msg}
 use Rattle.grammar.specs.Cddl.{uint, MessageItem, Value}
 use Rattle.grammar.specs.Limits.{TextsGood, NamesGood}
-use Rattle.grammar.specs.Stands.{Stands, StandAll, ArrayHead}
+use Rattle.grammar.specs.Stands.{Stands, StandAll}
 use Rattle.grammar.proofs.Bridge.{join, stands-whole}
 use Rattle.grammar.proofs.Pieces.{head-array}
 use Rattle.message.specs.declared.Message.{Message}
@@ -72,27 +72,22 @@ skipped x e r = rw e r
 -- s begins with the head of an array of n items, the first of them a kind; the next stands at `at`
 pub record Kinded (s : List ℕ) (kind n at : ℕ) : Type 0 where
   pub bytes : Bytes s
-  pub from : ℕ
-  pub width : ℕ
-  pub opened : ArrayHead s 0 from n
-  pub lead : Stands s from at (uint width kind)
-
--- what stands up to the kind
-pub kind-is : {s : List ℕ} {kind n at : ℕ} → Kinded s kind n at → KindIs s kind at
-kind-is {n = n} k = record { many = n; from = k .from; width = k .width; opened = k .opened; stands = k .lead }
+  pub is : KindIs s kind at
+  pub many : is .many ≡ n
 
 -- items that stand after the kind are the rest of the message
 pub built : {s : List ℕ} {kind n at : ℕ} {m : Message} {bad long : ℕ} → Kinded s kind n at → (e : ℕ) (xs : Items) (msg : Msg Value)
     → n ≡ suc (count xs) → StandAll s at e xs → ((w v : ℕ) → MessageItem (Item.array w (Items.more (uint v kind) xs)) msg)
     → (e ≡ length s → Describes s m msg) → bad ≡ 0 ↔ TextsGood msg → long ≡ 0 ↔ NamesGood msg → ShapeOk s (S.Good m e bad long)
 unfolding count
-built {s} {kind} {n} {at} k e xs msg counted stand is describes texts names =
+built {kind = kind} k e xs msg counted stand is describes texts names =
+    let i = k .is in
     IfGood.good
     (record {
-      item = Item.array (k .opened .width) (Items.more (uint (k .width) kind) xs);
+      item = Item.array (i .opened .width) (Items.more (uint (i .width) kind) xs);
       msg = msg;
-      stands = head-array (k .opened) counted (join (k .lead) stand);
-      is = is (k .opened .width) (k .width);
+      stands = head-array (i .opened) (k .many ∙ counted) (join (i .stands) stand);
+      is = is (i .opened .width) (i .width);
       describes = describes;
       texts = texts;
       names = names;

@@ -10,7 +10,7 @@ use Rattle.options.specs.declared.objective.Objective.{Objective}
 use Rattle.options.specs.declared.pair.Pair as P
 use Rattle.syntax.specs.Message.{Loc, Obj, Pair, Aim, Ending, Msg}
 use Rattle.grammar.specs.Cddl.{uint, bytes, LocatorItems, PairItems, Value}
-use Rattle.grammar.specs.Stands.{Stands, StandAll, ArrayHead, Before, TagIs, ValueIs, ObjectiveIs}
+use Rattle.grammar.specs.Stands.{Stands, StandAll, ArrayHead, Before, ValueIs, ObjectiveIs, PairIs}
 use Rattle.message.specs.declared.Series.{Series}
 use Rattle.message.specs.declared.Targets.{Targets}
 use Rattle.message.specs.declared.Extra.{Extra}
@@ -80,9 +80,9 @@ pub data Describes (s : List ℕ) : Message → Msg Value → Type 0 where
   wait : {session time : ℕ} → Describes s (M.Wait session time) (Msg.wait session time)
   synch : {session p q : ℕ} {o : Objective} {obj : Obj Value} → KindIs s 8 p → NumberIs s p q session → ObjectiveIs s q (length s) o obj
       → Describes s (M.Synch session o) (Msg.synch session obj)
-  flood : {session ttl p q r a e : ℕ} {i : Span} {from : List ℕ} {first : P.Pair} {obj : Obj Value} {loc : Option Loc} {series : Series} {ps : List (Pair Value)}
+  flood : {session ttl p q r : ℕ} {i : Span} {from : List ℕ} {first : P.Pair} {series : Series} {pair : Pair Value} {ps : List (Pair Value)}
       → KindIs s 9 p → NumberIs s p q session → InitiatorIs s q r i from → NumberIs s r (series .at) ttl
-      → SeriesIs s series (length s) (λ xs. PairItems xs ((obj, loc) ∷ ps)) → ArrayHead s (series .at) a 2 → ObjectiveIs s a e (first .objective) obj → TagIs s e (first .tag) loc
-      → Describes s (M.Flood session i ttl first series) (Msg.flood session from ttl ((obj, loc) ∷ ps))
+      → SeriesIs s series (length s) (λ xs. PairItems xs (pair ∷ ps)) → PairIs s (series .at) (first .objective) (first .tag) pair
+      → Describes s (M.Flood session i ttl first series) (Msg.flood session from ttl (pair ∷ ps))
   invalid : {session p : ℕ} {span : Span} {item : Value} → KindIs s 99 p → NumberIs s p (span .at) session → ValueIs s span item
       → span .at + span .len ≡ length s → Describes s (M.Invalid session span) (Msg.invalid session item)

@@ -29,7 +29,7 @@ pub data Row (s : List ℕ) : ℕ → Type 0 where
   -- 2 to 6: the first head at fault (`Fault` of `cbor` says what is wrong for which number)
   head : {number place : ℕ} → Fits s → FirstFault mostLevels s number place → Row s number
   -- bytes after the item
-  more : {e : ℕ} → Fits s → ItemIs mostLevels s e → e < length s → Row s 7
+  more : {e : ℕ} → length s ≤ mostBytes → ItemIs mostLevels s e → e < length s → Row s 7
   -- one item of no known kind
   kind : (one : OneItem s) → UnknownKind (one .item) → Row s 8
   -- one item that is no message for another reason

@@ -127,7 +127,7 @@ pub lift-first : {m : List ℕ} {base e : ℕ} {x : Item} → Stands (drop base 
 lift-first {m} {base} {e} {x} a = subst (λ (k : ℕ). Stands m k (base + e) x) (add-zero base) (lift base a)
 
 -- and back: between two places, of a size, and what the part begins with
-pub sink : (m : List ℕ) (base p e : ℕ) {x : Item} → Stands m (base + p) (base + e) x → Stands (drop base m) p e x
+sink : (m : List ℕ) (base p e : ℕ) {x : Item} → Stands m (base + p) (base + e) x → Stands (drop base m) p e x
 sink m base p e {x} a =
     record {
       good = a .good;

@@ -7,8 +7,7 @@ use mathlib.Core.Bool.{Bool, true, false, cond, _&&_}
 use mathlib.Core.Option.{Option}
 use Prim.Native.Nat.{ℕ, _+_, _-_, _^_, _≤_, _<_}
 use native.Mathlib.Omega.{arith}
-use lib.ListN.{length, take, drop, length-take}
-use lib.Seq.{take-all, take-take}
+use lib.ListN.{length}
 use lib.Dec.{leb, eqb, lit≤}
 use borrow.Author.Tests.{le-leb, leb-true, eqb-true, eqb-false, eq-eqb, ne-eqb}
 use Rattle.base.specs.Pick.{pick}
@@ -21,11 +20,11 @@ use Rattle.cbor.specs.Tree.{Item}
 use Rattle.cbor.specs.Token.{tokenAt}
 use Rattle.cbor.proofs.Tokens.{token-is}
 use Rattle.options.specs.Text.{spanOf, badText}
-use Rattle.options.specs.Locator.{isNull, addressFits, protocolOf, portOf, locatorOf, textOf}
+use Rattle.options.specs.Locator.{isNull, addressFits, nullProtocol, nullPort, protocolOf, portOf, locatorOf, textOf}
 use Rattle.syntax.specs.Message.{Loc, orNull}
 use Rattle.grammar.specs.Cddl.{uint, null, array, Protocol, Port, OrNull, LocatorItem}
 use Rattle.grammar.specs.Limits.{Utf8, locTexts}
-use Rattle.grammar.specs.Stands.{Stands, locOf, Addressed}
+use Rattle.grammar.specs.Stands.{Stands, Addressed}
 use Rattle.grammar.proofs.Bridge.{Heading, token-heading, small-heading, number-token, null-token}
 use Rattle.grammar.proofs.Pieces.{Is, number-at, null-at}
 use Rattle.grammar.proofs.Texts.{bad-text}
@@ -74,44 +73,42 @@ unfolding orNull pick
 uri-port {n = n} (OfKind.given (Port.port h)) = rw (ne-eqb n 65536 (omega arith)) (OrNull.is (Port.port h))
 uri-port (OfKind.missing e) = OrNull.is-null
 
-one-text : (text : List ℕ) (place : ℕ) {a : List ℕ} → text ≡ a → (place ≡ 0 → ⊥) → badText text place ≡ 0 ↔ Every Utf8 (a ∷ [])
-one-text text place same far =
-    let (there, back) = bad-text text place far in
-    (λ z. (rw (← same) (there z), tt), λ h. back (rw same (h .0)))
+-- the locator with such an address, protocol and port
+unfoldable pub locWith : {kind : ℕ} {t : Bool} {a : List ℕ} → Address kind t a → ℕ → ℕ → Loc
+locWith (Address.v6 {a} long) pn qn = Loc.v6 a pn qn
+locWith (Address.v4 {a} long) pn qn = Loc.v4 a pn qn
+locWith (Address.domain {a}) pn qn = Loc.domain a pn qn
+locWith (Address.uri {a}) pn qn = Loc.uri a (orNull nullProtocol pn) (orNull nullPort qn)
 
--- the first elements of a list, of which there are n, are its first n
-front : (l : List ℕ) (len n : ℕ) {a : List ℕ} → take len l ≡ a → length a ≡ n → take n l ≡ a
-front l len n {a} is long =
-    let most : n ≤ len = omega (arith, ap length is, length-take len l) in
-    sym (take-take n len l most) ∙ ap (take n) is ∙ take-all n a (omega arith)
+-- its item
+pub shape-item : {w k u kind pn qn : ℕ} {t : Bool} {a : List ℕ} {x y : Item} (address : Address kind t a) → OfKind Protocol 0 kind x pn → OfKind Port 65536 kind y qn
+    → LocatorItem (array w (uint k kind ∷ Item.string t u a ∷ x ∷ y ∷ [])) (locWith address pn qn)
+unfolding locWith
+shape-item (Address.v6 long) i j = LocatorItem.v6 long (plain (λ e. omega arith) i) (plain (λ e. omega arith) j)
+shape-item (Address.v4 long) i j = LocatorItem.v4 long (plain (λ e. omega arith) i) (plain (λ e. omega arith) j)
+shape-item Address.domain i j = LocatorItem.domain (plain (λ e. omega arith) i) (plain (λ e. omega arith) j)
+shape-item Address.uri i j = LocatorItem.uri (uri-protocol i) (uri-port j)
 
--- the answer with such an address, whose bytes stand at `at` of the message
-pub shape-item : (m : List ℕ) (at len : ℕ) {w k u kind pn qn : ℕ} {t : Bool} {a : List ℕ} {x y : Item} → take len (drop at m) ≡ a → Address kind t a
-    → OfKind Protocol 0 kind x pn → OfKind Port 65536 kind y qn
-    → LocatorItem (array w (uint k kind ∷ Item.string t u a ∷ x ∷ y ∷ [])) (locOf m (locatorOf kind at len pn qn))
-unfolding locOf locatorOf pick
-shape-item m at len content (Address.v6 long) i j = rw (front (drop at m) len 16 content long) (LocatorItem.v6 long (plain (λ e. omega arith) i) (plain (λ e. omega arith) j))
-shape-item m at len content (Address.v4 long) i j = rw (front (drop at m) len 4 content long) (LocatorItem.v4 long (plain (λ e. omega arith) i) (plain (λ e. omega arith) j))
-shape-item m at len content Address.domain i j = rw content (LocatorItem.domain (plain (λ e. omega arith) i) (plain (λ e. omega arith) j))
-shape-item m at len content Address.uri i j = rw content (LocatorItem.uri (uri-protocol i) (uri-port j))
-
--- its numbers, and its place right before p
-pub shape-addressed : (m : List ℕ) (at len p pn qn : ℕ) {k u kind : ℕ} {t : Bool} {a : List ℕ} → take len (drop at m) ≡ a → at ≡ p - length a → len ≡ length a → Address kind t a
-    → Addressed p (uint k kind) (Item.string t u a) (locatorOf kind at len pn qn) (locOf m (locatorOf kind at len pn qn))
-unfolding locOf locatorOf pick
-shape-addressed m at len p pn qn content place size (Address.v6 long) = rw (front (drop at m) len 16 content long) (Addressed.v6 (ap₂ spanOf place (sym long)))
-shape-addressed m at len p pn qn content place size (Address.v4 long) = rw (front (drop at m) len 4 content long) (Addressed.v4 (ap₂ spanOf place (sym long)))
-shape-addressed m at len p pn qn content place size Address.domain = rw content (Addressed.domain (ap₂ spanOf place size))
-shape-addressed m at len p pn qn content place size Address.uri = rw content (Addressed.uri (ap₂ spanOf place size) refl refl)
+-- the answer with such an address, which stands at `at`, right before p
+pub shape-addressed : (at len p pn qn : ℕ) {k u kind : ℕ} {t : Bool} {a : List ℕ} → at ≡ p - length a → len ≡ length a → (address : Address kind t a)
+    → Addressed p (uint k kind) (Item.string t u a) (locatorOf kind at len pn qn) (locWith address pn qn)
+unfolding locWith locatorOf pick
+shape-addressed at len p pn qn place size (Address.v6 long) = Addressed.v6 (ap₂ spanOf place (sym long))
+shape-addressed at len p pn qn place size (Address.v4 long) = Addressed.v4 (ap₂ spanOf place (sym long))
+shape-addressed at len p pn qn place size Address.domain = Addressed.domain (ap₂ spanOf place size)
+shape-addressed at len p pn qn place size Address.uri = Addressed.uri (ap₂ spanOf place size) refl refl
 
 -- its bad text, which an address of bytes never is
-pub shape-texts : (m : List ℕ) (at len pn qn : ℕ) (text : List ℕ) (place : ℕ) {kind : ℕ} {t : Bool} → text ≡ take len (drop at m) → (place ≡ 0 → ⊥)
-    → Address kind t text → textOf kind text place ≡ 0 ↔ Every Utf8 (locTexts (locOf m (locatorOf kind at len pn qn)))
-unfolding locTexts locOf locatorOf textOf pick
-shape-texts m at len pn qn text place same far (Address.v6 long) = (λ _. tt, λ _. refl)
-shape-texts m at len pn qn text place same far (Address.v4 long) = (λ _. tt, λ _. refl)
-shape-texts m at len pn qn text place same far Address.domain = one-text text place same far
-shape-texts m at len pn qn text place same far Address.uri = one-text text place same far
+one-text : (text : List ℕ) (place : ℕ) → (place ≡ 0 → ⊥) → badText text place ≡ 0 ↔ Every Utf8 (text ∷ [])
+one-text text place far = let (there, back) = bad-text text place far in (λ z. (there z, tt), λ h. back (h .0))
+
+pub shape-texts : (pn qn place : ℕ) {kind : ℕ} {t : Bool} {text : List ℕ} → (place ≡ 0 → ⊥) → (address : Address kind t text)
+    → textOf kind text place ≡ 0 ↔ Every Utf8 (locTexts (locWith address pn qn))
+unfolding locTexts locWith textOf pick
+shape-texts pn qn place far (Address.v6 long) = (λ _. tt, λ _. refl)
+shape-texts pn qn place far (Address.v4 long) = (λ _. tt, λ _. refl)
+shape-texts pn qn place {text = text} far Address.domain = one-text text place far
+shape-texts pn qn place {text = text} far Address.uri = one-text text place far
 
 -- ---- what was read stands there
 -- a protocol or port stands from p to e

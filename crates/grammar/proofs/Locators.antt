@@ -1,15 +1,14 @@
 -- A locator that is read stands in the message as an item that the CDDL calls this locator (`locator-sound`), and every such item is read, wherever it
 -- stands, and as this locator (`locator-read`): it is read exactly there (`locator-exactly`).
 -- Assumes nothing.
-use mathlib.Core.Path.{_≡_, refl, sym, ap, _∙_, subst}
+use mathlib.Core.Path.{_≡_, refl, sym, ap, subst}
 use mathlib.Core.Logic.{_↔_}
 use mathlib.Core.List.{List}
-use mathlib.Core.Bool.{true, cond}
+use mathlib.Core.Bool.{Bool, true, cond}
 use Prim.Native.Nat.{ℕ, _+_, _-_, _≤_}
 use native.Mathlib.Nat.{add-sub-cancel-left}
 use native.Mathlib.Omega.{arith}
-use lib.ListN.{length, take, drop}
-use lib.Seq.{drop-drop}
+use lib.ListN.{length, drop}
 use lib.Dec.{ltb, eqb}
 use borrow.Author.Tests.{le-ltb, ltb-false, eqb-true, eqb-false, eq-eqb, ne-eqb}
 use Rattle.base.specs.Pick.{pick}
@@ -25,12 +24,28 @@ use Rattle.options.specs.declared.locator.LocatorRead.{LocatorRead}
 use Rattle.options.specs.Text.{contentIn}
 use Rattle.options.specs.Locator.{addressFits, protocolOf, portOf, locatorOf, textOf, locatorIn, locatorReached, locatorAt}
 use Rattle.syntax.specs.Message.{Loc}
-use Rattle.grammar.specs.Cddl.{LocatorItem}
-use Rattle.grammar.specs.Stands.{Stands, ArrayHead, locOf, LocatorStands}
+use Rattle.grammar.specs.Cddl.{uint, LocatorItem}
+use Rattle.grammar.specs.Stands.{Stands, ArrayHead, LocatorIs, LocatorStands}
 use Rattle.grammar.proofs.Bridge.{split, join, last, only, lift, lift-first, sink-first, advances, string-major, token-heading, number-token, text-token, array-token}
-use Rattle.grammar.proofs.Pieces.{array-items, number-is, number-here, content-bytes, text-size, text-at, array-head, array-at, lift-head, content-there}
+use Rattle.grammar.proofs.Pieces.{array-items, number-is, number-here, content-bytes, text-size, text-at, array-head, array-at, lift-head}
 use Rattle.grammar.proofs.One.{locator-one}
-use Rattle.grammar.proofs.LocatorParts.{AddressIs, Shape, shape-of, shape-item, shape-addressed, shape-texts, protocol-here, port-here, address-here, protocol-reads, port-reads, address-reads}
+use Rattle.grammar.proofs.LocatorParts.{Address, AddressIs, Shape, shape-of, locWith, shape-item, shape-addressed, shape-texts, protocol-here, port-here, address-here, protocol-reads, port-reads, address-reads}
+
+-- the locator that an answer describes, by what stands in the part of the message that begins with it
+located : {m : List ℕ} {base q r e : ℕ} (body : ℕ) {k u kind : ℕ} {t : Bool} {a : List ℕ} (pn qn : ℕ) (address : Address kind t a) → ArrayHead (drop base m) 0 q 4 → Stands (drop base m) q r (uint k kind)
+    → Stands (drop base m) r e (Item.string t u a) → e ≡ body + length a → LocatorIs m base (locatorOf kind (base + body) (e - body) pn qn) (locWith address pn qn)
+located {base = base} {q} {r} {e} body pn qn address opened lead string end =
+    record {
+      kind-at = base + q;
+      address-at = base + r;
+      protocol-at = base + e;
+      kind = _;
+      address = _;
+      opened = lift-head opened;
+      kind-item = lift base lead;
+      address-item = lift base string;
+      is = shape-addressed (base + body) (e - body) (base + e) pn qn (omega arith) (omega arith) address;
+    }
 
 -- ---- sound
 abbrev Sound : List ℕ → ℕ → LocatorRead → Type 0
@@ -85,32 +100,21 @@ sound m base by =
         let ha = token-heading s 0 a bytes refl (omega arith) in
         let hb = token-heading s (k .next) b bytes refl (omega (arith, fits .major, string-major (fits .text))) in
         let (string, long) = text-at hb (fits .text) (fits .major) (content-bytes s b bytes) in
-        let size : b .next - b .body ≡ length (contentIn s b) = text-size hb (fits .text) (fits .major) ∙ sym long in
         let protocol = protocol-here s (b .next) p refl kind some-protocol in
         let port = port-here s (p .next) q refl bytes kind some-port in
         let address = fits .is (contentIn s b) long in
         let (_, hi, _) = address-reads address b (fits .major) (sym long) in
         let lead = number-here 106 k bytes refl hi in
-        let content : take (b .next - b .body) (drop (base + b .body) m) ≡ contentIn s b = sym (ap (take (b .next - b .body)) (drop-drop (b .body) base m)) in
         let far : base + b .at ≡ 0 → ⊥ = (λ z. omega (arith, token-is s (k .next) b refl .here, advances (lead .stands))) in
         record {
           item = _;
           loc = _;
           stands = lift-first (array-at ha array four (join (lead .stands) (join (string .stands) (join (protocol .stands) (last (port .stands))))));
-          is = shape-item m (base + b .body) (b .next - b .body) content address (protocol .is) (port .is);
+          is = shape-item address (protocol .is) (port .is);
           described =
-              record {
-                kind-at = base + a .next;
-                address-at = base + k .next;
-                protocol-at = base + b .next;
-                kind = _;
-                address = _;
-                opened = subst (ArrayHead m base (base + a .next)) four (lift-head (array-head ha array));
-                kind-item = lift base (lead .stands);
-                address-item = lift base (string .stands);
-                is = shape-addressed m (base + b .body) (b .next - b .body) (base + b .next) (protocolOf kind p) (portOf kind q) content (omega (arith, token-is s (k .next) b refl .start)) size address;
-              };
-          texts = shape-texts m (base + b .body) (b .next - b .body) (protocolOf kind p) (portOf kind q) (contentIn s b) (base + b .at) (sym content) far address;
+              located (b .body) (protocolOf kind p) (portOf kind q) address (subst (ArrayHead s 0 (a .next)) four (array-head ha array)) (lead .stands) (string .stands)
+              (omega (arith, text-size hb (fits .text) (fits .major), long, token-is s (k .next) b refl .start));
+          texts = shape-texts (protocolOf kind p) (portOf kind q) (base + b .at) far address;
         }
 
 -- what is read stands there
@@ -129,7 +133,7 @@ accept base s a k b p q kind pn qn ea ek eb ep eq e₁ e₂ e₃ t₁ t₂ t₃ 
     rw (← ea, ← ek, ← eb, ← ep, ← eq, e₁, e₂, e₃, ne-eqb _ _ t₁, le-ltb _ _ t₂, le-ltb _ _ t₃, eq-eqb _ _ t₄, t₅, ne-eqb _ _ t₆, ne-eqb _ _ t₇)
 
 reads : {m : List ℕ} {base e : ℕ} {x : Item} → Stands m base e x → Shape x
-    → (l : Locator) × (bad : ℕ) × (locatorAt m base ≡ LocatorRead.Got l (e - base) bad) × LocatorItem x (locOf m l)
+    → (l : Locator) × (bad : ℕ) × (loc : Loc) × (locatorAt m base ≡ LocatorRead.Got l (e - base) bad) × LocatorItem x loc × LocatorIs m base l loc
 unfolding count
 reads {m} {base} {e} st (Shape.shape {kind = kind} {t} {a} {pn = pn} {qn} address protocol port) =
     let s : List ℕ = drop base m in
@@ -144,18 +148,21 @@ reads {m} {base} {e} st (Shape.shape {kind = kind} {t} {a} {pn = pn} {qn} addres
     let ((is-port, q-next), some-port) = port-reads port (only (c₃ .rest)) in
     let read =
     accept base s _ _ b (tokenAt s (c₂ .mid)) (tokenAt s (c₃ .mid)) kind pn qn (sym (top .token)) (sym (number-token (c₁ .first))) (sym (string .token)) refl
-    (ap (tokenAt s) (sym p-next)) (number-is 106 _ refl hi) is-protocol is-port (array-items _ 3 refl refl) lo hi refl fits some-protocol some-port in
-    let (_, _, content) = content-there m base (string .body) (c₂ .mid) a (string .end) (string .content) in (
+    (ap (tokenAt s) (sym p-next)) (number-is 106 _ refl hi) is-protocol is-port (array-items _ 3 refl refl) lo hi refl fits some-protocol some-port in (
       locatorOf kind (base + b .body) (b .next - b .body) pn qn,
       textOf kind (contentIn s b) (base + b .at),
+      locWith address pn qn,
       rw q-next at read,
-      shape-item m (base + b .body) (b .next - b .body) content address protocol port,
+      shape-item address protocol port,
+      located (b .body) pn qn address (top .head) (c₁ .first) (c₂ .first) (string .end),
     )
 
 -- an item that is a locator is read, and as the locator that it is
 pub locator-read : {m : List ℕ} {base e : ℕ} {x : Item} {loc : Loc} → Stands m base e x → LocatorItem x loc
-    → (l : Locator) × (bad : ℕ) × (locatorAt m base ≡ LocatorRead.Got l (e - base) bad) × (locOf m l ≡ loc)
-locator-read st is = let (l, bad, read, described) = reads st (shape-of is) in (l, bad, read, locator-one described is)
+    → (l : Locator) × (bad : ℕ) × (locatorAt m base ≡ LocatorRead.Got l (e - base) bad) × LocatorIs m base l loc
+locator-read {m} {base} st is =
+    let (l, bad, _, read, i, described) = reads st (shape-of is) in
+    (l, bad, read, subst (LocatorIs m base l) (locator-one i is) described)
 
 -- for readers
 

@@ -29,7 +29,7 @@ use Rattle.syntax.specs.Message.{Obj}
 use Rattle.grammar.specs.Cddl.{uint, text, ObjectiveItem, Value}
 use Rattle.grammar.specs.Stands.{Stands, StandAll, ArrayHead, ValueIs, itemsWith, ObjectiveIs, ObjectiveStands}
 use Rattle.grammar.proofs.Bridge.{split, join, none as no-more, none-end, only, last, stands-once, lift, lift-first, sink-first, advances, token-heading, number-token, text-token, array-token}
-use Rattle.grammar.proofs.Pieces.{array-items, number-is, number-here, text-size, content-bytes, text-at, array-at, array-head, lift-head, content-there}
+use Rattle.grammar.proofs.Pieces.{array-items, number-is, number-here, text-size, content-bytes, text-at, array-at, array-head, lift-head}
 use Rattle.grammar.proofs.Texts.{bad-text, long-name}
 use Rattle.grammar.proofs.Sizes.{sized-item, item-sized}
 
@@ -50,6 +50,30 @@ value-ends base (Items.more x Items.done) counted rest (ValueIs.present there) =
     omega (arith, item .end, there .end, ap (λ (y : Item). length (encode y)) (stands-once (lift base item) there))
 value-ends base (Items.more x (Items.more y xs)) counted rest (ValueIs.present there) = absurd (omega arith)
 
+-- the objective that an answer describes, by what stands in the part of the message that begins with it
+located : (m : List ℕ) (base : ℕ) (n f c : Token) {q u i j flags number len e : ℕ} {name : List ℕ} {v : Value} → ArrayHead (drop base m) 0 q (itemsWith v) → Stands (drop base m) q (n .next) (text u name)
+    → n .next ≡ n .body + length name → Stands (drop base m) (n .next) (c .at) (uint i flags) → upTo 15 f ≡ flags → Stands (drop base m) (c .at) (c .next) (uint j number) → upTo 255 c ≡ number
+    → ValueIs m (spanOf (base + c .next) len) v → e ≡ base + (c .next + len)
+    → ObjectiveIs m base e (objectiveFrom base n (upTo 15 f) c (upTo 255 c) len) (record { name = name; flags = flags; count = number; value = v })
+unfolding objectiveFrom
+located m base n f c {q} {u} {i} {j} opened named end flagged few counted byte value ends =
+    record {
+      name-width = u;
+      flags-width = i;
+      count-width = j;
+      name-at = base + q;
+      flags-at = base + n .next;
+      opened = lift-head opened;
+      name-item = lift base named;
+      name = ap₂ spanOf (omega arith) (omega arith);
+      flags-item = lift base flagged;
+      flags = few;
+      count-item = lift base counted;
+      count = byte;
+      value = value;
+      ends = omega arith;
+    }
+
 -- ---- sound
 -- an item that is an objective: its limits, and how many items it has
 limits : {w u i j flags number : ℕ} {name : List ℕ} {v : Value} {xs : Items}
@@ -64,7 +88,7 @@ Sound levels m base (ObjectiveRead.Bad place) = Unit {0}
 Sound levels m base (ObjectiveRead.Got o size bad long) = ObjectiveStands levels m base (base + size) o bad long
 
 sound : (levels : ℕ) (m : List ℕ) (base : ℕ) → Bytes m → Sound levels m base (objectiveAt levels m base)
-unfolding objectiveIn objectiveNamed objectiveFrom count depth
+unfolding objectiveIn objectiveNamed count depth
 sound levels m base by =
     pick-case P (eqb (itemsIn a) 0) (λ _. tt)
     (λ t₁. pick-case P (eqb (n .major) 3)
@@ -122,7 +146,6 @@ sound levels m base by =
         let ha = token-heading s 0 a bytes refl (omega arith) in
         let hn = token-heading s (a .next) n bytes refl (omega arith) in
         let (name, long) = text-at hn true is-text (content-bytes s n bytes) in
-        let name-size : n .next - n .body ≡ length (contentIn s n) = text-size hn true is-text ∙ sym long in
         let flags = number-here 15 f bytes refl few in
         let number = number-here 255 c bytes refl byte in
         let opened : a .next ≡ 1 + ha .width = ha .leaf (inr (omega arith)) ∙ ha .body ∙ omega arith in
@@ -136,22 +159,9 @@ sound levels m base by =
           shallow = omega arith;
           is = is (ha .width) (name .width) (flags .width) (number .width);
           described =
-              record {
-                name-width = name .width;
-                flags-width = flags .width;
-                count-width = number .width;
-                name-at = base + a .next;
-                flags-at = base + n .next;
-                opened = subst (ArrayHead m base (base + a .next)) (many ∙ counted) (lift-head (array-head ha array));
-                name-item = lift base (name .stands);
-                name = ap₂ spanOf (omega (arith, token-is s (a .next) n refl .start)) name-size;
-                flags-item = subst (λ (k : ℕ). Stands m (base + n .next) (base + k) (uint (flags .width) (upTo 15 f))) at-c (lift base (flags .stands));
-                flags = refl;
-                count-item = subst (λ (k : ℕ). Stands m (base + k) (base + c .next) (uint (number .width) (upTo 255 c))) at-c (lift base (number .stands));
-                count = refl;
-                value = value;
-                ends = omega arith;
-              };
+              located m base n f c (subst (ArrayHead s 0 (a .next)) (many ∙ counted) (array-head ha array)) (name .stands)
+              (omega (arith, text-size hn true is-text, long, token-is s (a .next) n refl .start)) (subst (λ (k : ℕ). Stands s (n .next) k (uint (flags .width) (upTo 15 f))) at-c (flags .stands)) refl
+              (subst (λ (k : ℕ). Stands s k (c .next) (uint (number .width) (upTo 255 c))) at-c (number .stands)) refl value (ap (λ (k : ℕ). base + k) sum);
           texts = bad-text (contentIn s n) (base + n .at) far;
           names = long-name n (base + n .at) (contentIn s n) far long;
         }
@@ -187,8 +197,8 @@ record Begun (levels : ℕ) (m : List ℕ) (base e : ℕ) (name : List ℕ) (fla
 begun : (levels : ℕ) {m : List ℕ} {base e w u i j flags number : ℕ} {name : List ℕ} {rest : Items}
     → Stands m base e (Item.array w (Items.more (text u name) (Items.more (uint i flags) (Items.more (uint j number) rest))))
     → flags ≤ 15 → number ≤ 255 → count rest ≤ 1 → Begun levels m base e name flags number rest
-unfolding count objectiveFrom
-begun levels {m} {base} {e} {u = u} {i} {j} {flags} {number} {name} {rest} st few byte short =
+unfolding count
+begun levels {m} {base} {flags = flags} {number} {name} {rest} st few byte short =
     let s : List ℕ = drop base m in
     let top = array-token (sink-first st) in
     let c₁ = split (top .items) in
@@ -198,7 +208,6 @@ begun levels {m} {base} {e} {u = u} {i} {j} {flags} {number} {name} {rest} st fe
     let n : Token = record { at = top .body; major = 3; arg = length name; body = string .body; next = c₁ .mid } in
     let f : Token = record { at = c₁ .mid; major = 0; arg = flags; body = c₂ .mid; next = c₂ .mid } in
     let c : Token = record { at = c₂ .mid; major = 0; arg = number; body = c₃ .mid; next = c₃ .mid } in
-    let (size, _, _) = content-there m base (string .body) (c₁ .mid) name (string .end) (string .content) in
     record {
       n = n;
       f = f;
@@ -209,22 +218,8 @@ begun levels {m} {base} {e} {u = u} {i} {j} {flags} {number} {name} {rest} st fe
       left = c₃ .rest;
       described =
           λ len v counted value.
-          record {
-            name-width = u;
-            flags-width = i;
-            count-width = j;
-            name-at = base + top .body;
-            flags-at = base + c₁ .mid;
-            opened = subst (ArrayHead m base (base + top .body)) counted (lift-head (top .head));
-            name-item = lift base (c₁ .first);
-            name = ap₂ spanOf (omega (arith, string .end)) size;
-            flags-item = lift base (c₂ .first);
-            flags = number-is 15 f refl few;
-            count-item = lift base (c₃ .first);
-            count = number-is 255 c refl byte;
-            value = value;
-            ends = omega (arith, advances st, value-ends base rest counted (c₃ .rest) value);
-          };
+          located m base n f c (subst (ArrayHead s 0 (top .body)) counted (top .head)) (c₁ .first) (string .end) (c₂ .first) (number-is 15 f refl few) (c₃ .first) (number-is 255 c refl byte) value
+          (omega (arith, advances st, value-ends base rest counted (c₃ .rest) value));
     }
 
 ends-bare : (levels base : ℕ) (s : List ℕ) (n f c : Token) {size : ℕ} → size ≡ c .next → ending levels base s 3 n f c ≡ answer base s n f c 0 size

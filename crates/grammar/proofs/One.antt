@@ -37,7 +37,7 @@ objective-one (ObjectiveItem.bare _ _) (ObjectiveItem.bare _ _) = refl
 objective-one (ObjectiveItem.valued _ _) (ObjectiveItem.valued _ _) = refl
 
 -- one pair
-pub pair-one : {x : Item} {p p′ : Pair Value} → PairItem x p → PairItem x p′ → p ≡ p′
+pair-one : {x : Item} {p p′ : Pair Value} → PairItem x p → PairItem x p′ → p ≡ p′
 pair-one (PairItem.untagged i) (PairItem.untagged i′) = ap (λ (o : Obj Value). (o, none)) (objective-one i i′)
 pair-one (PairItem.tagged i j) (PairItem.tagged i′ j′) = ap₂ (λ (o : Obj Value) (l : Loc). (o, some l)) (objective-one i i′) (locator-one j j′)
 

@@ -37,7 +37,7 @@ use Rattle.options.proofs.Fits.{empty-is}
 use Rattle.syntax.specs.Message.{Loc, Obj, Pair}
 use Rattle.grammar.specs.Cddl.{array, LocatorItem, ObjectiveItem, PairItem, Value}
 use Rattle.grammar.specs.Limits.{Utf8, tagTexts, pairTexts}
-use Rattle.grammar.specs.Stands.{Stands, ArrayHead, tagLoc, LocatorIs, TagIs, ObjectiveIs, ObjectiveStands, PairStands}
+use Rattle.grammar.specs.Stands.{Stands, ArrayHead, LocatorIs, TagIs, PairIs, ObjectiveStands, PairStands}
 use Rattle.grammar.proofs.Bridge.{split, join, none as no-more, none-end, only, last, lift, lift-first, sink-sized, sink-first, advances, Heading, token-heading, array-token}
 use Rattle.grammar.proofs.Pieces.{array-items, array-at, array-head, lift-head}
 use Rattle.grammar.proofs.Texts.{first-zero}
@@ -70,17 +70,20 @@ module _ (m : List ℕ) (base : ℕ) (a : Token) (n : ℕ) where
           stands = lift-first (array-at ha major two (join (sink-sized m base (a .next) n (i .stands)) (last second)));
           shallow = omega (arith, i .shallow);
           is = is (ha .width);
-          at = base + a .next;
-          mid = base + a .next + n;
-          opened = subst (ArrayHead m base (base + a .next)) two (lift-head (array-head ha major));
-          objective = i .described;
-          tag = tag;
+          described =
+              record {
+                at = base + a .next;
+                mid = base + a .next + n;
+                opened = subst (ArrayHead m base (base + a .next)) two (lift-head (array-head ha major));
+                objective = i .described;
+                tag = tag;
+              };
           texts = (λ z. let (x, xs) = texts .0 z in (there x, xs), λ h. texts .1 (back (h .0), h .1));
           names = i .names;
         }
 
     tagged : Bytes m → (r : LocatorRead) → locatorAt m (base + at) ≡ r → Sound m base (pairTagged at o bad long r)
-    unfolding pairTagged tagLoc tagTexts
+    unfolding pairTagged tagTexts
     tagged by (LocatorRead.Bad place) q = tt
     tagged by (LocatorRead.Got l size bad′) q =
         let j = locator-sound m (base + at) l size bad′ by q in
@@ -90,7 +93,7 @@ module _ (m : List ℕ) (base : ℕ) (a : Token) (n : ℕ) where
         (λ z. let (x, y) = there z in (x, j .texts .0 y), λ h. back (h .0, j .texts .1 (h .1)))
 
     tailed : Bytes m → Sound m base (pairTail base s at o bad long)
-    unfolding pairTail tagLoc tagTexts count depth
+    unfolding pairTail tagTexts count depth
     tailed by =
         pick-case (Sound m base) (isEmpty w)
         (λ e. let (four, zero) = empty-is w e in
@@ -153,15 +156,14 @@ unfolding pairTail pairTagged isEmpty pick
 tagged-tail base s at o bad long l n bad′ got e =
     rw (ne-eqb _ _ (λ z. locator-items (base + at) (drop at s) got (sym (token-first s at .arg) ∙ z)), and-false (eqb (tokenAt s at .major) 4), got, e)
 
--- the objective is read, and the second item stands after it
+-- the objective is read, and the second item stands after it: the pair with such a tag
 record Begun (m : List ℕ) (base e : ℕ) (obj : Obj Value) (y : Item) : Type 0 where
-  at : ℕ
   mid : ℕ
   objective : Objective
   bad : ℕ
   long : ℕ
   read : (r : PairRead) → pairTail base (drop base m) mid objective bad long ≡ r → pairAt m base ≡ r
-  described : ObjectiveIs m at (base + mid) objective obj
+  described : {t : Tag} {l : Option Loc} → TagIs m (base + mid) t l → PairIs m base objective t (obj, l)
   second : Stands (drop base m) mid (e - base) y
 
 begun : {m : List ℕ} {base e w : ℕ} {x y : Item} {obj : Obj Value} → Stands m base e (array w (x ∷ y ∷ [])) → depth x ≤ suc (leftUnder 3) → ObjectiveItem x obj → Begun m base e obj y
@@ -174,7 +176,6 @@ begun {m} {base} {e} st d is =
     let size : ℕ = base + c .mid - (base + top .body) in
     let sum : top .body + size ≡ c .mid = omega (arith, advances (c .first)) in
     record {
-      at = base + top .body;
       mid = c .mid;
       objective = o;
       bad = bad;
@@ -182,37 +183,34 @@ begun {m} {base} {e} st d is =
       read =
           λ r tail. accept base s _ r o size bad long (sym (top .token)) (array-items _ 1 refl refl) refl (ap (objectiveIn 3 (base + top .body)) (drop-drop (top .body) base m) ∙ got)
           (ap (λ (k : ℕ). pairTail base s k o bad long) sum ∙ tail);
-      described = described;
+      described = λ tag. record { at = base + top .body; mid = base + c .mid; opened = lift-head (top .head); objective = described; tag = tag };
       second = only (c .rest);
     }
 
 -- a pair is read
 abbrev Read : List ℕ → ℕ → ℕ → Pair Value → Type 0
 Read m base e pair =
-    (o : Objective) × (t : Tag) × (bad : ℕ) × (long : ℕ) × (pairAt m base ≡ PairRead.Got o t (e - base) bad long)
-    × (at : ℕ) × (mid : ℕ) × ObjectiveIs m at mid o (pair .0) × (tagLoc m t ≡ pair .1)
+    (o : Objective) × (t : Tag) × (bad : ℕ) × (long : ℕ) × (pairAt m base ≡ PairRead.Got o t (e - base) bad long) × PairIs m base o t pair
 
 untagged-read : {m : List ℕ} {base e v : ℕ} {obj : Obj Value} → Begun m base e obj (array v []) → Read m base e (obj, none)
-unfolding count tagLoc
+unfolding count
 untagged-read {m} {base} b =
     let empty = array-token (b .second) in
     let read = b .read _ (empty-tail base (drop base m) (b .mid) (b .objective) (b .bad) (b .long) _ (sym (empty .token)) refl refl (none-end (empty .items))) in
-    (b .objective, Tag.Empty, b .bad, b .long, read, b .at, base + b .mid, b .described, refl)
+    (b .objective, Tag.Empty, b .bad, b .long, read, b .described TagIs.empty)
 
 tagged-read : {m : List ℕ} {base e : ℕ} {y : Item} {obj : Obj Value} {loc : Loc} → Begun m base e obj y → LocatorItem y loc → Read m base e (obj, some loc)
-unfolding tagLoc
 tagged-read {m} {base} {e} b is =
     let (l, bad′, got, located) = locator-read (lift base (b .second)) is in
     let n : ℕ = base + (e - base) - (base + b .mid) in
     let sum : e - base ≡ b .mid + n = omega (arith, advances (b .second)) in
     let tail = tagged-tail base (drop base m) (b .mid) (b .objective) (b .bad) (b .long) l n bad′
     (ap (locatorIn (base + b .mid)) (drop-drop (b .mid) base m) ∙ got) sum in
-    (b .objective, Tag.At l, firstOf (b .bad) bad′, b .long, b .read _ tail, b .at, base + b .mid, b .described, ap some located)
+    (b .objective, Tag.At l, firstOf (b .bad) bad′, b .long, b .read _ tail, b .described (TagIs.at located))
 
 -- an item that is a pair is read, and as the pair that it is
 pub pair-read : {m : List ℕ} {base e : ℕ} {x : Item} {pair : Pair Value} → Stands m base e x → depth x ≤ leftUnder 1 → PairItem x pair
-    → (o : Objective) × (t : Tag) × (bad : ℕ) × (long : ℕ) × (pairAt m base ≡ PairRead.Got o t (e - base) bad long)
-    × (at : ℕ) × (mid : ℕ) × ObjectiveIs m at mid o (pair .0) × (tagLoc m t ≡ pair .1)
+    → (o : Objective) × (t : Tag) × (bad : ℕ) × (long : ℕ) × (pairAt m base ≡ PairRead.Got o t (e - base) bad long) × PairIs m base o t pair
 unfolding depth
 pair-read st d (PairItem.untagged is) = untagged-read (begun st (omega arith) is)
 pair-read st d (PairItem.tagged is loc) = tagged-read (begun st (omega arith) is) loc
@@ -225,5 +223,5 @@ pub pair-exactly : (m : List ℕ) (base size : ℕ) → Bytes m
     ↔ ((x : Item) × (pair : Pair Value) × Stands m base (base + size) x × (depth x ≤ leftUnder 1) × PairItem x pair)
 pair-exactly m base size by = (
   λ (o, t, bad, long, q). let i = pair-sound m base o t size bad long by q in (i .item, i .pair, i .stands, i .shallow, i .is),
-  λ (x, pair, st, d, is). let (o, t, bad, long, read, _, _, _, _) = pair-read st d is in (o, t, bad, long, rw (add-sub-cancel-left base size) at read),
+  λ (x, pair, st, d, is). let (o, t, bad, long, read, _) = pair-read st d is in (o, t, bad, long, rw (add-sub-cancel-left base size) at read),
 )

@@ -139,10 +139,3 @@ number-here limit {s} {p} w b e h =
 pub lift-head : {m : List ℕ} {base q n : ℕ} → ArrayHead (drop base m) 0 q n → ArrayHead m base (base + q) n
 lift-head {m} {base} {q} {n} a =
     record { width = a .width; right = a .right; is = a .is ∙ ap (λ (r : List ℕ). headBytes 4 (a .width) n ++ r) (drop-drop q base m); end = omega (arith, a .end) }
-
--- a string's content in a part of a message, and in the message
-pub content-there : (m : List ℕ) (base body next : ℕ) (content : List ℕ) → next ≡ body + length content → take (length content) (drop body (drop base m)) ≡ content
-    → (next - body ≡ length content) × (take (next - body) (drop body (drop base m)) ≡ content) × (take (next - body) (drop (base + body) m) ≡ content)
-content-there m base body next content end is =
-    let size : next - body ≡ length content = omega arith in
-    (size, rw size is, rw (size, ← drop-drop body base m) is)

@@ -4,7 +4,7 @@ use mathlib.Core.List.{List, _++_}
 use mathlib.Core.Path.{_≡_}
 use mathlib.Core.Logic.{_↔_}
 use mathlib.Core.Option.{Option, none, some}
-use lib.ListN.{length, take, drop}
+use lib.ListN.{length, drop}
 use Rattle.base.specs.Lists.{Every}
 use Rattle.cbor.specs.Item.{leftUnder}
 use Rattle.cbor.specs.Tree.{Item, Items, Right, headBytes, encode, encodes, depth, Good, Goods}
@@ -13,7 +13,7 @@ use Rattle.options.specs.declared.locator.Locator.{Locator}
 use Rattle.options.specs.declared.locator.Locator.the-variants as L
 use Rattle.options.specs.declared.objective.Objective.{Objective}
 use Rattle.options.specs.declared.pair.Tag.{Tag}
-use Rattle.options.specs.Text.{spanOf, held}
+use Rattle.options.specs.Text.{spanOf}
 use Rattle.options.specs.Locator.{nullProtocol, nullPort}
 use Rattle.syntax.specs.Message.{Loc, orNull, Obj, Pair}
 use Rattle.grammar.specs.Cddl.{uint, bytes, text, LocatorItem, ObjectiveItem, PairItem, Value}
@@ -43,18 +43,8 @@ pub record ArrayHead (s : List ℕ) (p q n : ℕ) : Type 0 where
 abbrev pub Before : ℕ → List ℕ → Span → Type 0
 Before p content span = span ≡ spanOf (p - length content) (length content)
 
--- the locator that an answer describes; a URI's protocol 0 and port 65,536 stand for null
-unfoldable pub locOf : List ℕ → Locator → Loc
-locOf s (L.V6 at protocol port) = Loc.v6 (take 16 (drop at s)) protocol port
-locOf s (L.V4 at protocol port) = Loc.v4 (take 4 (drop at s)) protocol port
-locOf s (L.Domain name protocol port) = Loc.domain (held s name) protocol port
-locOf s (L.Uri uri protocol port) = Loc.uri (held s uri) (orNull nullProtocol protocol) (orNull nullPort port)
-
-unfoldable pub tagLoc : List ℕ → Tag → Option Loc
-tagLoc s Tag.Empty = none
-tagLoc s (Tag.At l) = some (locOf s l)
-
--- the locator that an answer describes, by the items of its kind and of its address, domain name or URI, which ends at p
+-- the locator that an answer describes, by the items of its kind and of its address, domain name or URI, which ends at p; a URI's protocol 0 and port 65,536
+-- stand for null
 pub data Addressed (p : ℕ) : Item → Item → Locator → Loc → Type 0 where
   v6 : {k b at protocol port : ℕ} {a : List ℕ} → Before p a (spanOf at 16) → Addressed p (uint k 103) (bytes b a) (L.V6 at protocol port) (Loc.v6 a protocol port)
   v4 : {k b at protocol port : ℕ} {a : List ℕ} → Before p a (spanOf at 4) → Addressed p (uint k 104) (bytes b a) (L.V4 at protocol port) (Loc.v4 a protocol port)
@@ -109,6 +99,15 @@ pub record ObjectiveIs (s : List ℕ) (p e : ℕ) (o : Objective) (obj : Obj Val
   pub value : ValueIs s (o .value) (obj .value)
   pub ends : e ≡ o .value .at + o .value .len
 
+-- the pair that an answer describes, read of the item that begins at p: each part stands right after the one before it
+pub record PairIs (s : List ℕ) (p : ℕ) (o : Objective) (t : Tag) (pair : Pair Value) : Type 0 where
+  -- where the objective begins, after the array's head, and where it ends
+  pub at : ℕ
+  pub mid : ℕ
+  pub opened : ArrayHead s p at 2
+  pub objective : ObjectiveIs s at mid o (pair .0)
+  pub tag : TagIs s mid t (pair .1)
+
 -- ---- what is read of a part
 -- the locator l, read from p to e with a bad text at `bad` (0 is none): the item that stands there, and the locator that it is
 pub record LocatorStands (s : List ℕ) (p e : ℕ) (l : Locator) (bad : ℕ) : Type 0 where
@@ -139,11 +138,6 @@ pub record PairStands (s : List ℕ) (p e : ℕ) (o : Objective) (t : Tag) (bad 
   pub stands : Stands s p e item
   pub shallow : depth item ≤ leftUnder 1
   pub is : PairItem item pair
-  -- where the objective begins, after the array's head, and where it ends
-  pub at : ℕ
-  pub mid : ℕ
-  pub opened : ArrayHead s p at 2
-  pub objective : ObjectiveIs s at mid o (pair .0)
-  pub tag : TagIs s mid t (pair .1)
+  pub described : PairIs s p o t pair
   pub texts : bad ≡ 0 ↔ Every Utf8 (pairTexts pair)
   pub names : long ≡ 0 ↔ Short (pair .0 .name)

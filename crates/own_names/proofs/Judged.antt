@@ -1,7 +1,7 @@
 -- Own names held against the answer on them, both ways: the frame and the array's head around the texts.
 -- Assumes nothing.
 use mathlib.Core.Path.{_≡_, refl, sym, ap, _∙_, subst}
-use mathlib.Core.List.{List, _++_, append-nil, List·Memᴰ}
+use mathlib.Core.List.{List, List·Memᴰ}
 use mathlib.Core.Bool.{true, false, not, _||_, true≢false}
 use Prim.Native.Nat.{ℕ, _≤_}
 use native.Mathlib.Omega.{arith}
@@ -10,18 +10,17 @@ use lib.Dec.{ltb, eqb}
 use borrow.Author.Tests.{eqb-true, ltb-false, not-false, eq-eqb, ne-eqb, le-ltb}
 use Rattle.base.specs.Pick.{pick}
 use Rattle.base.proofs.Picks.{pick-case, past}
-use Rattle.base.proofs.Parts.{drop-past}
 use Rattle.base.proofs.Bools.{or-left, or-right}
 use Rattle.cbor.specs.declared.item.ItemRead.{ItemRead}
-use Rattle.cbor.specs.declared.token.Token.{Token}
 use Rattle.cbor.specs.Item.{mostLevels, firstItem}
 use Rattle.cbor.specs.Token.{tokenAt}
 use Rattle.cbor.specs.Tree.{Item, Items, count, depth, encode}
 use Rattle.cbor.proofs.Accepts.{item-accepts}
-use Rattle.grammar.specs.Stands.{Stands, StandAll}
-use Rattle.grammar.proofs.Bridge.{array-token, small-heading, advances}
+use Rattle.grammar.specs.Stands.{Stands}
+use Rattle.grammar.proofs.Bridge.{last, small-heading, advances, whole-stands}
 use Rattle.grammar.proofs.Pieces.{array-at}
 use Rattle.exact.proofs.Whole.{stands}
+use Rattle.exact.proofs.Heads.{ArrayPassed, array-passed}
 use Rattle.exact.proofs.Answers.{walked}
 use Rattle.message.specs.Read.{mostBytes}
 use Rattle.names.specs.Names.{mostNames, goodNames, arrayBad, framedBad, namesBad, namedFrom, isNamed}
@@ -31,36 +30,26 @@ use Rattle.own_names.proofs.Texts.{texts-counted, texts-flat, names-sou
 -- ---- own names are found good
 -- the array's token, and its texts
 record TextsRead (s : List ℕ) (names : List (List ℕ)) : Type 0 where
-  pub items : Items
-  pub are : TextItems items names
-  pub major : tokenAt s 0 .major ≡ 4
-  pub arg : tokenAt s 0 .arg ≡ count items
-  pub stand : StandAll s (tokenAt s 0 .next) (length s) items
+  items : Items
+  are : TextItems items names
+  array : ArrayPassed s 0 (length s) items Items.done
 
 texts-read : {s : List ℕ} {x : Item} {names : List (List ℕ)} → Stands s 0 (length s) x → TextArray x names → TextsRead s names
-texts-read {s} stand (TextArray.array {xs = xs} are) =
-    let t = array-token stand in
-    record {
-      items = xs;
-      are = are;
-      major = ap (λ (w : Token). w .major) (t .token);
-      arg = ap (λ (w : Token). w .arg) (t .token);
-      stand = subst (λ (k : ℕ). StandAll s k (length s) xs) (sym (ap (λ (w : Token). w .next) (t .token))) (t .items);
-    }
+texts-read stand (TextArray.array are) = record { items = _; are = are; array = array-passed (last stand) }
 
 module _ {s : List ℕ} (o : OwnNames s) where
   read : TextsRead s (o .names)
   read = texts-read (stands (o .one)) (o .are)
 
   few-read : tokenAt s 0 .arg ≤ mostNames
-  few-read = omega (arith, read .arg, texts-counted (read .are), o .few)
+  few-read = omega (arith, read .array .arg, texts-counted (read .are), o .few)
 
   array-good : arrayBad s ≡ false
   unfolding arrayBad
   array-good =
       let a = tokenAt s 0 in
-      let all : goodNames s (a .arg) (a .next) ≡ true = rw (read .arg) (names-complete (read .are) (read .stand) (o .utf8) (o .short)) in
-      rw (eq-eqb (a .major) 4 (read .major), le-ltb mostNames (a .arg) few-read, all) refl
+      let all : goodNames s (a .arg) (a .next) ≡ true = rw (read .array .arg) (names-complete (read .are) (read .array .items) (o .utf8) (o .short)) in
+      rw (eq-eqb (a .major) 4 (read .array .major), le-ltb mostNames (a .arg) few-read, all) refl
 
   pub names-good : namesBad s ≡ false
   unfolding namesBad framedBad pick
@@ -81,11 +70,6 @@ framed-good s (ItemRead.Ends end) =
     pick-case (λ r. r ≡ false → (ItemRead.Ends end ≡ ItemRead.Ends (length s)) × (arrayBad s ≡ false)) (eqb end (length s))
     (λ e q. (ap ItemRead.Ends (eqb-true end (length s) e), q)) (λ e q. absurd (true≢false q))
 
--- an item that stands at the start and is as long as the whole is the whole
-whole : {s : List ℕ} {e : ℕ} {x : Item} → Stands s 0 e x → length (encode x) ≡ length s → encode x ≡ s
-whole {s} {e} {x} a long =
-    sym (append-nil (encode x)) ∙ ap (λ (r : List ℕ). encode x ++ r) (sym (drop-past s e (omega (arith, a .end)))) ∙ sym (a .is)
-
 -- the walk took the whole, and the array is good
 array-own : {s : List ℕ} → length s ≤ mostBytes → firstItem 0 s ≡ ItemRead.Ends (length s) → arrayBad s ≡ false → OwnNames s
 unfolding arrayBad depth
@@ -105,7 +89,7 @@ array-own {s} most all good =
     let ends : ItemRead.Ends (length (encode x)) ≡ ItemRead.Ends (length s) = sym (ap (firstItem 0) (stand .is) ∙ item-accepts 0 x (drop (n .end) s) (stand .good) shallow) ∙ all in
     let long : length (encode x) ≡ length s = cc in
     record {
-      one = record { item = x; bytes = whole stand long; most = most; good = stand .good; shallow = shallow };
+      one = record { item = x; bytes = whole-stands (subst (λ (k : ℕ). Stands s 0 k x) (omega (arith, stand .end)) stand); most = most; good = stand .good; shallow = shallow };
       names = n .names;
       are = TextArray.array (n .are);
       few = omega (arith, n .many, texts-counted (n .are));
@@ -125,10 +109,10 @@ names-own {s} q =
 module _ {s : List ℕ} (name : List ℕ) (o : OwnNames s) where
   named-read : isNamed s name ≡ namedFrom s name (count (read o .items)) (tokenAt s 0 .next)
   unfolding isNamed pick
-  named-read = rw (le-ltb mostNames (tokenAt s 0 .arg) (few-read o), ← read o .arg) refl
+  named-read = rw (le-ltb mostNames (tokenAt s 0 .arg) (few-read o), ← read o .array .arg) refl
 
   pub named-member : isNamed s name ≡ true → List·Memᴰ name (o .names)
-  named-member e = named-sound name (read o .are) (read o .stand) (sym named-read ∙ e)
+  named-member e = named-sound name (read o .are) (read o .array .items) (sym named-read ∙ e)
 
   pub member-named : List·Memᴰ name (o .names) → isNamed s name ≡ true
-  member-named m = named-read ∙ named-complete name (read o .are) (read o .stand) m
+  member-named m = named-read ∙ named-complete name (read o .are) (read o .array .items) m

@@ -3,15 +3,14 @@
 use mathlib.Core.Path.{_≡_, refl, sym, ap, ap₂, _∙_, subst}
 use mathlib.Core.List.{List, [], _∷_, _++_, map, append-assoc, append-nil}
 use mathlib.Core.Option.{Option, some, Option·map}
-use Prim.Native.Nat.{ℕ, _*_, _/_, _≤_}
+use Prim.Native.Nat.{ℕ, _*_, _≤_}
 use native.Mathlib.Omega.{arith}
-use lib.Dec.{ltb, lit<}
+use lib.Dec.{lit<}
 use lib.ListN.{length, take}
 use Rattle.cbor.specs.Item.{mostLevels, leftUnder}
 use Rattle.cbor.specs.Tree.{Item, Items, headBytes, count, encode, depth, depths}
 use Rattle.syntax.specs.Message.{Loc, Obj, Pair, Aim, Ending, Msg, valuedObj, valuedPair, valued}
 use Rattle.grammar.specs.Cddl.{uint, text, array, LocatorItems, ObjectiveItem, Value, PairItem, PairItems, EndingItem, MessageItem}
-use Rattle.grammar.specs.Stands.{StandAll}
 use Rattle.grammar.proofs.Levels.{locator-deep}
 use Rattle.message.specs.declared.Series.{Series}
 use Rattle.message.specs.declared.Targets.{Targets}
@@ -27,10 +26,10 @@ use Rattle.roundtrip.specs.Plain.{valueBytes, plain}
 use Rattle.roundtrip.specs.Says.{LocatorRowSays, PairSays, Rows, ExtraSays, OutcomeSays, Says}
 use Rattle.roundtrip.proofs.Encodes.{pairs-many}
 use Rattle.rewrite.specs.Lent.{rowsLent}
-use Rattle.rewrite.proofs.Filled.{joined, rows-many, lent, told-rows}
+use Rattle.rewrite.proofs.Filled.{joined, lent, told-rows}
 use Rattle.rewrite.proofs.Spans.{string-cuts, value-cuts, end-cuts, objective-goals}
-use Rattle.rewrite.proofs.Locators.{locatorRowOf, locator-row-behind, Locators, locators-rows}
-use Rattle.rewrite.proofs.Pairs.{rowAt, rowOf, row-behind, pairOf, InOrder, Pairs, pairs-rows}
+use Rattle.rewrite.proofs.Locators.{locator-row-shift, Locators, locators-rows}
+use Rattle.rewrite.proofs.Pairs.{rowAt, row-shift, pairOf, InOrder, Pairs, pairs-rows}
 
 -- ---- how many levels the items of pairs have: as many as any others of the same pairs
 -- an objective's are those of its value
@@ -60,7 +59,7 @@ module _ (s : List ℕ) where
   locators-told : {at : ℕ} {rows : List (List ℕ)} {ls : List Loc} → Locators s at rows ls → LocatorsTold (joined rows) ls
   unfolding locsOf rowLoc
   locators-told chain =
-      let (says, are) = told-rows locatorRowOf (locatorRowLoc s) (LocatorRowSays s) locator-row-behind (lit< tt) chain in
+      let (says, are) = told-rows locatorRowAt (locatorRowLoc s) (LocatorRowSays s) locator-row-shift (lit< tt) chain in
       record { says = says; are = are }
 
   -- a list of pairs
@@ -71,7 +70,7 @@ module _ (s : List ℕ) where
   paired-rows : {at : ℕ} {rows : List (List ℕ)} {ps : List (Pair (List ℕ))} → Pairs s at rows ps → Paired (joined rows) ps
   unfolding pairsOf rowPair rowAt
   paired-rows chain =
-      let (says, are) = told-rows rowOf (pairOf s) (InOrder s) row-behind (lit< tt) chain in
+      let (says, are) = told-rows rowAt (pairOf s) (InOrder s) row-shift (lit< tt) chain in
       record {
         says = record { whole = says .whole; each = λ i h. let r = says .each i h in record { count-at = r .count-at; objective = r .objective; locator = r .locator } };
         are = are;
@@ -81,19 +80,16 @@ module _ (s : List ℕ) where
   -- of a series of locators
   locators-lent : {e : ℕ} {series : Series} {ls : List Loc} (list : List ℕ) → SeriesIs s series e (λ xs. LocatorItems xs ls) → R.seriesEnd locatorRow series list ≤ length list
       → LocatorsTold (take (R.seriesEnd locatorRow series list) (R.seriesFilled locatorRow (R.locatorNext s) (R.locatorStored s) series list)) ls
-  unfolding R.seriesEnd R.seriesFilled
-  locators-lent {series = series} {ls} list i room =
+  locators-lent {ls = ls} list i room =
       let (rows, chain) = locators-rows s (i .stand) (i .are) in
-      let many = i .many ∙ locators-count (i .are) ∙ sym (rows-many chain) in
-      subst (λ (l : List ℕ). LocatorsTold l ls) (sym (lent chain (series .many) list (ltb (length list / locatorRow) (series .many)) many room)) (locators-told chain)
+      subst (λ (l : List ℕ). LocatorsTold l ls) (sym (lent chain list (i .many ∙ locators-count (i .are)) room)) (locators-told chain)
 
   -- of a series of pairs
-  pairs-lent : {e : ℕ} {series : Series} {xs : Items} {ps : List (Pair Value)} (list : List ℕ) → depths xs ≤ leftUnder 1 → StandAll s (series .at) e xs → PairItems xs ps
-      → series .many ≡ length ps → R.seriesEnd pairRow series list ≤ length list → Paired (take (R.seriesEnd pairRow series list) (R.seriesFilled pairRow (R.pairNext s) (R.pairStored s) series list)) (map (valuedPair valueBytes) ps)
-  unfolding R.seriesEnd R.seriesFilled
-  pairs-lent {series = series} {ps = ps} list d a i many room =
-      let (rows, chain) = pairs-rows s d a i in
-      subst (λ (l : List ℕ). Paired l (map (valuedPair valueBytes) ps)) (sym (lent chain (series .many) list (ltb (length list / pairRow) (series .many)) (many ∙ pairs-many ps ∙ sym (rows-many chain)) room)) (paired-rows chain)
+  pairs-lent : {e : ℕ} {series : Series} {ps : List (Pair Value)} (list : List ℕ) (i : SeriesIs s series e (λ xs. PairItems xs ps)) → depths (i .items) ≤ leftUnder 1
+      → R.seriesEnd pairRow series list ≤ length list → Paired (take (R.seriesEnd pairRow series list) (R.seriesFilled pairRow (R.pairNext s) (R.pairStored s) series list)) (map (valuedPair valueBytes) ps)
+  pairs-lent {ps = ps} list i d room =
+      let (rows, chain) = pairs-rows s d (i .stand) (i .are) in
+      subst (λ (l : List ℕ). Paired l (map (valuedPair valueBytes) ps)) (sym (lent chain list (i .many ∙ pairs-count (i .are) ∙ pairs-many ps) room)) (paired-rows chain)
 
   -- ---- the parts of a description
   -- a Response's locators
@@ -142,14 +138,11 @@ module _ (s : List ℕ) where
       let (says, is) = extra-says extra in
       record { parts = (c .inside, rows .says, says); is = response-is (c .is) (targets _ (rows .are)) is }
   kind-says list (Describes.request-negotiation {session} k n o) i d e room =
-      let goal = objective-goals o in
-      record { parts = (refl, goal .says); is = ap (Msg.request-negotiation session) (goal .is) }
+      record { parts = (refl, objective-goals o .says); is = ap (Msg.request-negotiation session) (objective-goals o .is) }
   kind-says list (Describes.request-synchronization {session} k n o) i d e room =
-      let goal = objective-goals o in
-      record { parts = (refl, goal .says); is = ap (Msg.request-synchronization session) (goal .is) }
+      record { parts = (refl, objective-goals o .says); is = ap (Msg.request-synchronization session) (objective-goals o .is) }
   kind-says list (Describes.negotiate {session} k n o) i d e room =
-      let goal = objective-goals o in
-      record { parts = (refl, goal .says); is = ap (Msg.negotiate session) (goal .is) }
+      record { parts = (refl, objective-goals o .says); is = ap (Msg.negotiate session) (objective-goals o .is) }
   kind-says list (Describes.end {session} outcome) (MessageItem.end {w} {k} {s = y} {x} i ending) d e room =
       let before : List ℕ = headBytes 4 w 3 ++ (encode (uint k 6) ++ encode y) in
       let whole : before ++ encode x ≡ encode (array w (uint k 6 ∷ y ∷ x ∷ [])) = simp (append-assoc, append-nil) in
@@ -157,12 +150,10 @@ module _ (s : List ℕ) where
       record { parts = (refl, says); is = ap (Msg.end session) is }
   kind-says list Describes.wait i d e room = record { parts = refl; is = refl }
   kind-says list (Describes.synch {session} k n o) i d e room =
-      let goal = objective-goals o in
-      record { parts = (refl, goal .says); is = ap (Msg.synch session) (goal .is) }
-  kind-says list (Describes.flood {session} {ttl} k n from t series h o tag) (MessageItem.flood sy sz sv pairs) d e room =
+      record { parts = (refl, objective-goals o .says); is = ap (Msg.synch session) (objective-goals o .is) }
+  kind-says list (Describes.flood {session} {ttl} k n from t series pair) (MessageItem.flood sy sz sv pairs) d e room =
       let c = string-cuts (from .stands) (from .held) in
-      let rows = pairs-lent list (omega (arith, d, pairs-deep pairs (series .are))) (series .stand) (series .are) (series .many ∙ pairs-count (series .are)) room in
+      let rows = pairs-lent list series (omega (arith, d, pairs-deep pairs (series .are))) room in
       record { parts = (c .inside, rows .says); is = ap₂ (λ (i : List ℕ) (ps : List (Pair (List ℕ))). Msg.flood session i ttl ps) (c .is) (rows .are) }
   kind-says list (Describes.invalid {session} k n v end) i d e room =
-      let c = value-cuts v in
-      record { parts = (refl, c .inside); is = ap (Msg.invalid session) (c .is) }
+      record { parts = (refl, value-cuts v .inside); is = ap (Msg.invalid session) (value-cuts v .is) }

@@ -1,26 +1,22 @@
 -- Where the count that a relay lowers stands in a message, and that the message with another count is one too.
 -- Assumes nothing.
-use mathlib.Core.Path.{_≡_, refl, ap, _∙_, subst}
+use mathlib.Core.Path.{_≡_}
 use mathlib.Core.List.{List, [], _∷_, _++_, append-assoc, append-nil}
-use mathlib.Core.Option.{Option, none, some}
+use mathlib.Core.Option.{Option}
 use Prim.Native.Nat.{ℕ, suc, _+_, _-_, _≤_}
 use native.Mathlib.Omega.{arith}
 use lib.ListN.{length, length-append}
 use Rattle.cbor.specs.Item.{mostLevels}
-use Rattle.cbor.specs.Put.{head}
 use Rattle.cbor.specs.Tree.{Item, Items, Right, headBytes, count, encode, encodes, depth, Good}
 use Rattle.options.specs.declared.Span.{Span}
 use Rattle.options.specs.declared.objective.Objective.{Objective}
-use Rattle.syntax.specs.Message.{Loc, Obj, Pair, Msg, valuedObj}
+use Rattle.syntax.specs.Message.{Loc, Obj, Pair, Msg}
 use Rattle.grammar.specs.Cddl.{uint, text, array, Number, Initiator, ObjectiveItem, PairItem, PairItems, MessageItem, Value}
-use Rattle.grammar.specs.Stands.{Stands, ArrayHead, ValueIs, itemsWith, ObjectiveIs}
-use Rattle.grammar.proofs.Bridge.{split, only, stands-whole, whole-stands, array-token}
+use Rattle.grammar.specs.Stands.{Stands, ArrayHead, ObjectiveIs}
+use Rattle.grammar.proofs.Bridge.{split, only, stands-whole, whole-stands}
 use Rattle.message.specs.declared.Message.{Message}
 use Rattle.exact.specs.Describes.{KindIs, NumberIs, InitiatorIs, Describes}
-use Rattle.description.specs.Encoding.{string, oneMore, encodeObj}
-use Rattle.roundtrip.specs.Plain.{valueBytes}
 use Rattle.roundtrip.specs.Lower.{withCount, lowerObj, lowerMsg, Lowers}
-use Rattle.roundtrip.proofs.Encodes.{short-head, has-bytes, objective-encodes}
 use Rattle.roundtrip.proofs.Places.{past-head, past-item, opened-place}
 
 -- s is a message msg, whose count n has its head from `at` to `end`; its item, of no more levels than allowed, with any other head there
@@ -92,61 +88,22 @@ count-place {a = a} {name = name} {flags} {vs} x o =
     let (b₃, e₃) = past-item b₂ (o .count-item) in
     (omega (arith, length-front a name flags vs), e₃)
 
--- ---- how long an objective is that was read
--- its value
-value-long : {s : List ℕ} {span : Span} {v : Value} → ValueIs s span v → span .len ≡ length (valueBytes v)
-unfolding valueBytes
-value-long (ValueIs.absent e) = e
-value-long (ValueIs.present a) = omega (arith, a .end)
-
--- how many items it has
-items-with : (v : Value) → itemsWith v ≡ 3 + oneMore (valueBytes v)
-unfolding oneMore valueBytes
-items-with none = refl
-items-with (some x) = rw (has-bytes x)
-
--- it is as long as its item
-objective-long : {s : List ℕ} {p e : ℕ} {x : Item} {o : Objective} {obj : Obj Value} → ObjectiveIs s p e o obj → Good x → ObjectiveItem x obj → e ≡ p + length (encode x)
-unfolding encode encodeObj string valuedObj
-objective-long {p = p} {e} {o = o} {obj} i g item =
-    let opened : length (headBytes 4 (i .opened .width) (itemsWith (obj .value))) ≡ length (head 4 (3 + oneMore (valueBytes (obj .value)))) =
-    ap length (short-head tt (i .opened .right) ∙ ap (head 4) (items-with (obj .value))) in
-    let name : length (headBytes 3 (i .name-width) (length (obj .name))) ≡ length (head 3 (length (obj .name))) = ap length (short-head tt (i .name-item .good .0)) in
-    let flags : length (headBytes 0 (i .flags-width) (obj .flags)) ≡ length (head 0 (obj .flags)) = ap length (short-head tt (i .flags-item .good)) in
-    let count : length (headBytes 0 (i .count-width) (obj .count)) ≡ length (head 0 (obj .count)) = ap length (short-head tt (i .count-item .good)) in
-    rw (objective-encodes g item)
-    (simp length-append
-    (omega (
-      arith,
-      i .opened .end,
-      i .name-item .end,
-      length-append (headBytes 3 (i .name-width) (length (obj .name))) (obj .name),
-      i .flags-item .end,
-      i .count-item .end,
-      i .ends,
-      value-long (i .value),
-    )))
-
 -- ---- the messages
 -- one less is within the limit
 one-less : {n : ℕ} → n ≤ 255 → n - 1 ≤ 255
 one-less h = omega arith
 
 -- a Discovery's count
-discovery-hole : {s : List ℕ} {w k r session : ℕ} {from : List ℕ} {y z x : Item} {o : Objective} {obj : Obj Value} → ObjectiveIs s r (length s) o obj
-    → Number y session → Initiator z from → Counted x obj → Stands s 0 (length s) (array w (uint k 1 ∷ y ∷ z ∷ x ∷ []))
-    → depth (array w (uint k 1 ∷ y ∷ z ∷ x ∷ [])) ≤ mostLevels → Hole s (o .«count_at») (o .value .at) (o .count) (Msg.discovery session from obj)
+discovery-hole : {s : List ℕ} {w k p q r e session : ℕ} {i : Span} {from : List ℕ} {y z x : Item} {o : Objective} {obj : Obj Value}
+    → KindIs s 1 p → NumberIs s p q session → InitiatorIs s q r i from → ObjectiveIs s r e o obj → Number y session → Initiator z from → Counted x obj
+    → Stands s 0 (length s) (array w (uint k 1 ∷ y ∷ z ∷ x ∷ [])) → depth (array w (uint k 1 ∷ y ∷ z ∷ x ∷ [])) ≤ mostLevels
+    → Hole s (o .«count_at») (o .value .at) (o .count) (Msg.discovery session from obj)
 unfolding encode count depth lowerMsg lowerObj withCount
-discovery-hole {s} {w} {k} {r} {y = y} {z} {o = o} objective sy sz (Counted.of {a} {b} {c} {d} {vs} {obj} limit other) all deep =
+discovery-hole {w = w} {k} {y = y} {z} {o = o} kind number initiator objective sy sz (Counted.of {a} {b} {c} {d} {vs} {obj} limit other) all deep =
+    let (b₃, e₃) = opened-place all kind number initiator in
+    let (at, end) = count-place (only b₃) objective in
     let g = all .good in
     let og = g .1 .1 .1 .1 .0 in
-    let (b₀, e₀) = past-head all (array-token all .head) in
-    let c₀ = split b₀ in
-    let c₁ = split (c₀ .rest) in
-    let c₂ = split (c₁ .rest) in
-    let x = only (c₂ .rest) in
-    let here : r ≡ c₂ .mid = omega (arith, x .end, objective-long objective og (other d (obj .count) limit)) in
-    let (at, end) = count-place x (subst (λ (p : ℕ). ObjectiveIs s p (length s) o obj) here objective) in
     let name = text b (obj .name) in
     let flags = uint c (obj .flags) in
     let same : o .count ≡ obj .count = objective .count in
@@ -159,7 +116,7 @@ discovery-hole {s} {w} {k} {r} {y = y} {z} {o = o} objective sy sz (Counted.of {
       shallow = λ v n. deep;
       width = d;
       whole = rw same (whole-stands all);
-      place = simp length-append (omega (arith, c₀ .first .end, c₁ .first .end, c₂ .first .end));
+      place = simp length-append (omega arith);
       ends = rw same end;
       limit = omega arith;
       is = λ v. rw same (MessageItem.discovery sy sz (other v (obj .count - 1) (one-less limit)));
@@ -206,6 +163,6 @@ flood-hole {s} {w} {k} {y = y} {z} {v} {xs = xs} {o} kind number initiator live 
 pub hole : {s : List ℕ} {m : Message} {msg : Msg Value} {x : Item} {o : Objective} → Lowers m o → Describes s m msg → MessageItem x msg → Good x → depth x ≤ mostLevels → encode x ≡ s
     → Hole s (o .«count_at») (o .value .at) (o .count) msg
 hole Lowers.discovery (Describes.discovery kind number initiator objective) (MessageItem.discovery sy sz i) g deep e =
-    discovery-hole objective sy sz (counted-is i) (stands-whole g e) deep
-hole Lowers.flood (Describes.flood kind number initiator live series opened objective tag) (MessageItem.flood sy sz sv (PairItems.more i rest)) g deep e =
-    flood-hole kind number initiator live opened objective sy sz sv (paired-is i) rest (stands-whole g e) deep
+    discovery-hole kind number initiator objective sy sz (counted-is i) (stands-whole g e) deep
+hole Lowers.flood (Describes.flood kind number initiator live series pair) (MessageItem.flood sy sz sv (PairItems.more i rest)) g deep e =
+    flood-hole kind number initiator live (pair .opened) (pair .objective) sy sz sv (paired-is i) rest (stands-whole g e) deep

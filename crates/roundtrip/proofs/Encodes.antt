@@ -21,7 +21,7 @@ use Rattle.roundtrip.specs.Plain.{valueBytes, plain}
 
 -- ---- heads
 -- a head without fault is the shortest
-pub short-head : {major width arg : ℕ} → T (ltb major 7) → Right major width arg → headBytes major width arg ≡ head major arg
+short-head : {major width arg : ℕ} → T (ltb major 7) → Right major width arg → headBytes major width arg ≡ head major arg
 unfolding head
 short-head {major} {arg = n} low r = ap (λ w. headBytes major w n) (short-width (r .sized) (r .short (λ e. omega (arith, lit< {m = major} {n = 7} low))))
 
@@ -47,7 +47,7 @@ unfolding encode string
 initiator-encodes g (Initiator.initiator _) = rw (short-head tt (g .0))
 
 -- an objective, with or without a value
-pub objective-encodes : {x : Item} {o : Obj Value} → Good x → ObjectiveItem x o → encode x ≡ encodeObj (valuedObj valueBytes o)
+objective-encodes : {x : Item} {o : Obj Value} → Good x → ObjectiveItem x o → encode x ≡ encodeObj (valuedObj valueBytes o)
 unfolding encode count encodeObj string valuedObj valueBytes oneMore
 objective-encodes g (ObjectiveItem.bare _ _) =
     rw (short-head tt (g .0), short-head tt (g .1 .0 .0), short-head tt (g .1 .1 .0), short-head tt (g .1 .1 .1 .0)) (simp (append-assoc, append-nil))
@@ -116,7 +116,7 @@ joined-encodes Items.done ys = refl
 joined-encodes (Items.more x xs) ys = rw (joined-encodes xs ys, append-assoc)
 
 -- and both are without fault
-pub joined-goods : (xs ys : Items) → Goods (joined xs ys) → Goods xs × Goods ys
+joined-goods : (xs ys : Items) → Goods (joined xs ys) → Goods xs × Goods ys
 joined-goods Items.done ys g = (tt, g)
 joined-goods (Items.more x xs) ys g = let (a, b) = joined-goods xs ys (g .1) in ((g .0, a), b)
 
