@@ -177,16 +177,6 @@ head-is s b e = subst (IfHead (HeadIs s)) e (by s b)
         first-case (IfHead (HeadIs (first ∷ s))) first s (λ _ _. tt) (λ _. tt) (λ _ _. tt)
         (λ lt room. judged-case (IfHead (HeadIs (first ∷ s))) (first / 32) _ _ (λ _ _ _. tt) (λ _ _. tt) (faultless (whole first s b lt room)))
 
--- A head is read of bytes exactly where they begin with one without fault.
-pub head-exactly : (s : List ℕ) (major arg len : ℕ) → Bytes s → headAt s ≡ HeadRead.Head major arg len ↔ HeadIs s major arg len
-head-exactly s major arg len b = (head-is s b, read)
-  where
-    read : HeadIs s major arg len → headAt s ≡ HeadRead.Head major arg len
-    read h =
-        let split : s ≡ headBytes major (h .width) arg ++ drop len s = sym (take-append-drop len s) ∙ ap (λ (t : List ℕ). t ++ drop len s) (h .bytes) in
-        let size : length (headBytes major (h .width) arg) ≡ len = ap length (sym (h .bytes)) ∙ length-take-le len s (h .within) in
-        ap headAt split ∙ head-read major (h .width) arg (drop len s) (h .right) ∙ ap (HeadRead.Head major arg) size
-
 -- the bytes of an argument below 256
 arg-bytes : (first width : ℕ) (s : List ℕ) → argOf first width s < 2 ^ 8 → FirstBytes width s
 unfolding argOf pick
@@ -240,3 +230,15 @@ no-shorter width arg (Sized.one h) = shortest-case (λ w. w ≤ 1) arg (λ _. om
 no-shorter width arg (Sized.two h) = shortest-case (λ w. w ≤ 2) arg (λ _. omega arith) (λ g l. omega arith) (λ g l. omega arith) (λ g l. omega arith) (λ g. omega arith)
 no-shorter width arg (Sized.four h) = shortest-case (λ w. w ≤ 4) arg (λ _. omega arith) (λ g l. omega arith) (λ g l. omega arith) (λ g l. omega arith) (λ g. omega arith)
 no-shorter width arg (Sized.eight h) = shortest-case (λ w. w ≤ 8) arg (λ _. omega arith) (λ g l. omega arith) (λ g l. omega arith) (λ g l. omega arith) (λ g. omega arith)
+
+-- for readers
+
+-- A head is read of bytes exactly where they begin with one without fault.
+pub head-exactly : (s : List ℕ) (major arg len : ℕ) → Bytes s → headAt s ≡ HeadRead.Head major arg len ↔ HeadIs s major arg len
+head-exactly s major arg len b = (head-is s b, read)
+  where
+    read : HeadIs s major arg len → headAt s ≡ HeadRead.Head major arg len
+    read h =
+        let split : s ≡ headBytes major (h .width) arg ++ drop len s = sym (take-append-drop len s) ∙ ap (λ (t : List ℕ). t ++ drop len s) (h .bytes) in
+        let size : length (headBytes major (h .width) arg) ≡ len = ap length (sym (h .bytes)) ∙ length-take-le len s (h .within) in
+        ap headAt split ∙ head-read major (h .width) arg (drop len s) (h .right) ∙ ap (HeadRead.Head major arg) size
