@@ -14,27 +14,19 @@ use Rattle.base.specs.Pick.{pick}
 use Rattle.base.specs.BigEndian.{Bytes}
 use Rattle.base.proofs.Picks.{pick-case}
 use Rattle.base.proofs.Parts.{bytes-drop, bytes-take}
-use Rattle.cbor.specs.Tree.{Item}
 use Rattle.options.specs.Text.{held}
-use Rattle.options.specs.declared.objective.Objective.{Objective}
-use Rattle.syntax.specs.Message.{Msg}
-use Rattle.grammar.specs.Cddl.{Value, Number, MessageItem}
-use Rattle.exact.specs.Describes.{Describes}
-use Rattle.exact.proofs.Exact.{accepted-exactly, accepted-described}
 use Rattle.message.specs.Opening.{mostNumber}
 use Rattle.message.specs.declared.Message.{Message}
-use Rattle.message.specs.declared.Message.the-variants as M
 use Rattle.message.specs.declared.Reading.{Reading}
 use Rattle.message.specs.Read.{readOf}
-use Rattle.contents.specs.Fields.{sessionOf}
 use Rattle.negotiation.specs.declared.Side.{Side}
 use Rattle.negotiation.specs.declared.Side.the-variants.{Us, Them}
 use Rattle.negotiation.specs.declared.State.{State}
 use Rattle.negotiation.specs.declared.State.the-variants.{Fresh, Open, Closed}
 use Rattle.negotiation.specs.declared.Stepped.the-variants.{Moved}
 use Rattle.negotiation.specs.Step.{step}
-use Rattle.negotiation.specs.Allowed.{KindAndSession, Allowed}
-use Rattle.negotiation.proofs.Accepted.{moved-exactly, request-opens}
+use Rattle.negotiation.specs.Allowed.{Allowed}
+use Rattle.negotiation.proofs.Accepted.{moved-exactly, session-most, count-most}
 use Rattle.node_state.specs.declared.Record.{Record}
 use Rattle.node_state.specs.declared.Kept.{Kept}
 use Rattle.node_state.specs.Record.{linksBad, recordBad, keeps, fresh, linked, setLinks, clocked, tallied}
@@ -55,32 +47,6 @@ use Rattle.host.specs.Widths.{RecordFits, TableFits, StateFits}
 use Rattle.host.proofs.Numbers.{saved-loads}
 use Rattle.host.proofs.Calls.{same-call, call-still}
 use Rattle.host.proofs.Fits.{put-fits, free-fits, key-fits, call-leaves, blank-fits, KeptFits, counted-fits, node-fits, node-address, loaded-fits}
-
--- a Request's session
-request-session : (message : List ℕ) (m : Message) {session : ℕ} → Bytes message → readOf message ≡ Reading.Read m → KindAndSession m 3 session → session < 2 ^ 32
-unfolding sessionOf
-request-session message m {session} bytes read names =
-    let a = accepted-exactly message bytes .0 (m, read) in
-    go m (accepted-described message m read a) (a .message .is) names
-  where
-    by : {o : Objective} {n : ℕ} {msg : Msg Value} {x : Item} → Describes message (M.RequestNegotiation n o) msg → MessageItem x msg → n ≤ mostNumber
-    by (Describes.request-negotiation k s o) (MessageItem.request-negotiation (Number.number l) i) = l
-
-    go : (m : Message) {msg : Msg Value} {x : Item} → Describes message m msg → MessageItem x msg → KindAndSession m 3 session → session < 2 ^ 32
-    go (M.RequestNegotiation n o) d i names =
-        let e = names .ofSession in
-        let same : n ≡ session = cc in
-        omega (arith, by d i)
-    go M.Noop d i names = absurd (omega (arith, names .ofKind))
-    go (M.Discovery n from o) d i names = absurd (omega (arith, names .ofKind))
-    go (M.Response n from ttl targets extra) d i names = absurd (omega (arith, names .ofKind))
-    go (M.RequestSynchronization n o) d i names = absurd (omega (arith, names .ofKind))
-    go (M.Negotiate n o) d i names = absurd (omega (arith, names .ofKind))
-    go (M.End n outcome) d i names = absurd (omega (arith, names .ofKind))
-    go (M.Wait n time) d i names = absurd (omega (arith, names .ofKind))
-    go (M.Synch n o) d i names = absurd (omega (arith, names .ofKind))
-    go (M.Flood n from ttl first pairs) d i names = absurd (omega (arith, names .ofKind))
-    go (M.Invalid n item) d i names = absurd (omega (arith, names .ofKind))
 
 -- the record of an answer
 answer-node : (b : Called) → answerFrom b .node ≡ b .node
@@ -154,20 +120,14 @@ call-table-fits r t c clock bytes w =
     clock freed-fits) w
 
 -- A state that a step leads to fits, where the one before it did.
-pub step-fits : (s : State) (message : List ℕ) (sender : Side) (next : State) → Bytes message → StateFits s → step s message sender ≡ Moved next → StateFits next
-step-fits s message sender next bytes fits moved =
-    let (m, read, allowed) = moved-exactly s message sender next .0 moved in
-    go read allowed fits moved
+pub step-fits : (s : State) (message : List ℕ) (sender : Side) (next : State) → StateFits s → step s message sender ≡ Moved next → StateFits next
+step-fits s message sender next fits moved = let (m, read, allowed) = moved-exactly s message sender next .0 moved in go read allowed fits
   where
-    go : {m : Message} {s next : State} → readOf message ≡ Reading.Read m → Allowed sender m s next → StateFits s → step s message sender ≡ Moved next → StateFits next
-    go {m} {s} {next} read (Allowed.request {count = count} n c least) f moved =
-        let o = request-opens s message sender next m read (n .ofKind) moved in
-        let after = o .after in
-        let same : count ≡ o .count = cc in
-        (request-session message m bytes read n, omega (arith, o .most))
-    go read (Allowed.negotiate n c least lower) f moved = (f .0, omega (arith, f .1))
-    go read (Allowed.wait n some) f moved = f
-    go read (Allowed.end n some) f moved = tt
+    go : {m : Message} {s next : State} → readOf message ≡ Reading.Read m → Allowed sender m s next → StateFits s → StateFits next
+    go read (Allowed.request n c least) f = (omega (arith, session-most message _ _ read (n .ofSession)), omega (arith, count-most message _ _ read c))
+    go read (Allowed.negotiate n c least lower) f = (f .0, omega (arith, f .1))
+    go read (Allowed.wait n some) f = f
+    go read (Allowed.end n some) f = tt
 
 -- The numbers that are put are those of the record that is kept.
 pub kept-back : (address f : List ℕ) (k : Kept) → (k .refusal ≡ 0 → RecordFits (k .node) × (k .node .address ≡ address)) → ((k .refusal ≡ 0 → ⊥) → k .node ≡ nodeOf address f)
