@@ -36,7 +36,7 @@ use Rattle.node.specs.declared.Reply.{Reply}
 use Rattle.node.specs.declared.Reply.the-variants.{Refused, Given}
 use Rattle.node.specs.declared.Called.{Called}
 use Rattle.node.specs.Role.{keyIn}
-use Rattle.node.specs.Call.{Call, After, barred, refuse, nodeCall}
+use Rattle.node.specs.Call.{Call, After, bar, refuse, nodeCall}
 use Rattle.node.proofs.Outcomes.{passed}
 use Rattle.node.proofs.Spreads.{role-spreading}
 use Rattle.host.specs.Records.{nodeOf, nodeNumbers, numbersAfter}
@@ -66,9 +66,8 @@ call-address r t c = call-leaves r t c (λ r′ _. r′ .address ≡ r .address)
 call-good : (r : Record) (t : List ℕ) (c : Call) → answerFrom (nodeCall r t c .called) .refusal ≡ 0 → recordBad r ≡ false
 unfolding nodeCall refuse answerFrom replyNumbers
 call-good r t c =
-    let n = barred r t (c .clock) (c .interface) (c .names) (length (c .output)) in
-    pick-case (λ (a : After). answerFrom (a .called) .refusal ≡ 0 → recordBad r ≡ false) (eqb n 0)
-    (λ e _. passed r t (c .clock) (c .interface) (c .names) (length (c .output)) (eqb-true n 0 e) .good) (λ e none. absurd (eqb-false n 0 e none))
+    pick-case (λ (a : After). answerFrom (a .called) .refusal ≡ 0 → recordBad r ≡ false) (eqb (bar r t c) 0)
+    (λ e _. passed r t (c .clock) (c .interface) (c .names) (length (c .output)) (eqb-true (bar r t c) 0 e) .good) (λ e none. absurd (eqb-false (bar r t c) 0 e none))
 
 -- for readers
 
