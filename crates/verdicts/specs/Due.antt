@@ -119,11 +119,3 @@ module _ (r : Record) (t : List ℕ) (c : Call) where
     barred-by : (n : ℕ) → bar r t c ≡ n → n ≢ 0 → Comes (refuse n r t c)
     unread : (n : ℕ) → bar r t c ≡ 0 → readOf (c .message) ≡ Reading.Refused n → Comes (refuse n r t c)
     given : (m : Message) (v : Verdict) (up : Bool) {a : After} → bar r t c ≡ 0 → readOf (c .message) ≡ Reading.Read m → Due m v up → Does m v up a → Comes a
-
--- a message of this kind is handed up with this verdict
-pub data HandedUp : ℕ → Verdict → Type 0 where
-  flood-last : HandedUp 9 Last
-  flood-nowhere : HandedUp 9 Nowhere
-  flood-norow : HandedUp 9 NoRow
-  flood-relay : HandedUp 9 Relay
-  hand : {kind : ℕ} → kind ≢ 0 → kind ≢ 1 → kind ≢ 9 → HandedUp kind Hand
