@@ -156,9 +156,7 @@ unfolding callLeft callTable callAnswer pick
 table-back r bytes c answer sized are clock message =
     rw (← same-call r bytes c (loaded bytes) sized refl)
     (pick-case (λ (k : Left). loaded (k .table) ≡ n .table) (eqb (answerFrom (n .called) .refusal) 0)
-    (λ e.
-    let w = call-table-fits r (loaded bytes) c clock message (loaded-fits bytes are) in
-    rw (eq-eqb (length bytes) tableBytes sized, e) (saved-loads (n .table) (w .sized) (w .wide)))
+    (λ e. rw (eq-eqb (length bytes) tableBytes sized, e) (saved-loads (n .table) (call-table-fits r (loaded bytes) c clock message (loaded-fits bytes are))))
     (λ e. sym (call-still c r (loaded bytes) (eqb-false (answerFrom (n .called) .refusal) 0 e) .1)))
   where
     n : After
