@@ -3,13 +3,12 @@
 use Prim.Native.Nat.{ℕ, _^_, _≤_, _<_}
 use mathlib.Core.Path.{_≡_, refl, sym, ap, _∙_, subst}
 use mathlib.Core.List.{List}
-use mathlib.Core.Bool.{false}
 use native.Mathlib.Nat.{le-trans}
 use native.Mathlib.Omega.{arith}
 use lib.Pow.{pow-mono}
 use lib.Dec.{leb, eqb}
 use lib.ListN.{length, drop}
-use borrow.Author.Tests.{lt-leb, le-ltb, leb-false, eqb-true, eqb-false, eq-eqb}
+use borrow.Author.Tests.{lt-leb, le-ltb, leb-false, eqb-true, eqb-false}
 use Rattle.base.specs.Pick.{pick}
 use Rattle.base.specs.BigEndian.{Bytes}
 use Rattle.base.proofs.Picks.{pick-case}
@@ -36,16 +35,15 @@ use Rattle.node.specs.declared.Reply.{Reply}
 use Rattle.node.specs.declared.Reply.the-variants.{Refused, Given}
 use Rattle.node.specs.declared.Called.{Called}
 use Rattle.node.specs.Role.{keyIn}
-use Rattle.node.specs.Call.{Call, After, bar, refuse, nodeCall}
-use Rattle.node.proofs.Outcomes.{passed}
+use Rattle.node.specs.Call.{Call, After, nodeCall}
 use Rattle.node.proofs.Spreads.{role-spreading}
 use Rattle.host.specs.Records.{nodeOf, nodeNumbers, numbersAfter}
 use Rattle.host.specs.Table.{tableBytes, loaded}
 use Rattle.host.specs.States.{sideOf, stateOf, stateNumbers}
-use Rattle.host.specs.Call.{answerFrom, replyNumbers, callAnswer, callTable, Left, callLeft}
+use Rattle.host.specs.Call.{answerFrom, replyNumbers, Left, callLeft}
 use Rattle.host.specs.Widths.{RecordFits, TableFits, StateFits}
 use Rattle.host.proofs.Numbers.{saved-loads}
-use Rattle.host.proofs.Calls.{same-call, call-still}
+use Rattle.host.proofs.Calls.{call-still, call-passed, table-in}
 use Rattle.host.proofs.Fits.{put-fits, free-fits, key-fits, call-leaves, blank-fits, KeptFits, counted-fits, node-fits, node-address, loaded-fits}
 
 -- the record of an answer
@@ -61,13 +59,6 @@ answer-node b = go (b .reply) (b .node)
 call-address : (r : Record) (t : List ℕ) (c : Call) → nodeCall r t c .called .node .address ≡ r .address
 unfolding clocked tallied
 call-address r t c = call-leaves r t c (λ r′ _. r′ .address ≡ r .address) refl (λ _ _. refl) refl
-
--- and isn't refused only where the record is good
-call-good : (r : Record) (t : List ℕ) (c : Call) → answerFrom (nodeCall r t c .called) .refusal ≡ 0 → recordBad r ≡ false
-unfolding nodeCall refuse answerFrom replyNumbers
-call-good r t c =
-    pick-case (λ (a : After). answerFrom (a .called) .refusal ≡ 0 → recordBad r ≡ false) (eqb (bar r t c) 0)
-    (λ e _. passed r t (c .clock) (c .interface) (c .names) (length (c .output)) (eqb-true (bar r t c) 0 e) .good) (λ e none. absurd (eqb-false (bar r t c) 0 e none))
 
 -- for readers
 
@@ -139,9 +130,9 @@ kept-back address f k given refused =
 -- A node call leaves what the node call on the table that its bytes hold leaves: the number of the refusal and the record.
 pub left-back : (r : Record) (bytes : List ℕ) (c : Call) (answer : List ℕ) → length bytes ≡ tableBytes
     → (callLeft r bytes c answer .refusal ≡ answerFrom (nodeCall r (loaded bytes) c .called) .refusal) × (callLeft r bytes c answer .node ≡ nodeCall r (loaded bytes) c .called .node)
-unfolding callLeft callAnswer
+unfolding callLeft
 left-back r bytes c answer sized =
-    rw (← same-call r bytes c (loaded bytes) sized refl)
+    rw (table-in bytes sized)
     (pick-case (λ (k : Left). (k .refusal ≡ answerFrom (n .called) .refusal) × (k .node ≡ n .called .node)) (eqb (answerFrom (n .called) .refusal) 0)
     (λ e. (sym (eqb-true (answerFrom (n .called) .refusal) 0 e), answer-node (n .called)))
     (λ e. (refl, sym (call-still c r (loaded bytes) (eqb-false (answerFrom (n .called) .refusal) 0 e) .0))))
@@ -152,11 +143,11 @@ left-back r bytes c answer sized =
 -- The bytes that it leaves hold the table that the node call leaves.
 pub table-back : (r : Record) (bytes : List ℕ) (c : Call) (answer : List ℕ) → length bytes ≡ tableBytes → Bytes bytes → c .clock < 2 ^ 64 → Bytes (c .message)
     → loaded (callLeft r bytes c answer .table) ≡ nodeCall r (loaded bytes) c .table
-unfolding callLeft callTable callAnswer pick
+unfolding callLeft
 table-back r bytes c answer sized are clock message =
-    rw (← same-call r bytes c (loaded bytes) sized refl)
+    rw (table-in bytes sized)
     (pick-case (λ (k : Left). loaded (k .table) ≡ n .table) (eqb (answerFrom (n .called) .refusal) 0)
-    (λ e. rw (eq-eqb (length bytes) tableBytes sized, e) (saved-loads (n .table) (call-table-fits r (loaded bytes) c clock message (loaded-fits bytes are))))
+    (λ e. saved-loads (n .table) (call-table-fits r (loaded bytes) c clock message (loaded-fits bytes are)))
     (λ e. sym (call-still c r (loaded bytes) (eqb-false (answerFrom (n .called) .refusal) 0 e) .1)))
   where
     n : After
@@ -173,6 +164,6 @@ numbers-back address f bytes c answer sized =
     kept-back address f (keeps (callLeft r bytes c answer .refusal) (callLeft r bytes c answer .node))
     (λ e. (
       subst RecordFits (sym same) (call-record-fits r t c (node-fits address f)),
-      ap (λ (x : Record). x .address) same ∙ call-address r t c ∙ node-address address f (call-good r t c (sym number ∙ e)),
+      ap (λ (x : Record). x .address) same ∙ call-address r t c ∙ node-address address f (call-passed r t c (sym number ∙ e) .good),
     ))
     (λ ne. same ∙ call-still c r t (λ e. ne (number ∙ e)) .0) ∙ same
