@@ -70,11 +70,11 @@ call-back address f bytes c answer sized are clock message =
     (numbers-back address f bytes c answer sized, table-back (nodeOf address f) bytes c answer sized are clock message)
 
 -- The numbers that a step leaves say the state that it leaves, for a next step by either side.
-pub step-back : (f message : List ℕ) (side next : ℕ) → side ≤ 1 → next ≤ 1 → Bytes message
+pub step-back : (f message : List ℕ) (side next : ℕ) → side ≤ 1 → next ≤ 1
     → stateOf (stateAfter f message side) next ≡ after (stateOf f side) (step (stateOf f side) message (sideOf side))
 unfolding stateAfter numbersFrom after stateOf pick
-step-back f message side next l m bytes = go (step (stateOf f side) message (sideOf side)) refl
+step-back f message side next l m = go (step (stateOf f side) message (sideOf side)) refl
   where
     go : (x : Stepped) → step (stateOf f side) message (sideOf side) ≡ x → stateOf (numbersFrom x f) next ≡ after (stateOf f side) x
     go (Refused number) e = rw (le-ltb 1 next m, le-ltb 1 side l) refl
-    go (Moved s) e = state-back s next m (step-fits (stateOf f side) message (sideOf side) s bytes (state-fits f side) e)
+    go (Moved s) e = state-back s next m (step-fits (stateOf f side) message (sideOf side) s (state-fits f side) e)

@@ -25,7 +25,7 @@ use Rattle.node_state.specs.declared.key.Key.{Key}
 use Rattle.node_state.specs.Record.{setLinks, linked, clocked}
 use Rattle.node_state.specs.Table.{cell, tableBad, rowLife, freed, putRow, lowestFree, isKnown}
 use Rattle.node.specs.Role.{roleOf, RoleIn, keyIn}
-use Rattle.node.specs.Call.{Call, After, barred, refuse, quiet, laterVerdict, verdictOn, answered, relayed, carriedOut, taken, received, nodeCall}
+use Rattle.node.specs.Call.{Call, After, bar, refuse, quiet, laterVerdict, verdictOn, answered, relayed, carriedOut, taken, received, nodeCall}
 use Rattle.node.specs.Passed.{Passed}
 use Rattle.node.specs.History.{isRelay, saysRelay}
 use Rattle.node_state.proofs.Rows.{Holds, put-other, same-holds, free-admitted, life-least, free-keeps, lowest-zero, unknown, row-admitted}
@@ -86,10 +86,9 @@ module _ (r : Record) (t : List ℕ) (c : Call) where
   pub view : View r t c (nodeCall r t c)
   unfolding nodeCall
   view =
-      let n = barred r t (c .clock) (c .interface) (c .names) (length (c .output)) in
-      pick-case (View r t c) (eqb n 0)
-      (λ e. received-view (passed r t (c .clock) (c .interface) (c .names) (length (c .output)) (eqb-true n 0 e)) (readOf (c .message)) refl)
-      (λ e. refuse-view n)
+      pick-case (View r t c) (eqb (bar r t c) 0)
+      (λ e. received-view (passed r t (c .clock) (c .interface) (c .names) (length (c .output)) (eqb-true (bar r t c) 0 e)) (readOf (c .message)) refl)
+      (λ e. refuse-view (bar r t c))
 
 -- ---- setting links
 

@@ -1,10 +1,12 @@
 -- The node call on a table of bytes by the way that its code takes.
 -- Assumes nothing.
 use Prim.Native.Nat.{ℕ}
-use mathlib.Core.Path.{_≡_, refl, ap, _∙_}
+use mathlib.Core.Path.{_≡_, refl, sym, ap, _∙_}
 use mathlib.Core.List.{List, [], _∷_}
+use native.Mathlib.Omega.{arith}
 use lib.ListN.{length}
-use borrow.Author.Tests.{eq-eqb, ne-eqb, eqb-true}
+use lib.Dec.{eqb}
+use borrow.Author.Tests.{eq-eqb, ne-eqb, eqb-true, eqb-false}
 use Rattle.base.specs.Pick.{pick}
 use Rattle.base.proofs.Picks.{pick-case, both}
 use Rattle.message.specs.declared.Reading.{Reading}
@@ -17,45 +19,14 @@ use Rattle.node.specs.declared.role.Spread.{Spread}
 use Rattle.node.specs.declared.role.Role.{Role}
 use Rattle.node_state.specs.Record.{clocked}
 use Rattle.node_state.specs.Table.{freed}
+use Rattle.node_state.proofs.Rows.{table-sized}
 use Rattle.node.specs.Role.{roleOf}
-use Rattle.node.specs.Call.{Call, After, afterOf, refuse, quiet, verdictOn, answered, relayed, carriedOut, taken, received, nodeCall}
+use Rattle.node.specs.Passed.{Passed}
+use Rattle.node.proofs.Outcomes.{passed}
+use Rattle.node.specs.Call.{Call, After, afterOf, bar, refuse, quiet, verdictOn, answered, relayed, carriedOut, taken, received, nodeCall}
 use Rattle.host.specs.declared.call.Answer as A
 use Rattle.host.specs.Table.{tableBytes, loaded, saved}
-use Rattle.host.specs.Call.{answerFrom, tableIn, afterCall, callAnswer, callTable, callOutput, answerNumbers, replyNumbers, leftOf, callLeft}
-
--- a call over the bytes of a table is one over its numbers
-pub same-call : (r : Record) (bytes : List ℕ) (c : Call) (numbers : List ℕ) → length bytes ≡ tableBytes → numbers ≡ loaded bytes → nodeCall r numbers c ≡ afterCall r bytes c
-unfolding afterCall tableIn pick
-same-call r bytes c numbers sized are = rw (eq-eqb (length bytes) tableBytes sized, ← are)
-
-module _ (r : Record) (bytes : List ℕ) (c : Call) (b : Called) (t out : List ℕ) (a : A.Answer) (is : a ≡ answerFrom b) where
-  -- what follows from what the call gave
-  answers : afterOf b t out ≡ afterCall r bytes c → (a ≡ callAnswer r bytes c) × (out ≡ callOutput r bytes c)
-  unfolding callAnswer callOutput
-  answers e = (is ∙ ap (λ (z : After). answerFrom (z .called)) e, ap (λ (z : After). z .output) e)
-
-  pub other-length : (length bytes ≡ tableBytes → ⊥) → afterOf b t out ≡ nodeCall r (0 ∷ []) c
-      → (a ≡ callAnswer r bytes c) × (bytes ≡ callTable r bytes c) × (out ≡ callOutput r bytes c)
-  unfolding callTable afterCall tableIn pick
-  other-length ne e =
-      let same : afterOf b t out ≡ afterCall r bytes c = rw (ne-eqb (length bytes) tableBytes ne) e in
-      let (answered, left) = answers same in
-      (answered, rw (ne-eqb (length bytes) tableBytes ne) refl, left)
-
-  module _ (numbers : List ℕ) (sized : length bytes ≡ tableBytes) (numbers-are : numbers ≡ loaded bytes) (e : afterOf b t out ≡ nodeCall r numbers c) where
-    pub call-refused : (a .refusal ≡ 0 → ⊥) → (a ≡ callAnswer r bytes c) × (bytes ≡ callTable r bytes c) × (out ≡ callOutput r bytes c)
-    unfolding callTable pick
-    call-refused ne =
-        let same : afterOf b t out ≡ afterCall r bytes c = e ∙ same-call r bytes c numbers sized numbers-are in
-        let (answered, left) = answers same in
-        (answered, rw (eq-eqb (length bytes) tableBytes sized, ← answered, ne-eqb (a .refusal) 0 ne) refl, left)
-
-    pub call-given : (after : List ℕ) → a .refusal ≡ 0 → after ≡ saved t → (a ≡ callAnswer r bytes c) × (after ≡ callTable r bytes c) × (out ≡ callOutput r bytes c)
-    unfolding callTable pick
-    call-given after none after-is =
-        let same : afterOf b t out ≡ afterCall r bytes c = e ∙ same-call r bytes c numbers sized numbers-are in
-        let (answered, left) = answers same in
-        (answered, rw (eq-eqb (length bytes) tableBytes sized, ← answered, eq-eqb (a .refusal) 0 none) (after-is ∙ ap (λ (z : After). saved (z .table)) same), left)
+use Rattle.host.specs.Call.{answerFrom, tableIn, answerNumbers, replyNumbers, leftOf, callLeft}
 
 -- ---- what a refusal leaves
 
@@ -95,23 +66,41 @@ module _ (c : Call) where
   unfolding nodeCall
   call-still r t = both (Still r t) _ (received-still r t (readOf (c .message))) (refuse-still r t _)
 
-module _ (r : Record) (bytes : List ℕ) (c : Call) (ne : callAnswer r bytes c .refusal ≡ 0 → ⊥) where
-  pub table-still : callTable r bytes c ≡ bytes
-  unfolding callTable
-  table-still = both (λ (z : List ℕ). z ≡ bytes) _ (pick-case (λ (z : List ℕ). z ≡ bytes) _ (λ e. absurd (ne (eqb-true _ _ e))) (λ e. refl)) refl
+-- a call that isn't refused passes 12 to 17
+pub call-passed : (r : Record) (t : List ℕ) (c : Call) → answerFrom (nodeCall r t c .called) .refusal ≡ 0 → Passed r t (c .clock) (c .interface) (length (c .output))
+unfolding nodeCall refuse answerFrom replyNumbers
+call-passed r t c =
+    pick-case (λ (a : After). answerFrom (a .called) .refusal ≡ 0 → Passed r t (c .clock) (c .interface) (length (c .output))) (eqb (bar r t c) 0)
+    (λ e _. passed r t (c .clock) (c .interface) (c .names) (length (c .output)) (eqb-true (bar r t c) 0 e)) (λ e none. absurd (eqb-false (bar r t c) 0 e none))
 
-  output-still : callOutput r bytes c ≡ c .output
-  unfolding callOutput callAnswer afterCall
-  output-still = call-still c r (tableIn bytes) ne .2
+-- ---- a table of bytes
 
-module _ (r : Record) (bytes : List ℕ) (c : Call) (answer : List ℕ) (a : A.Answer) (table out : List ℕ)
-    (answered : a ≡ callAnswer r bytes c) (left : table ≡ callTable r bytes c) (written : out ≡ callOutput r bytes c) where
-  pub left-refused : (a .refusal ≡ 0 → ⊥) → leftOf (a .refusal) r table out answer ≡ callLeft r bytes c answer
+-- bytes of a table's length hold their numbers
+pub table-in : (bytes : List ℕ) → length bytes ≡ tableBytes → tableIn bytes ≡ loaded bytes
+unfolding tableIn pick
+table-in bytes sized = rw (eq-eqb (length bytes) tableBytes sized) refl
+
+module _ (r : Record) (bytes : List ℕ) (c : Call) (answer : List ℕ) (b : Called) (t out : List ℕ) (a : A.Answer) (is : a ≡ answerFrom b) where
+  left-refused : afterOf b t out ≡ nodeCall r (tableIn bytes) c → (a .refusal ≡ 0 → ⊥) → leftOf (a .refusal) r bytes out answer ≡ callLeft r bytes c answer
   unfolding callLeft pick
-  left-refused ne =
-      let still : callAnswer r bytes c .refusal ≡ 0 → ⊥ = rw answered at ne in
-      rw (left ∙ table-still r bytes c still, written ∙ output-still r bytes c still, ← answered, ne-eqb (a .refusal) 0 ne) refl
+  left-refused e ne =
+      let same : out ≡ c .output = ap (λ (z : After). z .output) e ∙ call-still c r (tableIn bytes) (rw (is ∙ ap (λ (z : After). answerFrom (z .called)) e) at ne) .2 in
+      rw (← e, ← is, ne-eqb (a .refusal) 0 ne, same) refl
 
-  pub left-given : a .refusal ≡ 0 → leftOf 0 (a .node) table out (answerNumbers a) ≡ callLeft r bytes c answer
-  unfolding callLeft pick
-  left-given none = rw (← answered, ← left, ← written, eq-eqb (a .refusal) 0 none) refl
+  -- a table of another length is refused
+  pub other-length : (length bytes ≡ tableBytes → ⊥) → afterOf b t out ≡ nodeCall r (0 ∷ []) c → leftOf (a .refusal) r bytes out answer ≡ callLeft r bytes c answer
+  unfolding tableIn pick
+  other-length ne e =
+      left-refused (rw (ne-eqb (length bytes) tableBytes ne) e)
+      (λ none. omega (arith, table-sized (c .clock) (0 ∷ []) (call-passed r (0 ∷ []) c (ap (λ (z : After). answerFrom (z .called) .refusal) (sym e) ∙ ap (λ (z : A.Answer). z .refusal) (sym is) ∙ none) .table)))
+
+  module _ (numbers : List ℕ) (sized : length bytes ≡ tableBytes) (numbers-are : numbers ≡ loaded bytes) (e : afterOf b t out ≡ nodeCall r numbers c) where
+    in-bytes : afterOf b t out ≡ nodeCall r (tableIn bytes) c
+    in-bytes = rw (table-in bytes sized, ← numbers-are) e
+
+    pub call-refused : (a .refusal ≡ 0 → ⊥) → leftOf (a .refusal) r bytes out answer ≡ callLeft r bytes c answer
+    call-refused = left-refused in-bytes
+
+    pub call-given : (after : List ℕ) → a .refusal ≡ 0 → after ≡ saved t → leftOf 0 (a .node) after out (answerNumbers a) ≡ callLeft r bytes c answer
+    unfolding callLeft pick
+    call-given after none after-is = rw (← in-bytes, ← is, eq-eqb (a .refusal) 0 none, after-is) refl

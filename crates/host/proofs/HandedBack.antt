@@ -3,38 +3,29 @@
 use Prim.Native.Nat.{ℕ, _^_, _≤_, _<_}
 use mathlib.Core.Path.{_≡_, refl, sym, ap, _∙_, subst}
 use mathlib.Core.List.{List}
-use mathlib.Core.Bool.{false}
 use native.Mathlib.Nat.{le-trans}
 use native.Mathlib.Omega.{arith}
 use lib.Pow.{pow-mono}
 use lib.Dec.{leb, eqb}
 use lib.ListN.{length, drop}
-use borrow.Author.Tests.{lt-leb, le-ltb, leb-false, eqb-true, eqb-false, eq-eqb}
+use borrow.Author.Tests.{lt-leb, le-ltb, leb-false, eqb-true, eqb-false}
 use Rattle.base.specs.Pick.{pick}
 use Rattle.base.specs.BigEndian.{Bytes}
 use Rattle.base.proofs.Picks.{pick-case}
 use Rattle.base.proofs.Parts.{bytes-drop, bytes-take}
-use Rattle.cbor.specs.Tree.{Item}
 use Rattle.options.specs.Text.{held}
-use Rattle.options.specs.declared.objective.Objective.{Objective}
-use Rattle.syntax.specs.Message.{Msg}
-use Rattle.grammar.specs.Cddl.{Value, Number, MessageItem}
-use Rattle.exact.specs.Describes.{Describes}
-use Rattle.exact.proofs.Exact.{accepted-exactly, accepted-described}
 use Rattle.message.specs.Opening.{mostNumber}
 use Rattle.message.specs.declared.Message.{Message}
-use Rattle.message.specs.declared.Message.the-variants as M
 use Rattle.message.specs.declared.Reading.{Reading}
 use Rattle.message.specs.Read.{readOf}
-use Rattle.contents.specs.Fields.{sessionOf}
 use Rattle.negotiation.specs.declared.Side.{Side}
 use Rattle.negotiation.specs.declared.Side.the-variants.{Us, Them}
 use Rattle.negotiation.specs.declared.State.{State}
 use Rattle.negotiation.specs.declared.State.the-variants.{Fresh, Open, Closed}
 use Rattle.negotiation.specs.declared.Stepped.the-variants.{Moved}
 use Rattle.negotiation.specs.Step.{step}
-use Rattle.negotiation.specs.Allowed.{KindAndSession, Allowed}
-use Rattle.negotiation.proofs.Accepted.{moved-exactly, request-opens}
+use Rattle.negotiation.specs.Allowed.{Allowed}
+use Rattle.negotiation.proofs.Accepted.{moved-exactly, session-most, count-most}
 use Rattle.node_state.specs.declared.Record.{Record}
 use Rattle.node_state.specs.declared.Kept.{Kept}
 use Rattle.node_state.specs.Record.{linksBad, recordBad, keeps, fresh, linked, setLinks, clocked, tallied}
@@ -44,43 +35,16 @@ use Rattle.node.specs.declared.Reply.{Reply}
 use Rattle.node.specs.declared.Reply.the-variants.{Refused, Given}
 use Rattle.node.specs.declared.Called.{Called}
 use Rattle.node.specs.Role.{keyIn}
-use Rattle.node.specs.Call.{Call, After, barred, refuse, nodeCall}
-use Rattle.node.proofs.Outcomes.{passed}
+use Rattle.node.specs.Call.{Call, After, nodeCall}
 use Rattle.node.proofs.Spreads.{role-spreading}
 use Rattle.host.specs.Records.{nodeOf, nodeNumbers, numbersAfter}
 use Rattle.host.specs.Table.{tableBytes, loaded}
 use Rattle.host.specs.States.{sideOf, stateOf, stateNumbers}
-use Rattle.host.specs.Call.{answerFrom, replyNumbers, callAnswer, callTable, Left, callLeft}
+use Rattle.host.specs.Call.{answerFrom, replyNumbers, Left, callLeft}
 use Rattle.host.specs.Widths.{RecordFits, TableFits, StateFits}
 use Rattle.host.proofs.Numbers.{saved-loads}
-use Rattle.host.proofs.Calls.{same-call, call-still}
+use Rattle.host.proofs.Calls.{call-still, call-passed, table-in}
 use Rattle.host.proofs.Fits.{put-fits, free-fits, key-fits, call-leaves, blank-fits, KeptFits, counted-fits, node-fits, node-address, loaded-fits}
-
--- a Request's session
-request-session : (message : List ℕ) (m : Message) {session : ℕ} → Bytes message → readOf message ≡ Reading.Read m → KindAndSession m 3 session → session < 2 ^ 32
-unfolding sessionOf
-request-session message m {session} bytes read names =
-    let a = accepted-exactly message bytes .0 (m, read) in
-    go m (accepted-described message m read a) (a .message .is) names
-  where
-    by : {o : Objective} {n : ℕ} {msg : Msg Value} {x : Item} → Describes message (M.RequestNegotiation n o) msg → MessageItem x msg → n ≤ mostNumber
-    by (Describes.request-negotiation k s o) (MessageItem.request-negotiation (Number.number l) i) = l
-
-    go : (m : Message) {msg : Msg Value} {x : Item} → Describes message m msg → MessageItem x msg → KindAndSession m 3 session → session < 2 ^ 32
-    go (M.RequestNegotiation n o) d i names =
-        let e = names .ofSession in
-        let same : n ≡ session = cc in
-        omega (arith, by d i)
-    go M.Noop d i names = absurd (omega (arith, names .ofKind))
-    go (M.Discovery n from o) d i names = absurd (omega (arith, names .ofKind))
-    go (M.Response n from ttl targets extra) d i names = absurd (omega (arith, names .ofKind))
-    go (M.RequestSynchronization n o) d i names = absurd (omega (arith, names .ofKind))
-    go (M.Negotiate n o) d i names = absurd (omega (arith, names .ofKind))
-    go (M.End n outcome) d i names = absurd (omega (arith, names .ofKind))
-    go (M.Wait n time) d i names = absurd (omega (arith, names .ofKind))
-    go (M.Synch n o) d i names = absurd (omega (arith, names .ofKind))
-    go (M.Flood n from ttl first pairs) d i names = absurd (omega (arith, names .ofKind))
-    go (M.Invalid n item) d i names = absurd (omega (arith, names .ofKind))
 
 -- the record of an answer
 answer-node : (b : Called) → answerFrom b .node ≡ b .node
@@ -95,14 +59,6 @@ answer-node b = go (b .reply) (b .node)
 call-address : (r : Record) (t : List ℕ) (c : Call) → nodeCall r t c .called .node .address ≡ r .address
 unfolding clocked tallied
 call-address r t c = call-leaves r t c (λ r′ _. r′ .address ≡ r .address) refl (λ _ _. refl) refl
-
--- and isn't refused only where the record is good
-call-good : (r : Record) (t : List ℕ) (c : Call) → answerFrom (nodeCall r t c .called) .refusal ≡ 0 → recordBad r ≡ false
-unfolding nodeCall refuse answerFrom replyNumbers
-call-good r t c =
-    let n = barred r t (c .clock) (c .interface) (c .names) (length (c .output)) in
-    pick-case (λ (a : After). answerFrom (a .called) .refusal ≡ 0 → recordBad r ≡ false) (eqb n 0)
-    (λ e _. passed r t (c .clock) (c .interface) (c .names) (length (c .output)) (eqb-true n 0 e) .good) (λ e none. absurd (eqb-false n 0 e none))
 
 -- for readers
 
@@ -154,20 +110,14 @@ call-table-fits r t c clock bytes w =
     clock freed-fits) w
 
 -- A state that a step leads to fits, where the one before it did.
-pub step-fits : (s : State) (message : List ℕ) (sender : Side) (next : State) → Bytes message → StateFits s → step s message sender ≡ Moved next → StateFits next
-step-fits s message sender next bytes fits moved =
-    let (m, read, allowed) = moved-exactly s message sender next .0 moved in
-    go read allowed fits moved
+pub step-fits : (s : State) (message : List ℕ) (sender : Side) (next : State) → StateFits s → step s message sender ≡ Moved next → StateFits next
+step-fits s message sender next fits moved = let (m, read, allowed) = moved-exactly s message sender next .0 moved in go read allowed fits
   where
-    go : {m : Message} {s next : State} → readOf message ≡ Reading.Read m → Allowed sender m s next → StateFits s → step s message sender ≡ Moved next → StateFits next
-    go {m} {s} {next} read (Allowed.request {count = count} n c least) f moved =
-        let o = request-opens s message sender next m read (n .ofKind) moved in
-        let after = o .after in
-        let same : count ≡ o .count = cc in
-        (request-session message m bytes read n, omega (arith, o .most))
-    go read (Allowed.negotiate n c least lower) f moved = (f .0, omega (arith, f .1))
-    go read (Allowed.wait n some) f moved = f
-    go read (Allowed.end n some) f moved = tt
+    go : {m : Message} {s next : State} → readOf message ≡ Reading.Read m → Allowed sender m s next → StateFits s → StateFits next
+    go read (Allowed.request n c least) f = (omega (arith, session-most message _ _ read (n .ofSession)), omega (arith, count-most message _ _ read c))
+    go read (Allowed.negotiate n c least lower) f = (f .0, omega (arith, f .1))
+    go read (Allowed.wait n some) f = f
+    go read (Allowed.end n some) f = tt
 
 -- The numbers that are put are those of the record that is kept.
 pub kept-back : (address f : List ℕ) (k : Kept) → (k .refusal ≡ 0 → RecordFits (k .node) × (k .node .address ≡ address)) → ((k .refusal ≡ 0 → ⊥) → k .node ≡ nodeOf address f)
@@ -180,9 +130,9 @@ kept-back address f k given refused =
 -- A node call leaves what the node call on the table that its bytes hold leaves: the number of the refusal and the record.
 pub left-back : (r : Record) (bytes : List ℕ) (c : Call) (answer : List ℕ) → length bytes ≡ tableBytes
     → (callLeft r bytes c answer .refusal ≡ answerFrom (nodeCall r (loaded bytes) c .called) .refusal) × (callLeft r bytes c answer .node ≡ nodeCall r (loaded bytes) c .called .node)
-unfolding callLeft callAnswer
+unfolding callLeft
 left-back r bytes c answer sized =
-    rw (← same-call r bytes c (loaded bytes) sized refl)
+    rw (table-in bytes sized)
     (pick-case (λ (k : Left). (k .refusal ≡ answerFrom (n .called) .refusal) × (k .node ≡ n .called .node)) (eqb (answerFrom (n .called) .refusal) 0)
     (λ e. (sym (eqb-true (answerFrom (n .called) .refusal) 0 e), answer-node (n .called)))
     (λ e. (refl, sym (call-still c r (loaded bytes) (eqb-false (answerFrom (n .called) .refusal) 0 e) .0))))
@@ -193,13 +143,11 @@ left-back r bytes c answer sized =
 -- The bytes that it leaves hold the table that the node call leaves.
 pub table-back : (r : Record) (bytes : List ℕ) (c : Call) (answer : List ℕ) → length bytes ≡ tableBytes → Bytes bytes → c .clock < 2 ^ 64 → Bytes (c .message)
     → loaded (callLeft r bytes c answer .table) ≡ nodeCall r (loaded bytes) c .table
-unfolding callLeft callTable callAnswer pick
+unfolding callLeft
 table-back r bytes c answer sized are clock message =
-    rw (← same-call r bytes c (loaded bytes) sized refl)
+    rw (table-in bytes sized)
     (pick-case (λ (k : Left). loaded (k .table) ≡ n .table) (eqb (answerFrom (n .called) .refusal) 0)
-    (λ e.
-    let w = call-table-fits r (loaded bytes) c clock message (loaded-fits bytes are) in
-    rw (eq-eqb (length bytes) tableBytes sized, e) (saved-loads (n .table) (w .sized) (w .wide)))
+    (λ e. saved-loads (n .table) (call-table-fits r (loaded bytes) c clock message (loaded-fits bytes are)))
     (λ e. sym (call-still c r (loaded bytes) (eqb-false (answerFrom (n .called) .refusal) 0 e) .1)))
   where
     n : After
@@ -216,6 +164,6 @@ numbers-back address f bytes c answer sized =
     kept-back address f (keeps (callLeft r bytes c answer .refusal) (callLeft r bytes c answer .node))
     (λ e. (
       subst RecordFits (sym same) (call-record-fits r t c (node-fits address f)),
-      ap (λ (x : Record). x .address) same ∙ call-address r t c ∙ node-address address f (call-good r t c (sym number ∙ e)),
+      ap (λ (x : Record). x .address) same ∙ call-address r t c ∙ node-address address f (call-passed r t c (sym number ∙ e) .good),
     ))
     (λ ne. same ∙ call-still c r t (λ e. ne (number ∙ e)) .0) ∙ same

@@ -15,6 +15,7 @@ use Rattle.base.proofs.Digits.{length-bytes, read-back, spelled}
 use Rattle.base.proofs.Parts.{bytes-drop, drop-past}
 use Rattle.node_state.specs.Table.{tableNumbers}
 use Rattle.host.specs.Table.{tableBytes, numbersIn, loaded, saved}
+use Rattle.host.specs.Widths.{TableFits}
 
 -- ---- the loops: what is left of the whole, put from here on, gives the whole
 
@@ -114,9 +115,9 @@ bytes-loaded (suc n) b h l =
 -- for readers
 
 -- Loading what was saved gives the table back.
-pub saved-loads : (t : List ℕ) → length t ≡ tableNumbers → Every (λ x. x < 2 ^ 64) t → loaded (saved t) ≡ t
+pub saved-loads : (t : List ℕ) → TableFits t → loaded (saved t) ≡ t
 unfolding loaded
-saved-loads t e h = rw (← e) (numbers-saved t h)
+saved-loads t h = rw (← (h .sized)) (numbers-saved t (h .wide))
 
 -- Saving what was loaded gives the bytes back.
 pub loaded-saves : (b : List ℕ) → length b ≡ tableBytes → Bytes b → saved (loaded b) ≡ b

@@ -11,7 +11,7 @@ use Rattle.node.specs.declared.Verdict.the-variants.{Own, Answer, Duplicate, La
 use Rattle.node.specs.declared.Reply.{Reply}
 use Rattle.node.specs.declared.Reply.the-variants.{Refused, Given}
 use Rattle.node.specs.declared.Called.{Called}
-use Rattle.node.specs.Call.{Call, After, nodeCall}
+use Rattle.node.specs.Call.{Call, nodeCall}
 use Rattle.host.specs.declared.call.Answer as A
 use Rattle.host.specs.Table.{tableBytes, loaded, saved}
 
@@ -45,20 +45,6 @@ answerFrom b = replyNumbers (b .reply) (b .node)
 unfoldable pub tableIn : List ℕ → List ℕ
 tableIn bytes = pick (eqb (length bytes) tableBytes) (loaded bytes) (0 ∷ [])
 
-module _ (r : Record) (bytes : List ℕ) (c : Call) where
-  unfoldable pub afterCall : After
-  afterCall = nodeCall r (tableIn bytes) c
-
-  unfoldable pub callAnswer : A.Answer
-  callAnswer = answerFrom (afterCall .called)
-
-  -- the bytes stay where the call is refused
-  unfoldable pub callTable : List ℕ
-  callTable = pick (eqb (length bytes) tableBytes) (pick (eqb (callAnswer .refusal) 0) (saved (afterCall .table)) bytes) bytes
-
-  unfoldable pub callOutput : List ℕ
-  callOutput = afterCall .output
-
 -- the answer's four numbers
 unfoldable pub answerNumbers : A.Answer → List ℕ
 answerNumbers a = a .verdict ∷ a .«handed_up» ∷ a .mask ∷ a .length ∷ []
@@ -78,5 +64,6 @@ leftOf refusal node table output answer = record { refusal = refusal; node = nod
 -- a refusal leaves all as it was
 unfoldable pub callLeft : Record → List ℕ → Call → List ℕ → Left
 callLeft r bytes c answer =
-    let a = callAnswer r bytes c in
-    pick (eqb (a .refusal) 0) (leftOf 0 (a .node) (callTable r bytes c) (callOutput r bytes c) (answerNumbers a)) (leftOf (a .refusal) r bytes (c .output) answer)
+    let after = nodeCall r (tableIn bytes) c in
+    let a = answerFrom (after .called) in
+    pick (eqb (a .refusal) 0) (leftOf 0 (a .node) (saved (after .table)) (after .output) (answerNumbers a)) (leftOf (a .refusal) r bytes (c .output) answer)

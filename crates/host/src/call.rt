@@ -1,7 +1,7 @@
 // The node call on a table of 2,048 bytes, with its answer as numbers.
 ghost use mathlib.Core.Path.{_≡_};
 ghost use Rattle.node.specs.Call.{callOf};
-ghost use Rattle.host.specs.Call.{verdictNumber, upNumber, answerFrom, callAnswer, callTable, callOutput, leftOf, callLeft};
+ghost use Rattle.host.specs.Call.{verdictNumber, upNumber, answerFrom, leftOf, callLeft};
 use crate::table;
 use node::Called;
 use node::Reply;
@@ -34,11 +34,22 @@ pub fn call_into(
 ) -> Kept
     ensures { λ r. ⌜ leftOf (r .refusal) (r .node) (now (bytes .exit)) (now (out .exit)) (now (answer .exit)) ≡ callLeft node (now (bytes .entry)) (callOf clock interface (now (names .entry)) (now (message .entry)) (now (out .entry))) (now (answer .entry)) ⌝ }
 {
-    let a = call_with(node, bytes, clock, interface, names, message, out);
+    if bytes.len() != 2048 {
+        let mut none = [0u64; 1];
+        let called = call::node_call(node, &mut none, clock, interface, names, message, out);
+        let a = answer_from(called);
+        let refusal = a.refusal;
+        return Kept { refusal, node };
+    }
+    let mut numbers = [0u64; 256];
+    table::load(bytes, &mut numbers);
+    let called = call::node_call(node, &mut numbers, clock, interface, names, message, out);
+    let a = answer_from(called);
     let refusal = a.refusal;
     if refusal != 0 {
         return Kept { refusal, node };
     }
+    table::save(&numbers, bytes);
     *answer = [
         a.verdict as u64,
         a.handed_up as u64,
@@ -50,35 +61,6 @@ pub fn call_into(
         refusal: 0,
         node: next,
     }
-}
-
-// The node call on a table of bytes.
-fn call_with(
-    node: Record,
-    bytes: &mut [u8],
-    clock: u64,
-    interface: u64,
-    names: &[u8],
-    message: &[u8],
-    out: &mut [u8],
-) -> Answer
-    ensures { λ r. ⌜ r ≡ callAnswer node (now (bytes .entry)) (callOf clock interface (now (names .entry)) (now (message .entry)) (now (out .entry))) ⌝ }
-    ensures { λ r. ⌜ now (bytes .exit) ≡ callTable node (now (bytes .entry)) (callOf clock interface (now (names .entry)) (now (message .entry)) (now (out .entry))) ⌝ }
-    ensures { λ r. ⌜ now (out .exit) ≡ callOutput node (now (bytes .entry)) (callOf clock interface (now (names .entry)) (now (message .entry)) (now (out .entry))) ⌝ }
-{
-    if bytes.len() != 2048 {
-        let mut none = [0u64; 1];
-        let called = call::node_call(node, &mut none, clock, interface, names, message, out);
-        return answer_from(called);
-    }
-    let mut numbers = [0u64; 256];
-    table::load(bytes, &mut numbers);
-    let called = call::node_call(node, &mut numbers, clock, interface, names, message, out);
-    let answer = answer_from(called);
-    if answer.refusal == 0 {
-        table::save(&numbers, bytes);
-    }
-    answer
 }
 
 // An answer as numbers.

@@ -3,23 +3,25 @@
 use mathlib.Core.Path.{_≡_, refl, sym, ap, _∙_, subst}
 use mathlib.Core.Logic.{_↔_}
 use mathlib.Core.List.{List, [], _∷_}
-use Prim.Native.Nat.{ℕ}
+use Prim.Native.Nat.{ℕ, _≤_}
 use native.Mathlib.Omega.{arith}
 use Rattle.base.specs.Lists.{Every}
 use Rattle.message.specs.declared.Message.{Message}
 use Rattle.message.specs.declared.Reading.{Reading}
 use Rattle.message.specs.Read.{readOf}
-use Rattle.contents.specs.Fields.{kindOf}
+use Rattle.message.specs.Opening.{mostNumber}
+use Rattle.contents.specs.declared.fields.Session.{Session}
+use Rattle.contents.specs.Fields.{sessionOf}
 use Rattle.negotiation.specs.declared.Side.{Side}
 use Rattle.negotiation.specs.declared.State.{State}
 use Rattle.negotiation.specs.declared.State.the-variants.{Closed}
 use Rattle.negotiation.specs.declared.Stepped.{Stepped}
 use Rattle.negotiation.specs.declared.Stepped.the-variants.{Refused, Moved}
 use Rattle.negotiation.specs.Step.{moveOf, stateStep, readingStep, step}
-use Rattle.negotiation.specs.Allowed.{Allowed, Opened}
+use Rattle.negotiation.specs.Allowed.{HasCount, Allowed}
 use Rattle.negotiation.specs.Turns.{Sent, after, stepsOf}
-use Rattle.negotiation.proofs.Ways.{Judged, state-judged, allowed-moves, request-move}
-use Rattle.negotiation.proofs.Readings.{SmallMove, reading-number, reading-small}
+use Rattle.negotiation.proofs.Ways.{Judged, state-judged, allowed-moves}
+use Rattle.negotiation.proofs.Readings.{SmallSession, SmallCount, reading-number, reading-small}
 
 -- an answer is a refusal or a state
 refused-or-moved : {number : ℕ} {next : State} {x : Stepped} → x ≡ Refused number → x ≡ Moved next → ⊥
@@ -79,26 +81,13 @@ refused-exactly state message sender number other = (by (readOf message) refl, u
         e ∙ ap Reading.Refused same
     by (Reading.Read m) e q = absurd (other (judged state message sender e q))
 
--- A Request that is accepted opens a fresh state, with a count from 1 to 255, and then the other side has the turn.
-pub request-opens : (state : State) (message : List ℕ) (sender : Side) (next : State) (m : Message)
-    → readOf message ≡ Reading.Read m → kindOf m ≡ 3 → step state message sender ≡ Moved next → Opened sender m state next
-request-opens state message sender next m read kind moved = by (judged state message sender read moved)
-  where
-    by : {before after : State} → Allowed sender m before after → Opened sender m before after
-    by (Allowed.request {session} {count} n c least) =
-        record {
-          session = session;
-          count = count;
-          request = n;
-          counts = c;
-          least = least;
-          most = subst SmallMove (request-move n c) (reading-small message read);
-          before = refl;
-          after = refl;
-        }
-    by (Allowed.negotiate n c least lower) = absurd (omega (arith, kind, n .ofKind))
-    by (Allowed.wait n some) = absurd (omega (arith, kind, n .ofKind))
-    by (Allowed.end n some) = absurd (omega (arith, kind, n .ofKind))
+-- A message that is read has a session of 32 bits.
+pub session-most : (message : List ℕ) (m : Message) (session : ℕ) → readOf message ≡ Reading.Read m → sessionOf m ≡ Session.Number session → session ≤ mostNumber
+session-most message m session read is = subst SmallSession is (reading-small message read .0)
+
+-- A message that is read has a count of at most 255, so that a Request opens a state with a count from 1 to 255.
+pub count-most : (message : List ℕ) (m : Message) (count : ℕ) → readOf message ≡ Reading.Read m → HasCount m count → count ≤ 255
+count-most message m count read c = let few = subst SmallCount (c .has) (reading-small message read .1) in omega (arith, c .is)
 
 -- Closed is for good: every later step is refused.
 pub closed-for-good : (messages : List Sent) → Every (λ x. (next : State) → x .answer ≡ Moved next → ⊥) (stepsOf Closed messages)

@@ -148,7 +148,7 @@ move-by (M.Flood session initiator ttl first pairs) = refl
 move-by (M.Invalid session item) = refl
 
 module _ {m : Message} {session : ℕ} where
-  pub request-move : {count : ℕ} → KindAndSession m 3 session → HasCount m count → moveOf m ≡ Request session count
+  request-move : {count : ℕ} → KindAndSession m 3 session → HasCount m count → moveOf m ≡ Request session count
   unfolding moveBy counted pick
   request-move n c = move-by m ∙ rw (n .ofKind, n .ofSession, c .has, c .is)
 

@@ -29,14 +29,3 @@ pub data Allowed (sender : Side) (m : Message) : State → State → Type 0 wher
       → Allowed sender m (Open session count sender) (Open session lower (otherSide sender))
   wait : {session count : ℕ} → KindAndSession m 7 session → 1 ≤ count → Allowed sender m (Open session count sender) (Open session count sender)
   end : {session count : ℕ} → KindAndSession m 6 session → 1 ≤ count → Allowed sender m (Open session count sender) Closed
-
--- a Request opened the state: it was fresh, the count is from 1 to 255, and the other side has the turn
-pub record Opened (sender : Side) (m : Message) (state next : State) : Type 0 where
-  pub session : ℕ
-  pub count : ℕ
-  pub request : KindAndSession m 3 session
-  pub counts : HasCount m count
-  pub least : 1 ≤ count
-  pub most : count ≤ 255
-  pub before : state ≡ Fresh
-  pub after : next ≡ Open session count (otherSide sender)

@@ -32,7 +32,7 @@ use Rattle.node_state.specs.Table.{whereSized, freed, lowestFree, filled, isKno
 use Rattle.node.specs.Role.{roleOf, keyIn}
 use Rattle.cbor.specs.Put.{written}
 use Rattle.roundtrip.specs.Lower.{onward}
-use Rattle.node.specs.Call.{Call, callOf, After, afterOf, barred, replies, refuse, quiet, response, laterVerdict, verdictOn, answered, relayed, carriedOut, taken, received, nodeCall}
+use Rattle.node.specs.Call.{Call, callOf, After, afterOf, barred, bar, replies, refuse, quiet, response, laterVerdict, verdictOn, answered, relayed, carriedOut, taken, received, nodeCall}
 use Rattle.node.specs.Passed.{Passed, Ready}
 use Rattle.node_state.proofs.Masks.{record-links, record-tally}
 use Rattle.node_state.proofs.Rows.{of-sized, of-other, length-free, table-sized}
@@ -184,12 +184,12 @@ pub passed-freed : {r : Record} {t t′ : List ℕ} {clock i room : ℕ} → Pas
 passed-freed {t = t} {clock = clock} p e = e ∙ of-sized t (freed clock t) t (table-sized clock t (p .table))
 
 module _ (r : Record) (t : List ℕ) (c : Call) where
-  pub barred-outcome : (n : ℕ) (b : Called) → n ≡ barred r t (c .clock) (c .interface) (c .names) (length (c .output)) → (n ≡ 0 → ⊥) → b ≡ replies (Refused n) r
+  pub barred-outcome : (n : ℕ) (b : Called) → n ≡ bar r t c → (n ≡ 0 → ⊥) → b ≡ replies (Refused n) r
       → afterOf b t (c .output) ≡ nodeCall r t c
   unfolding nodeCall refuse pick
   barred-outcome n b is some e = rw (← is, ne-eqb n 0 some, e) refl
 
-  module _ (n : ℕ) (is : n ≡ barred r t (c .clock) (c .interface) (c .names) (length (c .output))) (none : n ≡ 0) where
+  module _ (n : ℕ) (is : n ≡ bar r t c) (none : n ≡ 0) where
     pub refused-outcome : (number : ℕ) (b : Called) → b ≡ replies (Refused number) r → readOf (c .message) ≡ Reading.Refused number → afterOf b t (c .output) ≡ nodeCall r t c
     unfolding nodeCall received refuse pick
     refused-outcome number b e read = rw (← is, none, read, e) refl

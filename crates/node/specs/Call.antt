@@ -57,6 +57,10 @@ barred r t clock interface names room =
     (pick (namesBad names) 16
     (pick (ltb room mostBytes) 17 0)))))
 
+-- the number that bars a call before its message is read, 0 for none
+abbrev pub bar : Record → List ℕ → Call → ℕ
+bar r t c = barred r t (c .clock) (c .interface) (c .names) (length (c .output))
+
 -- a reply beside the record
 abbrev pub replies : Reply → Record → Called
 replies reply r = record { reply = reply; node = r }
@@ -130,6 +134,4 @@ received r t c (Reading.Read m) = taken (clocked r (c .clock)) (freed (c .clock)
 
 -- one node call: 12 to 17, 0 for none of them, and then what comes of the message
 unfoldable pub nodeCall : Record → List ℕ → Call → After
-nodeCall r t c =
-    let n = barred r t (c .clock) (c .interface) (c .names) (length (c .output)) in
-    pick (eqb n 0) (received r t c (readOf (c .message))) (refuse n r t c)
+nodeCall r t c = pick (eqb (bar r t c) 0) (received r t c (readOf (c .message))) (refuse (bar r t c) r t c)

@@ -21,10 +21,9 @@ use Rattle.own_names.proofs.Exact.{names-exactly, names-refused}
 use Rattle.node_state.specs.declared.Record.{Record}
 use Rattle.node_state.specs.Record.{linksBad, recordBad, arrivalBad}
 use Rattle.node_state.specs.Table.{tableBad}
-use Rattle.node.specs.Call.{Call, barred}
+use Rattle.node.specs.Call.{Call, barred, bar}
 use Rattle.node_state.proofs.Masks.{up-le}
 use Rattle.verdicts.specs.Bars.{BadRecord, no-interface, many-interfaces, high-link, high-tally, BadArrival, Earlier, GoodTable, ShortOutput, Barred, bad-record, bad-arrival, bad-clock, bad-table, bad-names, short-output, nothing}
-use Rattle.verdicts.specs.Due.{bar}
 use Rattle.verdicts.proofs.Links.{below-power, top-off}
 use Rattle.verdicts.proofs.Rows.{table-good}
 

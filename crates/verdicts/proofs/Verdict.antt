@@ -13,8 +13,8 @@ use Rattle.node_state.specs.declared.Record.{Record}
 use Rattle.node.specs.declared.Verdict.{Verdict}
 use Rattle.node.specs.declared.Reply.{Reply}
 use Rattle.node.specs.declared.Reply.the-variants.{Refused, Given}
-use Rattle.node.specs.Call.{Call, After, afterOf, replies, refuse, nodeCall}
-use Rattle.verdicts.specs.Due.{rulesOn, Due, bar, Comes, barred-by, unread, given}
+use Rattle.node.specs.Call.{Call, After, afterOf, bar, replies, refuse, nodeCall}
+use Rattle.verdicts.specs.Due.{rulesOn, Due, Comes, barred-by, unread, given}
 use Rattle.verdicts.proofs.Ways.{first-once, read-verdicted, call-read, comes, comes-is, Says, says, says-given, says-once, no-refusal, does-say}
 
 module _ (r : Record) (t : List ℕ) (c : Call) where

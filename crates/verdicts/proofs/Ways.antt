@@ -34,12 +34,12 @@ use Rattle.node_state.specs.Record.{others, clocked}
 use Rattle.node_state.specs.Table.{freed, lowestFree, isKnown}
 use Rattle.node_state.specs.Key.{keyOf}
 use Rattle.node.specs.Role.{spreadOf, roleOf, keyIn}
-use Rattle.node.specs.Call.{Call, After, refuse, quiet, answered, relayed, laterVerdict, verdictOn, carriedOut, taken, received, nodeCall}
+use Rattle.node.specs.Call.{Call, After, bar, refuse, quiet, answered, relayed, laterVerdict, verdictOn, carriedOut, taken, received, nodeCall}
 use Rattle.node.specs.Passed.{Passed}
 use Rattle.node.specs.History.{isRelay}
 use Rattle.node_state.proofs.Keys.{key-used}
 use Rattle.node.proofs.Outcomes.{passed, arrives}
-use Rattle.verdicts.specs.Due.{OwnInitiator, Named, Known, Alone, Full, Rules, when, otherwise, First, discoveryRules, floodRules, rulesOn, Due, Does, sends-nothing, answers, relays-discovery, relays-flood, bar, Comes, barred-by, unread, given}
+use Rattle.verdicts.specs.Due.{OwnInitiator, Named, Known, Alone, Full, Rules, when, otherwise, First, discoveryRules, floodRules, rulesOn, Due, Does, sends-nothing, answers, relays-discovery, relays-flood, Comes, barred-by, unread, given}
 use Rattle.verdicts.specs.Bars.{Barred, nothing}
 use Rattle.verdicts.proofs.Bars.{fails, barred-exactly}
 use Rattle.verdicts.proofs.Rows.{known-live, full-exactly, lowest-most}

@@ -4,7 +4,6 @@ use mathlib.Core.Bool.{Bool, true, false}
 use mathlib.Core.List.{List, List·Memᴰ}
 use mathlib.Core.Logic.{_≢_, _⊎_}
 use mathlib.Core.Path.{_≡_}
-use lib.ListN.{length}
 use Rattle.options.specs.Text.{held}
 use Rattle.base.specs.Bits.{hasBit}
 use Rattle.options.specs.declared.Span.{Span}
@@ -24,7 +23,7 @@ use Rattle.node_state.specs.Record.{clocked}
 use Rattle.node_state.specs.Table.{freed}
 use Rattle.node_state.specs.Key.{keyOf}
 use Rattle.node.specs.Role.{spreadOf}
-use Rattle.node.specs.Call.{Call, After, barred, refuse, quiet, answered, relayed}
+use Rattle.node.specs.Call.{Call, After, bar, refuse, quiet, answered, relayed}
 use Rattle.verdicts.specs.Rows.{Live, HasKey}
 
 -- ---- the conditions
@@ -117,20 +116,8 @@ module _ (r : Record) (t : List ℕ) (c : Call) where
     relays-flood : {session ttl : ℕ} {i : Span} {first : Pair} {pairs : Series}
         → Does (M.Flood session i ttl first pairs) Relay true (relayed (clocked r (c .clock)) (freed (c .clock) t) c (spreadOf true session i (first .objective)))
 
-  -- the number that bars a call before its message is read, 0 for none
-  abbrev pub bar : ℕ
-  bar = barred r t (c .clock) (c .interface) (c .names) (length (c .output))
-
   -- refused by 12 to 17; else by the reading; else given the verdict that is due
   pub data Comes : After → Type 0 where
-    barred-by : (n : ℕ) → bar ≡ n → n ≢ 0 → Comes (refuse n r t c)
-    unread : (n : ℕ) → bar ≡ 0 → readOf (c .message) ≡ Reading.Refused n → Comes (refuse n r t c)
-    given : (m : Message) (v : Verdict) (up : Bool) {a : After} → bar ≡ 0 → readOf (c .message) ≡ Reading.Read m → Due m v up → Does m v up a → Comes a
-
--- a message of this kind is handed up with this verdict
-pub data HandedUp : ℕ → Verdict → Type 0 where
-  flood-last : HandedUp 9 Last
-  flood-nowhere : HandedUp 9 Nowhere
-  flood-norow : HandedUp 9 NoRow
-  flood-relay : HandedUp 9 Relay
-  hand : {kind : ℕ} → kind ≢ 0 → kind ≢ 1 → kind ≢ 9 → HandedUp kind Hand
+    barred-by : (n : ℕ) → bar r t c ≡ n → n ≢ 0 → Comes (refuse n r t c)
+    unread : (n : ℕ) → bar r t c ≡ 0 → readOf (c .message) ≡ Reading.Refused n → Comes (refuse n r t c)
+    given : (m : Message) (v : Verdict) (up : Bool) {a : After} → bar r t c ≡ 0 → readOf (c .message) ≡ Reading.Read m → Due m v up → Does m v up a → Comes a

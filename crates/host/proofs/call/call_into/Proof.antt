@@ -2,56 +2,103 @@
 -- Assumes nothing.
 use Rattle.node.specs.Call.{callOf}
 use Rattle.host.specs.Call.{answerNumbers}
-use Rattle.host.proofs.Calls.{left-refused, left-given}
+use Rattle.host.proofs.Calls.{other-length, call-refused, call-given}
 use borrow.Author.Needs.{needs}
 use Rattle.host.proofs.call.call_into.Statement.{statement}
 use Rattle.host.proofs.call.call_into.Tie as tie
 use Rattle.host.proofs.call.call_into.Reads as reads
 use Rattle.host.proofs.call.call_into.Lts as lts
-use Rattle.host.proofs.call.call_with.Reads as call-with-reads
+use Rattle.host.proofs.call.answer_from.Reads as answer-from-reads
+use Rattle.host.proofs.table.load.Reads as load-reads
+use Rattle.host.proofs.table.save.Reads as save-reads
+use Rattle.node.proofs.call.node_call.Reads as node-call-reads
 
-call-with-requires : tie.Need-call-with-requires
-call-with-requires c κs = search needs
+slice-aggregate-node-call : tie.Need-slice-aggregate-node-call
+slice-aggregate-node-call c = search needs
+
+node-call-requires : tie.Need-node-call-requires
+node-call-requires c κs = search needs
+
+answer-from-requires : tie.Need-answer-from-requires
+answer-from-requires c κs = search needs
 
 same-length : tie.Need-same-length
 same-length c = search needs
 
+returns : tie.Need-returns
+returns c = other-length (c .before .before .before .before .before .before .before .before .before .before .before .before .args .node) (c .before .before .before .before .before .before .before .before .before .before .before .before .args .bytes .now) (callOf (c .before .before .before .before .before .before .before .before .before .before .before .before .args .clock) (c .before .before .before .before .before .before .before .before .before .before .before .before .args .interface) (c .before .before .before .before .before .before .before .before .before .before .before .before .args .names .now) (c .before .before .before .before .before .before .before .before .before .before .before .before .args .message .now) (c .before .before .before .before .before .before .before .before .before .before .before .before .args .out .now)) (c .before .before .before .before .before .before .before .before .before .before .before .before .args .answer .now) _ _ _ _ (c .answer-from .ensures) (c .before .before .before .before .before .before .before .if1 .taken) (c .before .before .before .before .node-call .ensures)
+
+slice-aggregate-load : tie.Need-slice-aggregate-load
+slice-aggregate-load c = search needs
+
+load-requires : tie.Need-load-requires
+load-requires c κs = search needs
+
+slice-aggregate-node-call-2 : tie.Need-slice-aggregate-node-call-2
+slice-aggregate-node-call-2 c = search needs
+
+node-call-requires-2 : tie.Need-node-call-requires-2
+node-call-requires-2 c κs = search needs
+
+answer-from-requires-2 : tie.Need-answer-from-requires-2
+answer-from-requires-2 c κs = search needs
+
 same-length-2 : tie.Need-same-length-2
 same-length-2 c = search needs
-
-returns : tie.Need-returns
-returns c = left-refused (c .before .before .before .before .before .before .before .before .before .before .before .before .args .node) (c .before .before .before .before .before .before .before .before .before .before .before .before .args .bytes .now) (callOf (c .before .before .before .before .before .before .before .before .before .before .before .before .args .clock) (c .before .before .before .before .before .before .before .before .before .before .before .before .args .interface) (c .before .before .before .before .before .before .before .before .before .before .before .before .args .names .now) (c .before .before .before .before .before .before .before .before .before .before .before .before .args .message .now) (c .before .before .before .before .before .before .before .before .before .before .before .before .args .out .now)) (c .before .before .before .before .before .before .before .before .before .before .before .before .args .answer .now) _ _ _ (c .before .before .before .before .before .call-with .ensures .0) (c .before .before .before .before .before .call-with .ensures .1 .0) (c .before .before .before .before .before .call-with .ensures .1 .1) (c .if1 .taken)
-
-cast-t17 : tie.Need-cast-t17
-cast-t17 c = search needs
-
-cast-t18 : tie.Need-cast-t18
-cast-t18 c = search needs
-
-cast-t19 : tie.Need-cast-t19
-cast-t19 c = search needs
 
 same-length-3 : tie.Need-same-length-3
 same-length-3 c = search needs
 
+returns-2 : tie.Need-returns-2
+returns-2 c = call-refused (c .before .before .before .before .before .before .before .before .before .before .before .before .before .before .before .before .before .args .node) (c .before .before .before .before .before .before .before .before .before .before .before .before .before .before .before .before .before .args .bytes .now) (callOf (c .before .before .before .before .before .before .before .before .before .before .before .before .before .before .before .before .before .args .clock) (c .before .before .before .before .before .before .before .before .before .before .before .before .before .before .before .before .before .args .interface) (c .before .before .before .before .before .before .before .before .before .before .before .before .before .before .before .before .before .args .names .now) (c .before .before .before .before .before .before .before .before .before .before .before .before .before .before .before .before .before .args .message .now) (c .before .before .before .before .before .before .before .before .before .before .before .before .before .before .before .before .before .args .out .now)) (c .before .before .before .before .before .before .before .before .before .before .before .before .before .before .before .before .before .args .answer .now) _ _ _ _ (c .before .answer-from2 .ensures) _ (c .before .before .before .before .before .before .before .before .before .before .before .before .if1 .left) (c .before .before .before .before .before .before .before .before .before .load .ensures) (c .before .before .before .before .before .node-call2 .ensures) (c .if2 .taken)
+
+slice-aggregate-save : tie.Need-slice-aggregate-save
+slice-aggregate-save c = search needs
+
+save-requires : tie.Need-save-requires
+save-requires c κs = search needs
+
+cast-t37 : tie.Need-cast-t37
+cast-t37 c = search needs
+
+cast-t38 : tie.Need-cast-t38
+cast-t38 c = search needs
+
+cast-t39 : tie.Need-cast-t39
+cast-t39 c = search needs
+
 same-length-4 : tie.Need-same-length-4
 same-length-4 c = search needs
 
-returns-2 : tie.Need-returns-2
+same-length-5 : tie.Need-same-length-5
+same-length-5 c = search needs
+
+returns-3 : tie.Need-returns-3
 unfolding answerNumbers
-returns-2 c = left-given (c .before .before .before .before .before .before .before .before .before .before .before .before .before .before .before .before .before .args .node) (c .before .before .before .before .before .before .before .before .before .before .before .before .before .before .before .before .before .args .bytes .now) (callOf (c .before .before .before .before .before .before .before .before .before .before .before .before .before .before .before .before .before .args .clock) (c .before .before .before .before .before .before .before .before .before .before .before .before .before .before .before .before .before .args .interface) (c .before .before .before .before .before .before .before .before .before .before .before .before .before .before .before .before .before .args .names .now) (c .before .before .before .before .before .before .before .before .before .before .before .before .before .before .before .before .before .args .message .now) (c .before .before .before .before .before .before .before .before .before .before .before .before .before .before .before .before .before .args .out .now)) (c .before .before .before .before .before .before .before .before .before .before .before .before .before .before .before .before .before .args .answer .now) _ _ _ (c .before .before .before .before .before .before .before .before .before .before .call-with .ensures .0) (c .before .before .before .before .before .before .before .before .before .before .call-with .ensures .1 .0) (c .before .before .before .before .before .before .before .before .before .before .call-with .ensures .1 .1) (c .before .before .before .before .before .if1 .left)
+returns-3 c = call-given (c .before .before .before .before .before .before .before .before .before .before .before .before .before .before .before .before .before .before .before .before .before .before .before .before .before .before .before .args .node) (c .before .before .before .before .before .before .before .before .before .before .before .before .before .before .before .before .before .before .before .before .before .before .before .before .before .before .before .args .bytes .now) (callOf (c .before .before .before .before .before .before .before .before .before .before .before .before .before .before .before .before .before .before .before .before .before .before .before .before .before .before .before .args .clock) (c .before .before .before .before .before .before .before .before .before .before .before .before .before .before .before .before .before .before .before .before .before .before .before .before .before .before .before .args .interface) (c .before .before .before .before .before .before .before .before .before .before .before .before .before .before .before .before .before .before .before .before .before .before .before .before .before .before .before .args .names .now) (c .before .before .before .before .before .before .before .before .before .before .before .before .before .before .before .before .before .before .before .before .before .before .before .before .before .before .before .args .message .now) (c .before .before .before .before .before .before .before .before .before .before .before .before .before .before .before .before .before .before .before .before .before .before .before .before .before .before .before .args .out .now)) (c .before .before .before .before .before .before .before .before .before .before .before .before .before .before .before .before .before .before .before .before .before .before .before .before .before .before .before .args .answer .now) _ _ _ _ (c .before .before .before .before .before .before .before .before .before .before .before .answer-from2 .ensures) _ (c .before .before .before .before .before .before .before .before .before .before .before .before .before .before .before .before .before .before .before .before .before .before .if1 .left) (c .before .before .before .before .before .before .before .before .before .before .before .before .before .before .before .before .before .before .before .load .ensures) (c .before .before .before .before .before .before .before .before .before .before .before .before .before .before .before .node-call2 .ensures) _ (c .before .before .before .before .before .before .before .before .before .before .if2 .left) (c .before .before .before .before .before .before .before .save .ensures)
 
 pub call-into-spec : {M : Type 1} → statement M
 call-into-spec =
     tie.close
     (tie.spec
-    call-with-requires
+    slice-aggregate-node-call
+    node-call-requires
+    answer-from-requires
     same-length
-    same-length-2
     returns
-    cast-t17
-    cast-t18
-    cast-t19
+    slice-aggregate-load
+    load-requires
+    slice-aggregate-node-call-2
+    node-call-requires-2
+    answer-from-requires-2
+    same-length-2
     same-length-3
+    returns-2
+    slice-aggregate-save
+    save-requires
+    cast-t37
+    cast-t38
+    cast-t39
     same-length-4
-    returns-2)
+    same-length-5
+    returns-3)
