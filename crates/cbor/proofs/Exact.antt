@@ -52,24 +52,14 @@ before x P n left s t used g d e l =
     }
 
 -- an item in front
-leaf-split : (s : List ℕ) (len : ℕ) (i : LeafIs s len) → s ≡ encode (i .item) ++ drop len s
-leaf-split s len i = rw (i .bytes) (sym (take-append-drop len s))
-
 pub leaf-front : (s : List ℕ) (len : ℕ) → len ≤ length s → (i : LeafIs s len) → (length (encode (i .item)) ≡ len) × (s ≡ encode (i .item) ++ drop len s)
-leaf-front s len h i = (ap length (i .bytes) ∙ length-take-le len s h, leaf-split s len i)
-
-node-split : (s : List ℕ) (len : ℕ) (ys : Items) (i : NodeIs s len ys) (rest : List ℕ) → drop len s ≡ encodes ys ++ rest → s ≡ encode (i .item) ++ rest
-node-split s len ys i rest e =
-    sym (take-append-drop len s)
-    ∙ ap (λ (r : List ℕ). take len s ++ r) e
-    ∙ sym (append-assoc (take len s) (encodes ys) rest)
-    ∙ ap (λ (r : List ℕ). r ++ rest) (sym (i .bytes))
+leaf-front s len h i = (ap length (i .bytes) ∙ length-take-le len s h, rw (i .bytes) (sym (take-append-drop len s)))
 
 pub node-front : (s : List ℕ) (len : ℕ) (ys : Items) → len ≤ length s → (i : NodeIs s len ys) (rest : List ℕ) → drop len s ≡ encodes ys ++ rest
     → (length (encode (i .item)) ≡ len + length (encodes ys)) × (s ≡ encode (i .item) ++ rest)
 node-front s len ys h i rest e = (
   ap length (i .bytes) ∙ length-append (take len s) (encodes ys) ∙ ap (λ (m : ℕ). m + length (encodes ys)) (length-take-le len s h),
-  node-split s len ys i rest e,
+  sym (take-append-drop len s) ∙ rw (i .bytes, e) (sym (append-assoc (take len s) (encodes ys) rest)),
 )
 
 module _ (most : ℕ) where
