@@ -11,7 +11,7 @@ use lib.Seq.{drop-drop}
 use lib.Dec.{ltb, leb, eqb, lit≤}
 use borrow.Author.Tests.{ltb-true, ltb-false, leb-true, leb-false, eqb-true}
 use Rattle.base.specs.Pick.{pick}
-use Rattle.base.proofs.Picks.{pick-case, both}
+use Rattle.base.proofs.Picks.{pick-case, both, one-test}
 use Rattle.base.proofs.Parts.{rest-is, drop-past}
 use Rattle.cbor.specs.declared.head.HeadRead.{HeadRead}
 use Rattle.cbor.specs.declared.item.ItemRead.{ItemRead}
@@ -167,22 +167,15 @@ pub record Shifted (by : ℕ) (t u : Token) : Type 0 where
 shifted-from : (by at room : ℕ) (x : HeadRead) → Shifted by (tokenFrom (by + at) room x) (tokenFrom at room x)
 unfolding tokenFrom tokenOf nothingAt pick
 shifted-from by at room (HeadRead.Refused number place) = record { major = refl; arg = refl; next = λ ne. absurd (ne refl) }
-shifted-from by at room (HeadRead.Head major arg len) = go (ltb 1 major) (ltb major 4) (leb arg (room - len))
+shifted-from by at room (HeadRead.Head major arg len) =
+    one-test Same (ltb 1 major)
+    (one-test Same (ltb major 4)
+    (one-test Same (leb arg (room - len)) (record { major = refl; arg = refl; next = λ _. omega arith }) (record { major = refl; arg = refl; next = λ ne. absurd (ne refl) }))
+    (record { major = refl; arg = refl; next = λ _. omega arith }))
+    (record { major = refl; arg = refl; next = λ _. omega arith })
   where
-    leaf : ℕ → Token
-    leaf p = record { at = p; major = major; arg = arg; body = p + len; next = p + len }
-
-    string : ℕ → Token
-    string p = record { at = p; major = major; arg = arg; body = p + len; next = p + len + arg }
-
-    shown : ℕ → Bool → Bool → Bool → Token
-    shown p a b c = pick a (pick b (pick c (string p) (nothingAt p)) (leaf p)) (leaf p)
-
-    go : (a b c : Bool) → Shifted by (shown (by + at) a b c) (shown at a b c)
-    go true true true = record { major = refl; arg = refl; next = λ _. omega arith }
-    go true true false = record { major = refl; arg = refl; next = λ ne. absurd (ne refl) }
-    go true false c = record { major = refl; arg = refl; next = λ _. omega arith }
-    go false b c = record { major = refl; arg = refl; next = λ _. omega arith }
+    Same : Token → Token → Type 0
+    Same = Shifted by
 
 pub token-shifted : (s : List ℕ) (by at : ℕ) → Shifted by (tokenAt s (by + at)) (tokenAt (drop by s) at)
 unfolding tokenAt
