@@ -14,6 +14,7 @@ use lib.Dec.{eqb}
 use borrow.Author.Tests.{le-leb, lt-leb, eq-eqb, ne-eqb}
 use Rattle.base.specs.Pick.{pick}
 use Rattle.base.specs.BigEndian.{Bytes}
+use Rattle.base.proofs.Picks.{one-test}
 use Rattle.base.proofs.Parts.{bytes-drop}
 use Rattle.cbor.specs.declared.item.Step.{Step}
 use Rattle.cbor.specs.declared.item.ItemRead.{ItemRead}
@@ -24,26 +25,21 @@ use Rattle.cbor.specs.Fault.{Fault, Begun, itemsHeld, encodeBegun, Unfin
 use Rattle.cbor.proofs.Bounds.{StepOk, step-ok}
 use Rattle.cbor.proofs.Runs.{runs, runs-step}
 use Rattle.cbor.proofs.HeadExact.{head-read}
-use Rattle.cbor.proofs.HeadFault.{missing-refused, reserved-refused, indefinite-refused, cut-refused, low-simple-refused, long-refused}
+use Rattle.cbor.proofs.HeadFault.{FaultIs, missing-refused, reserved-refused, indefinite-refused, cut-refused, low-simple-refused, long-refused}
 use Rattle.cbor.proofs.Accepts.{enter, passes}
-use Rattle.cbor.proofs.Steps.{OpeningIs, FaultIs, StepIs, step-is}
+use Rattle.cbor.proofs.Steps.{OpeningIs, StepIs, step-is}
 use Rattle.cbor.proofs.Exact.{Level, nothing, before, leaf-front, node-front}
 
 -- a place further on
-pick-shift : (t : Bool) (k a b : ℕ) → k + pick t a b ≡ pick t (k + a) (k + b)
-unfolding pick
-pick-shift true k a b = refl
-pick-shift false k a b = refl
-
 place-shift : (number k head end : ℕ) → k + placeOf number head end ≡ placeOf number (k + head) (k + end)
 unfolding placeOf
-place-shift number k head end = pick-shift (eqb number 2) k end head
+place-shift number k head end = one-test (λ (a b : ℕ). k + a ≡ b) (eqb number 2) refl refl
 
 -- ---- what is refused has a first fault
 first-is : (left : ℕ) (s : List ℕ) (number place : ℕ) → FaultIs left s number place → FirstFault left s number place
 unfolding encodeBegun
 first-is left s number place f =
-    record { begun = []; unfinished = tt; rest = s; split = refl; fault = subst (λ (n : ℕ). Fault n s number) (omega arith) (f .fault); at = f .at }
+    record { begun = []; unfinished = tt; rest = s; split = refl; fault = subst (λ (n : ℕ). Fault n s number) (omega arith) (f .0); at = f .1 }
 
 module _ (most number : ℕ) where
   -- s goes as the stack says up to the first fault, at place p
