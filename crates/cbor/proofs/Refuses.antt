@@ -4,7 +4,6 @@
 use mathlib.Core.Path.{_≡_, refl, sym, ap, ap₂, _∙_, subst}
 use mathlib.Core.Logic.{_⊎_, inl, inr}
 use mathlib.Core.List.{List, [], _∷_, _++_, append-assoc}
-use mathlib.Core.Bool.{Bool, true, false}
 use Prim.Native.Nat.{ℕ, zero, suc, _+_, _-_, _≤_, _<_}
 use native.Mathlib.Nat.{zero-add, le-refl}
 use native.Mathlib.Omega.{arith}
@@ -27,7 +26,7 @@ use Rattle.cbor.proofs.Runs.{runs, runs-step}
 use Rattle.cbor.proofs.HeadExact.{head-read}
 use Rattle.cbor.proofs.HeadFault.{FaultIs, missing-refused, reserved-refused, indefinite-refused, cut-refused, low-simple-refused, long-refused}
 use Rattle.cbor.proofs.Accepts.{enter, passes}
-use Rattle.cbor.proofs.Steps.{OpeningIs, StepIs, step-is}
+use Rattle.cbor.proofs.Steps.{OpeningIs, StepIs, opens-held, step-is}
 use Rattle.cbor.proofs.Exact.{Level, nothing, before, leaf-front, node-front}
 
 -- a place further on
@@ -188,23 +187,9 @@ fault-step left s number (Fault.short major width arg rest e right lo hi less) =
     (short-refused left (length s) major arg (length (headBytes major width arg)) lo hi (omega (arith, ap length e ∙ length-append (headBytes major width arg) rest)))
 
 -- what the head of one that lacks an item opens
-record Opens (left major arg : ℕ) : Type 0 where
-  n : ℕ
-  pairs : Bool
-  holds : itemsOf n pairs ≡ itemsHeld major arg
-  step : (room len : ℕ) → stepOf left room major arg len ≡ Step.Opened len n pairs
-
-opens-of : (left major arg : ℕ) → 4 ≤ major → major < 7 → 1 ≤ left → Opens left major arg
-unfolding stepOf opens itemsOf itemsHeld pick
-opens-of left major arg lo hi some = by (eqb major 4) (eqb major 5) refl refl
-  where
-    tests : (room len : ℕ) → stepOf left room major arg len ≡ opens major arg len
-    tests room len = rw (ne-eqb major 7 (omega arith), le-leb 4 major lo, ne-eqb left 0 (omega arith))
-
-    by : (p q : Bool) → eqb major 4 ≡ p → eqb major 5 ≡ q → Opens left major arg
-    by true q e f = record { n = arg; pairs = false; holds = rw e; step = λ room len. tests room len ∙ rw e }
-    by false true e f = record { n = arg; pairs = true; holds = rw (e, f); step = λ room len. tests room len ∙ rw (e, f) }
-    by false false e f = record { n = 1; pairs = false; holds = rw (e, f); step = λ room len. tests room len ∙ rw (e, f) }
+opened : (left room major arg len : ℕ) → 4 ≤ major → major < 7 → 1 ≤ left → stepOf left room major arg len ≡ opens major arg len
+unfolding stepOf pick
+opened left room major arg len lo hi some = rw (ne-eqb major 7 (omega arith), le-leb 4 major lo, ne-eqb left 0 (omega arith))
 
 module _ (most number : ℕ) where
   reaches : (bs : List Begun) (at k : ℕ) (rest st : List ℕ) → Unfinished (most - length st) bs → Fault (most - length st - length bs) rest number
@@ -219,15 +204,16 @@ module _ (most number : ℕ) where
       let head = headBytes (b .major) (b .width) (b .arg) in
       let inner = encodes (b .items) in
       let tail = encodeBegun bs ++ rest in
-      let o = opens-of (most - length st) (b .major) (b .arg) (u .low) (u .high) (omega (arith, u .shallow)) in
+      let (n, pairs, is, held) = opens-held (b .major) (b .arg) (length head) in
       let m = itemsHeld (b .major) (b .arg) - suc (count (b .items)) in
-      let lacks : itemsOf (o .n) (o .pairs) ≡ count (b .items) + suc m = omega (arith, o .holds, u .fewer) in
+      let lacks : itemsOf n pairs ≡ count (b .items) + suc m = omega (arith, held, u .fewer) in
       let one : most - length st - 1 ≡ most - length (k ∷ st) = omega arith in
       let levels : most - length st - length (b ∷ bs) ≡ most - length (k ∷ st) - length bs = omega arith in
       let regroup : encodeBegun (b ∷ bs) ++ rest ≡ head ++ (inner ++ tail) = simp append-assoc in
       let whole : length (head ++ (inner ++ tail)) ≡ length head + (length inner + length tail) = simp length-append in
       rw regroup
-      (enter most at k head (inner ++ tail) st (b .major) (b .arg) (head-read (b .major) (b .width) (b .arg) (inner ++ tail) (u .right)) (o .n) (o .pairs) (o .step _ _)
+      (enter most at k head (inner ++ tail) st (b .major) (b .arg) (head-read (b .major) (b .width) (b .arg) (inner ++ tail) (u .right)) n pairs
+      (opened (most - length st) _ (b .major) (b .arg) _ (u .low) (u .high) (omega (arith, u .shallow)) ∙ is)
       ∙ ap (λ (n : ℕ). runs most (at + length head) (inner ++ tail) (n ∷ k ∷ st)) lacks
       ∙ passes most (b .items) (suc m) (at + length head) tail (k ∷ st) (u .good) (omega (arith, u .shallow))
       ∙ reaches bs (at + length head + length inner) m rest (k ∷ st) (subst (λ (n : ℕ). Unfinished n bs) one us)

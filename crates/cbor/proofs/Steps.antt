@@ -12,7 +12,7 @@ use lib.Dec.{eqb}
 use borrow.Author.Tests.{leb-true, leb-false, eqb-true, eqb-false, eq-eqb, ne-eqb}
 use Rattle.base.specs.Pick.{pick}
 use Rattle.base.specs.BigEndian.{Bytes}
-use Rattle.base.proofs.Picks.{pick-case}
+use Rattle.base.proofs.Picks.{pick-case, one-test}
 use Rattle.base.proofs.Parts.{bytes-drop, bytes-take}
 use Rattle.cbor.specs.declared.item.Step.{Step}
 use Rattle.cbor.specs.declared.head.HeadRead.{HeadRead}
@@ -57,6 +57,14 @@ StepIs left s (Step.Opened len n pairs) = OpeningIs s len (itemsOf n pairs)
 -- one of two numbers
 one-of : (m low : ℕ) → low ≤ m → m < 2 + low → m ≡ cond (eqb m (1 + low)) (1 + low) low
 one-of m low lo hi = elim (ℕ-discrete m (1 + low)) [ yes e ↦ e ∙ rw (eq-eqb m (1 + low) e) | no n ↦ rw (ne-eqb m (1 + low) n) (omega (arith, n)) ]
+
+-- what the head of an array, a map or a tag opens: as many items as it holds
+pub opens-held : (major arg len : ℕ) → (n : ℕ) × (pairs : Bool) × (opens major arg len ≡ Step.Opened len n pairs) × (itemsOf n pairs ≡ itemsHeld major arg)
+unfolding opens itemsHeld itemsOf pick
+opens-held major arg len = one-test Held (eqb major 4) (arg, false, refl, refl) (one-test Held (eqb major 5) (arg, true, refl, refl) (1, false, refl, refl))
+  where
+    Held : Step → ℕ → Type 0
+    Held x k = (n : ℕ) × (pairs : Bool) × (x ≡ Step.Opened len n pairs) × (itemsOf n pairs ≡ k)
 
 module _ (left : ℕ) (s : List ℕ) (major arg len : ℕ) (h : HeadIs s major arg len) where
   -- the head, by its major type
@@ -139,14 +147,7 @@ module _ (left : ℕ) (s : List ℕ) (major arg len : ℕ) (h : HeadIs s major a
 
   -- an array, a map or a tag
   opens-is : 4 ≤ major → major < 7 → StepIs left s (opens major arg len)
-  unfolding opens itemsOf itemsHeld pick
-  opens-is lo hi = by (eqb major 4) (eqb major 5) refl refl
-    where
-      by : (p q : Bool) → eqb major 4 ≡ p → eqb major 5 ≡ q
-          → StepIs left s (pick p (Step.Opened len arg false) (pick q (Step.Opened len arg true) (Step.Opened len 1 false)))
-      by true q e f = opening arg lo hi (rw e)
-      by false true e f = opening (2 * arg) lo hi (rw (e, f))
-      by false false e f = opening 1 lo hi (rw (e, f))
+  opens-is lo hi = let (n, pairs, is, held) = opens-held major arg len in rw is (opening (itemsOf n pairs) lo hi (sym held))
 
   deep : 4 ≤ major → major < 7 → left ≡ 0 → FaultIs left s 6 0
   unfolding placeOf pick
