@@ -16,7 +16,7 @@ use Rattle.cbor.specs.declared.item.ItemRead.{ItemRead}
 use Rattle.cbor.specs.declared.token.Token.{Token}
 use Rattle.cbor.specs.Item.{firstItem}
 use Rattle.cbor.specs.Token.{tokenAt, itemsIn, upTo}
-use Rattle.cbor.proofs.Tokens.{token-is, token-end, token-has}
+use Rattle.cbor.proofs.Tokens.{token-end, token-has}
 use Rattle.options.specs.declared.Span.{Span}
 use Rattle.options.specs.declared.objective.Objective.{Objective}
 use Rattle.options.specs.declared.objective.ObjectiveRead.{ObjectiveRead}
@@ -112,7 +112,7 @@ module _ (s : List ℕ) where
       let (two, size) = initiated t e in
       let string : t .next ≡ t .body + t .arg = token-has s at .string (omega arith) (omega arith) in
       let long : t .arg ≡ t .next - t .body = omega arith in
-      (omega (arith, token-is s at t refl .start, token-end s at), subst (λ (n : ℕ). (n ≡ 4) ⊎ (n ≡ 16)) long size)
+      (omega (arith, token-has s at .start, token-end s at), subst (λ (n : ℕ). (n ≡ 4) ⊎ (n ≡ 16)) long size)
 
   -- an objective of the message
   objective-in : {at : ℕ} {o : Objective} → at ≤ length s → ObjectiveParts (at + (length s - at)) o → ObjectiveParts (length s) o
