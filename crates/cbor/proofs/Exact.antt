@@ -1,25 +1,26 @@
--- The walk accepts nothing but encodings: where it answers `Ends e`, the first e bytes are the encoding of an item.
+-- What the walk has passed before its answer: `parse`, whole items and then the end, or the first fault. So it accepts nothing but encodings: `item-exact`,
+-- where it answers `Ends e`, the first e bytes are the encoding of an item.
 -- Assumes nothing.
 use mathlib.Core.Path.{_≡_, refl, sym, ap, _∙_, subst}
+use mathlib.Core.Logic.{_⊎_, inl, inr}
 use mathlib.Core.List.{List, [], _∷_, _++_, append-assoc, append-nil}
 use Prim.Native.Nat.{ℕ, zero, suc, _+_, _-_, _≤_, _<_}
+use native.Mathlib.Nat.{le-refl, add-zero}
 use native.Mathlib.Omega.{arith}
 use lib.ListN.{length, take, drop, length-append, take-append-drop, length-drop}
 use lib.Seq.{length-take-le, take-at}
+use lib.Dec.{eqb}
 use Rattle.base.specs.BigEndian.{Bytes}
+use Rattle.base.proofs.Picks.{one-test}
 use Rattle.base.proofs.Parts.{bytes-drop}
 use Rattle.cbor.specs.declared.item.Step.{Step}
 use Rattle.cbor.specs.declared.item.ItemRead.{ItemRead}
 use Rattle.cbor.specs.Item.{stepAt, itemsOf, leftUnder, next, run, enough, firstItem}
 use Rattle.cbor.specs.Tree.{Item, Items, count, encode, encodes, depth, depths, Good, Goods, ItemIs, headBytes}
-use Rattle.cbor.proofs.Bounds.{StepOk, step-ok}
-use Rattle.cbor.proofs.Steps.{LeafIs, NodeIs, StepIs, step-is, OpeningIs}
-use mathlib.Core.Logic.{_⊎_, inl, inr}
-use native.Mathlib.Nat.{le-refl, add-zero}
-use lib.Dec.{eqb}
-use Rattle.base.proofs.Picks.{one-test}
 use Rattle.cbor.specs.Fault.{Fault, Begun, encodeBegun, placeOf, FirstFault}
+use Rattle.cbor.proofs.Bounds.{StepOk, step-ok}
 use Rattle.cbor.proofs.HeadFault.{FaultIs}
+use Rattle.cbor.proofs.Steps.{LeafIs, NodeIs, StepIs, step-is, OpeningIs}
 
 -- the first `used` bytes of s are n items, of so many levels at most, and then what P says of the rest
 pub record Level (P : List ℕ → ℕ → Type 0) (n left : ℕ) (s : List ℕ) (used : ℕ) : Type 0 where

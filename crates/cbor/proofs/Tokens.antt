@@ -20,7 +20,7 @@ use Rattle.cbor.specs.Item.{firstItem, run, enough, next, stepAt, stepFr
 use Rattle.cbor.specs.Token.{nothingAt, tokenOf, tokenFrom, tokenAt, TokenIs, sizeFrom, sizeAt, SizeIs, itemsIn, upTo}
 use Rattle.cbor.proofs.Bounds.{HeadOk, head-ok}
 use Rattle.cbor.proofs.HeadExact.{judged-case, first-case}
-use Rattle.cbor.proofs.Within.{item-within}
+use Rattle.cbor.proofs.Within.{size-within}
 
 -- ---- the bounds of a token
 -- a head with an argument above 23 has two bytes at least
@@ -159,14 +159,9 @@ pub token-first : (s : List ℕ) (at : ℕ) → Shifted at (tokenAt s at) (token
 token-first s at = subst (λ (p : ℕ). Shifted at (tokenAt s p) (tokenAt (drop at s) 0)) (add-zero at) (token-shifted s at 0)
 
 -- ---- an item passed over
-size-within : (levels : ℕ) (s : List ℕ) (x : ItemRead) → firstItem levels s ≡ x → sizeFrom x ≤ length s
-unfolding sizeFrom
-size-within levels s (ItemRead.Refused number place) e = zero-le
-size-within levels s (ItemRead.Ends end) e = item-within levels s end e
-
 pub size-le : (levels : ℕ) (s : List ℕ) (at : ℕ) → sizeAt levels s at ≤ length s - at
 unfolding sizeAt
-size-le levels s at = rw (length-drop at s) at (size-within levels (drop at s) (firstItem levels (drop at s)) refl)
+size-le levels s at = rw (length-drop at s) at (size-within levels (drop at s))
 
 pub size-none : (levels : ℕ) (s : List ℕ) (at : ℕ) → length s ≤ at → SizeIs levels s at 0
 unfolding sizeAt sizeFrom firstItem run enough next stepAt stepFrom headAt
@@ -176,4 +171,4 @@ pub size-found : (levels : ℕ) (s : List ℕ) (at : ℕ) (x y : ItemRead) → y
 unfolding sizeAt
 size-found levels s at x y e q =
     let same : x ≡ firstItem levels (drop at s) = sym q ∙ e ∙ ap (firstItem levels) (rest-is at s) in
-    record { is = ap sizeFrom same; within = rw (length-drop at s) at (size-within levels (drop at s) x (sym same)) }
+    record { is = ap sizeFrom same; within = rw same (size-le levels s at) }
