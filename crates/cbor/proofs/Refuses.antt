@@ -93,7 +93,7 @@ module _ (most number : ℕ) where
       let regroup : encodeBegun (b ∷ bs) ++ rest ≡ head ++ (inner ++ tail) = simp append-assoc in
       let whole : length (head ++ (inner ++ tail)) ≡ length head + (length inner + length tail) = simp length-append in
       rw regroup
-      (enter most at k head (inner ++ tail) st (b .major) (b .arg) (head-read (b .major) (b .width) (b .arg) (inner ++ tail) (u .right)) n pairs
+      (enter most at k head (inner ++ tail) st (b .major) (b .arg) _ (head-read (b .major) (b .width) (b .arg) (inner ++ tail) (u .right)) n pairs
       (opened (most - length st) _ (b .major) (b .arg) _ (u .low) (u .high) (omega (arith, u .shallow)) ∙ is)
       ∙ ap (λ (n : ℕ). runs most (at + length head) (inner ++ tail) (n ∷ k ∷ st)) lacks
       ∙ passes most (b .items) (suc m) (at + length head) tail (k ∷ st) (u .good) (omega (arith, u .shallow))
