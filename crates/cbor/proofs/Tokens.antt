@@ -80,16 +80,13 @@ pub token-has : (s : List ℕ) (at : ℕ) → TokenHas (length s) at (tokenAt s 
 unfolding tokenAt
 token-has s at = has-from (length s) at (length (drop at s)) (headAt (drop at s)) (length-drop at s) (head-ok (drop at s)) (head-long (drop at s))
 
-token-past : (s : List ℕ) (at : ℕ) → length s ≤ at → tokenAt s at ≡ nothingAt at
-unfolding tokenAt tokenFrom headAt
-token-past s at h = rw (drop-past s at h)
-
 -- ---- the code's answers
 pub token-is : (s : List ℕ) (at : ℕ) (t : Token) → t ≡ tokenAt s at → TokenIs s at t
 token-is s at t e = let h = subst (TokenHas (length s) at) (sym e) (token-has s at) in record { is = e; here = h .here; start = h .start; end = h .end }
 
 pub token-none : (s : List ℕ) (at : ℕ) (t : Token) → length s ≤ at → t ≡ nothingAt at → TokenIs s at t
-token-none s at t h e = token-is s at t (e ∙ sym (token-past s at h))
+unfolding tokenAt tokenFrom headAt
+token-none s at t h e = token-is s at t (rw (drop-past s at h) e)
 
 pub token-found : (s : List ℕ) (at : ℕ) (t : Token) (x y : HeadRead) → y ≡ headAt (take (length s - at) (drop at s)) → y ≡ x
     → t ≡ tokenFrom at (length s - at) x → TokenIs s at t

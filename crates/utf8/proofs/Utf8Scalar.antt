@@ -196,4 +196,4 @@ first-is c r =
     (λ l. let b = 0xF0 + c / 2 ^ 18 in rw (le-ltb b 0x80 (omega arith), le-ltb b 0xE0 (omega arith), le-ltb b 0xF0 (omega arith)) (value-four-is c))
 
 pub some-bytes : (c : ℕ) (r : List ℕ) → 1 ≤ length (scalarBytes c ++ r)
-some-bytes c r = scalar-case c (λ s. 1 ≤ length (s ++ r)) (λ _. omega arith) (λ _ _. omega arith) (λ _ _. omega arith) (λ _. omega arith)
+some-bytes c r = scalar-case c (λ s. 1 ≤ length (s ++ r)) (omega arith) (omega arith) (omega arith) (omega arith)
