@@ -56,8 +56,4 @@ big-endian-lt (suc n) s b =
 pub small-bytes : (n : ℕ) (s : List ℕ) → bigEndian s n < 2 ^ 8 → FirstBytes n s
 unfolding bigEndian
 small-bytes zero s h i l = absurd (omega arith)
-small-bytes (suc n) s h i l = go (ℕ-discrete i n) (small-bytes n s (omega arith))
-  where
-    go : Dec (i ≡ n) → FirstBytes n s → getD s i 0 < 2 ^ 8
-    go (yes e) rest = rw e (omega arith)
-    go (no e) rest = rest i (omega arith)
+small-bytes (suc n) s h i l = elim (ℕ-discrete i n) [ yes e ↦ rw e (omega arith) | no e ↦ small-bytes n s (omega arith) i (omega arith) ]

@@ -22,6 +22,11 @@ pub every-of : {A : Type 0} (P : A → Type 0) (l : List A) → ((x : A) → Lis
 every-of P [] h = tt
 every-of P (x ∷ xs) h = (h x (List·Memᴰ·head refl), every-of P xs (λ y m. h y (List·Memᴰ·tail m)))
 
+-- of two things that hold
+pub every-and : {A : Type 0} (P Q : A → Type 0) (l : List A) → Every P l → Every Q l → Every (λ x. P x × Q x) l
+every-and P Q [] h k = tt
+every-and P Q (x ∷ xs) h k = ((h .0, k .0), every-and P Q xs (h .1) (k .1))
+
 -- and what follows from it
 pub every-imp : {A : Type 0} (P Q : A → Type 0) → ((x : A) → P x → Q x) → (l : List A) → Every P l → Every Q l
 every-imp P Q f [] h = tt

@@ -2,11 +2,13 @@
 -- Assumes nothing.
 use mathlib.Core.Path.{_≡_, sym, ap, _∙_}
 use mathlib.Core.List.{List, [], _∷_, _++_}
-use Prim.Native.Nat.{ℕ, zero, suc, _+_, _-_, _≤_}
+use Prim.Native.Nat.{ℕ, suc, _+_, _-_, _≤_}
 use native.Mathlib.Nat.{add-zero, add-suc, suc-add, le-of-eq}
+use native.Mathlib.Decide.{decLt}
+use native.Mathlib.Omega.{arith}
 use lib.Dec.{lit<}
-use lib.ListN.{length, take, drop, set, length-drop, drop-of-length-le}
-use lib.Seq.{sets, take-all, getD-drop}
+use lib.ListN.{length, take, drop, set, length-drop, length-take, drop-of-length-le, List·getD-eq-default}
+use lib.Seq.{sets, take-all, getD-take, getD-drop}
 use Rattle.base.specs.BigEndian.{Bytes}
 
 -- `&s[k..]`
@@ -22,10 +24,8 @@ pub bytes-drop : (n : ℕ) (s : List ℕ) → Bytes s → Bytes (drop n s)
 bytes-drop n s b i = rw (getD-drop n s i 0) (b (n + i))
 
 pub bytes-take : (n : ℕ) (s : List ℕ) → Bytes s → Bytes (take n s)
-bytes-take zero s b i = lit< tt
-bytes-take (suc n) [] b i = lit< tt
-bytes-take (suc n) (x ∷ s) b zero = b 0
-bytes-take (suc n) (x ∷ s) b (suc i) = bytes-take n s (λ j. b (suc j)) i
+bytes-take n s b i =
+    elim (decLt i n) [ yes h ↦ rw (getD-take n s i 0 h) (b i) | no h ↦ rw (List·getD-eq-default (take n s) 0 {n = i} (simp length-take (omega arith))) (lit< tt) ]
 
 -- two lists stored one after the other
 pub sets-append : (l : List ℕ) (at : ℕ) (a b : List ℕ) → sets (sets l at a) (at + length a) b ≡ sets l at (a ++ b)

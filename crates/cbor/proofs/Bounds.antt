@@ -2,17 +2,18 @@
 -- a level opens only where one may.
 -- Assumes nothing.
 use mathlib.Core.List.{List, [], _∷_}
-use Prim.Native.Nat.{ℕ, _+_, _-_, _≤_}
+use Prim.Native.Nat.{ℕ, _-_, _≤_}
 use native.Mathlib.Omega.{arith}
 use lib.ListN.{length}
 use lib.Dec.{lit≤}
-use borrow.Author.Tests.{ltb-false, leb-true, eqb-false}
+use borrow.Author.Tests.{leb-true, eqb-false}
 use Rattle.base.proofs.Picks.{pick-case, both}
 use Rattle.cbor.specs.declared.head.Initial.{Initial}
 use Rattle.cbor.specs.declared.head.HeadRead.{HeadRead}
 use Rattle.cbor.specs.declared.item.Step.{Step}
-use Rattle.cbor.specs.Head.{widthOf, initialOf, argOf, judged, headFrom, headBy, headOf, headAt}
+use Rattle.cbor.specs.Head.{widthOf, initialOf, headAt}
 use Rattle.cbor.specs.Item.{opens, stepOf, stepFrom, stepAt}
+use Rattle.cbor.proofs.HeadExact.{judged-case, first-case}
 
 abbrev pub InitialOk : Initial → Type 0
 InitialOk (Initial.Refused number) = Unit {0}
@@ -36,24 +37,15 @@ abbrev pub HeadOk : ℕ → HeadRead → Type 0
 HeadOk room (HeadRead.Refused number place) = place ≤ room
 HeadOk room (HeadRead.Head major arg len) = Within room len
 
-judged-ok : (room major arg width : ℕ) → 1 + width ≤ room → HeadOk room (judged major arg width)
-unfolding judged
-judged-ok room major arg width h =
-    both (HeadOk room) _
-    (both (HeadOk room) _ (both (HeadOk room) _ (omega arith) (omega arith)) (omega arith))
-    (both (HeadOk room) _ (omega arith) (omega arith))
-
-head-by-ok : (first : ℕ) (s : List ℕ) (x : Initial) → HeadOk (length (first ∷ s)) (headBy first s x)
-unfolding headBy headFrom
-head-by-ok first s (Initial.Refused number) = omega arith
-head-by-ok first s (Initial.Begins major width) =
-    pick-case (HeadOk (length (first ∷ s))) _ (λ e. omega arith)
-    (λ e. judged-ok (length (first ∷ s)) major (argOf first width s) width (omega (arith, ltb-false (length s) width e)))
-
 pub head-ok : (s : List ℕ) → HeadOk (length s) (headAt s)
-unfolding headAt headOf
+unfolding headAt
 head-ok [] = omega arith
-head-ok (first ∷ s) = head-by-ok first s (initialOf first)
+head-ok (first ∷ s) =
+    first-case Ok first s (λ _ _. omega arith) (λ _. omega arith) (λ _ _. omega arith)
+    (λ _ room. judged-case Ok _ _ _ (λ _ _ _. omega arith) (λ _ _. omega arith) (λ _ _. omega arith))
+  where
+    Ok : HeadRead → Type 0
+    Ok = HeadOk (length (first ∷ s))
 
 abbrev pub StepOk : ℕ → ℕ → Step → Type 0
 StepOk left room (Step.Refused number place) = place ≤ room

@@ -1,47 +1,35 @@
 -- The heads that most messages are made of, told in place by their first bytes.
 -- Assumes nothing.
-use mathlib.Core.Path.{_≡_, refl, sym, ap, _∙_, subst}
+use mathlib.Core.Path.{_≡_, sym, ap, _∙_, subst}
 use mathlib.Core.List.{List, _∷_}
 use mathlib.Core.Logic.{_≢_}
-use mathlib.Core.Bool.{Bool, true, false}
+use mathlib.Core.Bool.{true, false}
 use Prim.Native.Nat.{ℕ, suc, _+_, _-_, _*_, _/_, _%_, _≤_, _<_, zero-le}
 use native.Mathlib.Decide.{decLt}
 use native.Mathlib.Omega.{arith}
 use lib.ListN.{length, drop, getD, length-drop, List·getD-eq-default}
 use lib.Seq.{drop-cons, getD-drop}
-use lib.Dec.{ltb, eqb}
-use borrow.Author.Tests.{lt-ltb, le-ltb, le-leb, lt-leb, ne-eqb}
+use borrow.Author.Tests.{le-ltb, le-leb, lt-leb, ne-eqb}
 use Rattle.base.specs.Pick.{pick}
-use Rattle.base.specs.BigEndian.{bigEndian}
+use Rattle.base.specs.BigEndian.{bigEndian, bytesOf}
 use Rattle.cbor.specs.declared.head.HeadRead.{HeadRead}
 use Rattle.cbor.specs.declared.item.Common.{Common}
 use Rattle.cbor.specs.declared.item.Step.{Step}
 use Rattle.cbor.specs.Head.{widthOf, leastOf, initialOf, argOf, judged, headFrom, headBy, headOf, headAt}
 use Rattle.cbor.specs.Item.{opens, stepOf, stepFrom, stepAt}
+use Rattle.cbor.specs.Tree.{infoOf, headBytes, Sized}
 use Rattle.cbor.specs.Turn.{CommonIs}
+use Rattle.cbor.proofs.HeadExact.{head-read}
 
 -- ---- heads by their first byte and what follows it
-judged-short : (major arg : ℕ) → judged major arg 0 ≡ HeadRead.Head major arg 1
-unfolding judged leastOf pick
-judged-short major arg = by (eqb major 7)
-  where
-    by : (t : Bool) → pick t (HeadRead.Head major arg 1) (pick (ltb arg 0) (HeadRead.Refused 5 0) (HeadRead.Head major arg 1)) ≡ HeadRead.Head major arg 1
-    by true = refl
-    by false = rw (le-ltb arg 0 zero-le)
-
-short : (first : ℕ) (s : List ℕ) → first % 32 < 24 → headOf first s ≡ HeadRead.Head (first / 32) (first % 32) 1
-unfolding headOf headBy initialOf headFrom argOf widthOf pick
-short first s low =
-    rw (ne-eqb (first % 32) 31 (λ e. omega arith), lt-leb 28 (first % 32) (omega arith), lt-ltb (first % 32) 24 low, le-ltb (length s) 0 zero-le)
-    (judged-short (first / 32) (first % 32))
+-- a head of one byte
+headed : (first major arg : ℕ) (s : List ℕ) → arg < 24 → first ≡ major * 32 + arg → headAt (first ∷ s) ≡ HeadRead.Head major arg 1
+unfolding headBytes infoOf bytesOf leastOf pick
+headed first major arg s low e = rw e (head-read major 0 arg s (record { sized = Sized.in-first low; simple = λ _ w. absurd (omega arith); short = λ _. zero-le }))
 
 -- a number other than 0 stands in the list
 there : (s : List ℕ) (at : ℕ) → 1 ≤ getD s at 0 → at < length s
-there s at some = go (decLt at (length s))
-  where
-    go : Dec (at < length s) → at < length s
-    go (yes h) = h
-    go (no h) = absurd (omega (arith, List·getD-eq-default s 0 {n = at} (omega arith)))
+there s at some = elim (decLt at (length s)) [ yes h ↦ h | no h ↦ absurd (omega (arith, List·getD-eq-default s 0 {n = at} (omega arith))) ]
 
 one-spells : (s : List ℕ) → bigEndian s 1 ≡ getD s 0 0
 unfolding bigEndian
@@ -61,22 +49,17 @@ in-two s long least = rw (le-ltb (length s) 2 long, two-spell s, le-ltb (getD s 
 
 -- ---- a map, a tag and a simple value by their one byte
 module _ (first : ℕ) (s : List ℕ) (left : ℕ) where
-  -- a head of one byte, whose major type and argument are known
-  headed : (major arg : ℕ) → first % 32 < 24 → first / 32 ≡ major → first % 32 ≡ arg → headAt (first ∷ s) ≡ HeadRead.Head major arg 1
-  unfolding headAt
-  headed major arg low m a = rw (m, a) at (short first s low)
-
   pub map-opened : 160 ≤ first → first < 184 → left ≢ 0 → stepAt left (first ∷ s) ≡ Step.Opened 1 (first - 160) true
   unfolding stepAt stepFrom stepOf opens pick
-  map-opened lo hi may = rw (headed 5 (first - 160) (omega arith) (omega arith) (omega arith), ne-eqb left 0 may)
+  map-opened lo hi may = rw (headed first 5 (first - 160) s (omega arith) (omega arith), ne-eqb left 0 may)
 
   pub tag-opened : 192 ≤ first → first < 216 → left ≢ 0 → stepAt left (first ∷ s) ≡ Step.Opened 1 1 false
   unfolding stepAt stepFrom stepOf opens pick
-  tag-opened lo hi may = rw (headed 6 (first - 192) (omega arith) (omega arith) (omega arith), ne-eqb left 0 may)
+  tag-opened lo hi may = rw (headed first 6 (first - 192) s (omega arith) (omega arith), ne-eqb left 0 may)
 
   pub simple-passed : 224 ≤ first → first < 248 → stepAt left (first ∷ s) ≡ Step.Passed 1
   unfolding stepAt stepFrom stepOf pick
-  simple-passed lo hi = rw (headed 7 (first - 224) (omega arith) (omega arith) (omega arith))
+  simple-passed lo hi = rw (headed first 7 (first - 224) s (omega arith) (omega arith))
 
 module _ (s : List ℕ) (at : ℕ) where
   -- ---- heads in place
@@ -87,26 +70,20 @@ module _ (s : List ℕ) (at : ℕ) where
   after : (i : ℕ) → getD (drop (suc at) s) i 0 ≡ getD s (at + suc i) 0
   after i = getD-drop (suc at) s i 0 ∙ ap (λ (k : ℕ). getD s k 0) (omega arith)
 
+  in-first : (major arg : ℕ) → at < length s → arg < 24 → getD s at 0 ≡ major * 32 + arg → headAt (drop at s) ≡ HeadRead.Head major arg 1
+  in-first major arg h low e = ap headAt (drop-cons s at 0 h) ∙ headed (getD s at 0) major arg (drop (suc at) s) low e
+
   pub one-byte : at < length s → getD s at 0 % 32 < 24 → headAt (drop at s) ≡ HeadRead.Head (getD s at 0 / 32) (getD s at 0 % 32) 1
-  one-byte h low = in-place h ∙ short (getD s at 0) (drop (suc at) s) low
+  one-byte h low = in-first _ _ h low (omega arith)
 
   pub null-head : getD s at 0 ≡ 0xF6 → headAt (drop at s) ≡ HeadRead.Head 7 22 1
-  null-head is =
-      let major : getD s at 0 / 32 ≡ 7 = omega arith in
-      let arg : getD s at 0 % 32 ≡ 22 = omega arith in
-      rw (major, arg) at (one-byte (there s at (omega arith)) (omega arith))
+  null-head is = in-first 7 22 (there s at (omega arith)) (omega arith) (omega arith)
 
   pub small-head : at < length s → getD s at 0 < 24 → headAt (drop at s) ≡ HeadRead.Head 0 (getD s at 0) 1
-  small-head h low =
-      let major : getD s at 0 / 32 ≡ 0 = omega arith in
-      let arg : getD s at 0 % 32 ≡ getD s at 0 = omega arith in
-      rw (major, arg) at (one-byte h (omega arith))
+  small-head h low = in-first 0 _ h low (omega arith)
 
   pub array-head : 128 ≤ getD s at 0 → getD s at 0 < 152 → headAt (drop at s) ≡ HeadRead.Head 4 (getD s at 0 - 128) 1
-  array-head lo hi =
-      let major : getD s at 0 / 32 ≡ 4 = omega arith in
-      let arg : getD s at 0 % 32 ≡ getD s at 0 - 128 = omega arith in
-      rw (major, arg) at (one-byte (there s at (omega arith)) (omega arith))
+  array-head lo hi = in-first 4 _ (there s at (omega arith)) (omega arith) (omega arith)
 
   pub two-bytes : getD s at 0 ≡ 24 → 24 ≤ getD s (at + 1) 0 → headAt (drop at s) ≡ HeadRead.Head 0 (getD s (at + 1) 0) 2
   two-bytes is least = in-place (there s at (omega arith)) ∙ rw (is, ← after 0) (in-byte (drop (suc at) s) (rw (after 0) least))

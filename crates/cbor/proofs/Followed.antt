@@ -3,7 +3,7 @@
 use mathlib.Core.Path.{_≡_, refl, ap}
 use mathlib.Core.Logic.{_≢_}
 use mathlib.Core.List.{List, [], _∷_, _++_}
-use Prim.Native.Nat.{ℕ, zero, suc, _+_, _-_, _≤_}
+use Prim.Native.Nat.{ℕ, zero, suc, _+_, _-_, _/_, _%_, _≤_}
 use native.Mathlib.Omega.{arith}
 use lib.ListN.{length, drop, length-append, length-drop, List·getD-append}
 use lib.Seq.{drop-append-le}
@@ -16,9 +16,10 @@ use Rattle.cbor.specs.declared.head.Initial.{Initial}
 use Rattle.cbor.specs.declared.head.HeadRead.{HeadRead}
 use Rattle.cbor.specs.declared.item.Step.{Step}
 use Rattle.cbor.specs.declared.item.ItemRead.{ItemRead}
-use Rattle.cbor.specs.Head.{initialOf, argOf, judged, headFrom, headBy, headOf, headAt}
+use Rattle.cbor.specs.Head.{widthOf, initialOf, argOf, headFrom, headBy, headOf, headAt}
 use Rattle.cbor.specs.Item.{opens, stepOf, stepFrom, stepAt, itemsOf, leftUnder, next, run, enough, firstItem}
 use Rattle.cbor.proofs.Bounds.{StepOk, step-ok}
+use Rattle.cbor.proofs.HeadExact.{judged-case}
 
 -- ---- heads
 -- the answer y where more follows, by the answer x: the same, but for 2
@@ -32,37 +33,27 @@ unfolding bigEndian
 big-endian-stays zero s t h = refl
 big-endian-stays (suc n) s t h = rw (big-endian-stays n s t (omega arith), List·getD-append s t 0 n h)
 
-judged-stays : (major arg width : ℕ) → HeadStays (judged major arg width) (judged major arg width)
-unfolding judged
-judged-stays major arg width =
-    both Same (eqb major 7)
-    (both Same (eqb width 1) (both Same (ltb arg 32) (lit≤ tt, lit≤ tt, λ _. refl) refl) refl)
-    (both Same (ltb arg _) (lit≤ tt, lit≤ tt, λ _. refl) refl)
-  where
-    Same : HeadRead → Type 0
-    Same x = HeadStays x x
-
-abbrev Numbered : Initial → Type 0
-Numbered (Initial.Refused number) = (2 ≤ number) × (number ≤ 6)
-Numbered (Initial.Begins major width) = Unit {0}
-
-initial-numbered : (first : ℕ) → Numbered (initialOf first)
-unfolding initialOf
-initial-numbered first = both Numbered _ (lit≤ tt, lit≤ tt) (both Numbered _ (lit≤ tt, lit≤ tt) tt)
-
-head-by-stays : (first : ℕ) (s t : List ℕ) (x : Initial) → Numbered x → HeadStays (headBy first s x) (headBy first (s ++ t) x)
-unfolding headBy headFrom argOf pick
-head-by-stays first s t (Initial.Refused number) n = (n .0, n .1, λ _. refl)
-head-by-stays first s t (Initial.Begins major width) n =
-    pick-case (λ x. HeadStays x (headFrom first major width (s ++ t))) (ltb (length s) width) (λ _. (lit≤ tt, lit≤ tt, λ other. absurd (other refl)))
-    (λ e.
-    let within = ltb-false (length s) width e in
-    rw (le-ltb (length (s ++ t)) width (omega (arith, length-append s t)), big-endian-stays width s t within) (judged-stays major (argOf first width s) width))
-
 head-stays : (s t : List ℕ) → HeadStays (headAt s) (headAt (s ++ t))
-unfolding headAt headOf
+unfolding headAt headOf headBy headFrom initialOf argOf pick
 head-stays [] t = (lit≤ tt, lit≤ tt, λ other. absurd (other refl))
-head-stays (first ∷ s) t = head-by-stays first s t (initialOf first) (initial-numbered first)
+head-stays (first ∷ s) t = both By (eqb (first % 32) 31) (lit≤ tt, lit≤ tt, λ _. refl) (both By (leb 28 (first % 32)) (lit≤ tt, lit≤ tt, λ _. refl) begins)
+  where
+    By : Initial → Type 0
+    By i = HeadStays (headBy first s i) (headBy first (s ++ t) i)
+
+    major : ℕ
+    major = first / 32
+
+    width : ℕ
+    width = widthOf (first % 32)
+
+    begins : By (Initial.Begins major width)
+    begins =
+        pick-case (λ x. HeadStays x (headFrom first major width (s ++ t))) (ltb (length s) width) (λ _. (lit≤ tt, lit≤ tt, λ other. absurd (other refl)))
+        (λ e.
+        let within = ltb-false (length s) width e in
+        rw (le-ltb (length (s ++ t)) width (omega (arith, length-append s t)), big-endian-stays width s t within)
+        (judged-case (λ x. HeadStays x x) major (argOf first width s) width (λ _ _ _. (lit≤ tt, lit≤ tt, λ _. refl)) (λ _ _. (lit≤ tt, lit≤ tt, λ _. refl)) (λ _ _. refl)))
 
 -- ---- steps
 abbrev StepStays : Step → Step → Type 0

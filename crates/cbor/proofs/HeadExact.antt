@@ -225,11 +225,11 @@ shortest-right major arg hm h =
 
 -- no shorter head has that argument
 pub no-shorter : (width arg : ℕ) → Sized width arg → shortest arg ≤ width
-no-shorter width arg (Sized.in-first h) = shortest-case (λ w. w ≤ 0) arg (λ _. omega arith) (λ g l. omega arith) (λ g l. omega arith) (λ g l. omega arith) (λ g. omega arith)
-no-shorter width arg (Sized.one h) = shortest-case (λ w. w ≤ 1) arg (λ _. omega arith) (λ g l. omega arith) (λ g l. omega arith) (λ g l. omega arith) (λ g. omega arith)
-no-shorter width arg (Sized.two h) = shortest-case (λ w. w ≤ 2) arg (λ _. omega arith) (λ g l. omega arith) (λ g l. omega arith) (λ g l. omega arith) (λ g. omega arith)
-no-shorter width arg (Sized.four h) = shortest-case (λ w. w ≤ 4) arg (λ _. omega arith) (λ g l. omega arith) (λ g l. omega arith) (λ g l. omega arith) (λ g. omega arith)
-no-shorter width arg (Sized.eight h) = shortest-case (λ w. w ≤ 8) arg (λ _. omega arith) (λ g l. omega arith) (λ g l. omega arith) (λ g l. omega arith) (λ g. omega arith)
+no-shorter width arg (Sized.in-first h) = shortest-case (λ w. w ≤ 0) arg (omega arith) (omega arith) (omega arith) (omega arith) (omega arith)
+no-shorter width arg (Sized.one h) = shortest-case (λ w. w ≤ 1) arg (omega arith) (omega arith) (omega arith) (omega arith) (omega arith)
+no-shorter width arg (Sized.two h) = shortest-case (λ w. w ≤ 2) arg (omega arith) (omega arith) (omega arith) (omega arith) (omega arith)
+no-shorter width arg (Sized.four h) = shortest-case (λ w. w ≤ 4) arg (omega arith) (omega arith) (omega arith) (omega arith) (omega arith)
+no-shorter width arg (Sized.eight h) = shortest-case (λ w. w ≤ 8) arg (omega arith) (omega arith) (omega arith) (omega arith) (omega arith)
 
 -- for readers
 

@@ -15,17 +15,21 @@ use Rattle.cbor.specs.Tree.{headBytes, Sized}
 use Rattle.cbor.specs.Fault.{Fault, placeOf}
 use Rattle.cbor.proofs.HeadExact.{judged-case, first-case, written, Whole, whole}
 
--- a refused head's fault and place
-abbrev FaultIs : ℕ → List ℕ → HeadRead → Type 0
-FaultIs left s (HeadRead.Head major arg len) = Unit {0}
-FaultIs left s (HeadRead.Refused number place) = Fault left s number × (place ≡ placeOf number 0 (length s))
+-- a fault of the head at the start of s, and its place
+abbrev pub FaultIs : ℕ → List ℕ → ℕ → ℕ → Type 0
+FaultIs left s number place = Fault left s number × (place ≡ placeOf number 0 (length s))
 
-fault-is : (left : ℕ) (s : List ℕ) → Bytes s → FaultIs left s (headAt s)
+-- where the head is refused
+abbrev IfRefused : ℕ → List ℕ → HeadRead → Type 0
+IfRefused left s (HeadRead.Head major arg len) = Unit {0}
+IfRefused left s (HeadRead.Refused number place) = FaultIs left s number place
+
+fault-is : (left : ℕ) (s : List ℕ) → Bytes s → IfRefused left s (headAt s)
 unfolding headAt placeOf pick
 fault-is left [] b = (Fault.missing refl, refl)
 fault-is left (first ∷ s) b =
     first-case
-    (FaultIs left (first ∷ s))
+    (IfRefused left (first ∷ s))
     first
     s
     (λ low high. (Fault.reserved first s refl low high, refl))
@@ -33,11 +37,11 @@ fault-is left (first ∷ s) b =
     (λ lt short. (Fault.cut first s refl lt short, add-one (length s)))
     (λ lt room. judged-is (whole first s b lt room))
   where
-    judged-is : {major arg width : ℕ} → Whole (first ∷ s) major arg width → FaultIs left (first ∷ s) (judged major arg width)
+    judged-is : {major arg width : ℕ} → Whole (first ∷ s) major arg width → IfRefused left (first ∷ s) (judged major arg width)
     judged-is {major} {arg} {width} w =
         let split : first ∷ s ≡ headBytes major width arg ++ drop (1 + width) (first ∷ s) = rw (← w .bytes) (sym (take-append-drop (1 + width) (first ∷ s))) in
         judged-case
-        (FaultIs left (first ∷ s))
+        (IfRefused left (first ∷ s))
         major
         arg
         width
@@ -46,9 +50,8 @@ fault-is left (first ∷ s) b =
         (λ _ _. tt)
 
 -- every refusal of a head is a fault of it
-pub head-fault : (left : ℕ) (s : List ℕ) (number place : ℕ) → Bytes s → headAt s ≡ HeadRead.Refused number place
-    → Fault left s number × (place ≡ placeOf number 0 (length s))
-head-fault left s number place b e = subst (FaultIs left s) e (fault-is left s b)
+pub head-fault : (left : ℕ) (s : List ℕ) (number place : ℕ) → Bytes s → headAt s ≡ HeadRead.Refused number place → FaultIs left s number place
+head-fault left s number place b e = subst (IfRefused left s) e (fault-is left s b)
 
 -- ---- and every fault of a head is refused
 pub missing-refused : {s : List ℕ} → s ≡ [] → headAt s ≡ HeadRead.Refused 2 (placeOf 2 0 (length s))

@@ -15,15 +15,15 @@ use Rattle.cbor.proofs.Bounds.{StepOk, step-ok}
 abbrev pub runs : ℕ → ℕ → List ℕ → List ℕ → ItemRead
 runs most at s stack = run most (enough s stack) at s stack
 
--- two walks agree after a step where they agree on fewer bytes and at most one level more
-module _ (at : ℕ) (s st st′ : List ℕ) (go go′ : ℕ → List ℕ → List ℕ → ItemRead) where
-  next-same : (left : ℕ) (x : Step) → StepOk left (length s) x
-      → ((len : ℕ) (new : List ℕ) → 1 ≤ len → len ≤ length s → length new ≤ 1 → go (at + len) (drop len s) (new ++ st) ≡ go′ (at + len) (drop len s) (new ++ st′))
-      → next go at s st x ≡ next go′ at s st′ x
+-- two walks are related after a step where they are so on fewer bytes and at most one level more
+module _ (R : ItemRead → ItemRead → Type 0) (at : ℕ) (s st st′ : List ℕ) (go go′ : ℕ → List ℕ → List ℕ → ItemRead) where
+  pub next-both : (left : ℕ) (x : Step) → StepOk left (length s) x → ((number place : ℕ) → R (ItemRead.Refused number place) (ItemRead.Refused number place))
+      → ((len : ℕ) (new : List ℕ) → 1 ≤ len → len ≤ length s → length new ≤ 1 → R (go (at + len) (drop len s) (new ++ st)) (go′ (at + len) (drop len s) (new ++ st′)))
+      → R (next go at s st x) (next go′ at s st′ x)
   unfolding next
-  next-same left (Step.Refused number place) h agree = refl
-  next-same left (Step.Passed len) h agree = agree len [] (h .0) (h .1) zero-le
-  next-same left (Step.Opened len n pairs) h agree = agree len (itemsOf n pairs ∷ []) (h .0 .0) (h .0 .1) (le-refl 1)
+  next-both left (Step.Refused number place) h same agree = same number (at + place)
+  next-both left (Step.Passed len) h same agree = agree len [] (h .0) (h .1) zero-le
+  next-both left (Step.Opened len n pairs) h same agree = agree len (itemsOf n pairs ∷ []) (h .0 .0) (h .0 .1) (le-refl 1)
 
 module _ (most : ℕ) where
   -- a step by what may open here
@@ -42,7 +42,7 @@ module _ (most : ℕ) where
   any-turns (suc f) (suc g) at s [] hf hg = refl
   any-turns (suc f) (suc g) at s (zero ∷ stack) hf hg = any-turns f g at s stack (omega arith) (omega arith)
   any-turns (suc f) (suc g) at s (suc n ∷ stack) hf hg =
-      next-same at s (n ∷ stack) (n ∷ stack) (run most f) (run most g) _ (here s stack) (here-ok s stack)
+      next-both _≡_ at s (n ∷ stack) (n ∷ stack) (run most f) (run most g) _ (here s stack) (here-ok s stack) (λ _ _. refl)
       (λ len new lo hi one.
       let d = length-drop len s in
       let a = length-append new (n ∷ stack) in
@@ -61,7 +61,7 @@ module _ (most : ℕ) where
   unfolding run enough here
   runs-step at n s stack =
       let turns = 2 * length s + length (suc n ∷ stack) in
-      next-same at s (n ∷ stack) (n ∷ stack) (run most turns) (runs most) _ (here s stack) (here-ok s stack)
+      next-both _≡_ at s (n ∷ stack) (n ∷ stack) (run most turns) (runs most) _ (here s stack) (here-ok s stack) (λ _ _. refl)
       (λ len new lo hi one.
       let d = length-drop len s in
       let a = length-append new (n ∷ stack) in
@@ -75,14 +75,14 @@ module _ (most : ℕ) where
   many (suc f) at s [] zero c′ below h h′ = absurd (omega arith)
   many (suc f) at s [] (suc c) zero below h h′ = absurd (omega arith)
   many (suc f) at s [] (suc c) (suc c′) below h h′ =
-      next-same at s (c ∷ below) (c′ ∷ below) (run most f) (run most f) _ (here s below) (here-ok s below)
+      next-both _≡_ at s (c ∷ below) (c′ ∷ below) (run most f) (run most f) _ (here s below) (here-ok s below) (λ _ _. refl)
       (λ len new lo hi one. let d = length-drop len s in many f (at + len) (drop len s) new c c′ below (omega arith) (omega arith))
   many (suc f) at s (zero ∷ above) c c′ below h h′ = many f at s above c c′ below h h′
   many (suc f) at s (suc n ∷ above) c c′ below h h′ =
       let same-levels : length (above ++ c ∷ below) ≡ length (above ++ c′ ∷ below) = simp length-append in
       ap (λ (k : ℕ). next (run most f) at s (n ∷ above ++ c ∷ below) (stepAt (most - k) s)) same-levels
-      ∙ next-same at s (n ∷ above ++ c ∷ below) (n ∷ above ++ c′ ∷ below) (run most f) (run most f) _ (here s (above ++ c′ ∷ below))
-      (here-ok s (above ++ c′ ∷ below))
+      ∙ next-both _≡_ at s (n ∷ above ++ c ∷ below) (n ∷ above ++ c′ ∷ below) (run most f) (run most f) _ (here s (above ++ c′ ∷ below))
+      (here-ok s (above ++ c′ ∷ below)) (λ _ _. refl)
       (λ len new lo hi one.
       let d = length-drop len s in
       rw (← append-assoc new (n ∷ above) (c ∷ below), ← append-assoc new (n ∷ above) (c′ ∷ below))

@@ -4,14 +4,15 @@ use mathlib.Core.Path.{_≡_, refl, sym, ap, _∙_, subst}
 use mathlib.Core.List.{List, _++_, append-nil}
 use mathlib.Core.Bool.{Bool, true, false, cond}
 use Prim.Native.Nat.{ℕ, suc, _+_, _-_, _*_, _/_, _≤_, _<_, zero-le}
+use native.Mathlib.Decide.{ℕ-discrete}
 use native.Mathlib.Omega.{arith}
 use lib.ListN.{length, take, drop, length-drop, take-append-drop}
 use lib.Seq.{length-take-le, take-add}
 use lib.Dec.{eqb}
-use borrow.Author.Tests.{leb-true, leb-false, eqb-true, eqb-false}
+use borrow.Author.Tests.{leb-true, leb-false, eqb-true, eqb-false, eq-eqb, ne-eqb}
 use Rattle.base.specs.Pick.{pick}
 use Rattle.base.specs.BigEndian.{Bytes}
-use Rattle.base.proofs.Picks.{pick-case}
+use Rattle.base.proofs.Picks.{pick-case, one-test}
 use Rattle.base.proofs.Parts.{bytes-drop, bytes-take}
 use Rattle.cbor.specs.declared.item.Step.{Step}
 use Rattle.cbor.specs.declared.head.HeadRead.{HeadRead}
@@ -20,7 +21,7 @@ use Rattle.cbor.specs.Item.{opens, stepOf, stepFrom, stepAt, itemsOf}
 use Rattle.cbor.specs.Tree.{Item, Items, headBytes, Right, HeadIs, count, encode, encodes, depth, depths, Good, Goods}
 use Rattle.cbor.specs.Fault.{Fault, placeOf, itemsHeld}
 use Rattle.cbor.proofs.HeadExact.{head-is}
-use Rattle.cbor.proofs.HeadFault.{head-fault}
+use Rattle.cbor.proofs.HeadFault.{FaultIs, head-fault}
 
 -- an item that holds no others, in the first len bytes of s
 pub record LeafIs (s : List ℕ) (len : ℕ) : Type 0 where
@@ -48,11 +49,6 @@ pub record OpeningIs (s : List ℕ) (len n : ℕ) : Type 0 where
   pub holds : itemsHeld major arg ≡ n
   pub node : (ys : Items) → Goods ys → count ys ≡ n → NodeIs s len ys
 
--- a fault of the head at the start of s, and its place
-pub record FaultIs (left : ℕ) (s : List ℕ) (number place : ℕ) : Type 0 where
-  pub fault : Fault left s number
-  pub at : place ≡ placeOf number 0 (length s)
-
 abbrev pub StepIs : ℕ → List ℕ → Step → Type 0
 StepIs left s (Step.Refused number place) = FaultIs left s number place
 StepIs left s (Step.Passed len) = LeafIs s len
@@ -60,11 +56,15 @@ StepIs left s (Step.Opened len n pairs) = OpeningIs s len (itemsOf n pairs)
 
 -- one of two numbers
 one-of : (m low : ℕ) → low ≤ m → m < 2 + low → m ≡ cond (eqb m (1 + low)) (1 + low) low
-one-of m low lo hi = by (eqb m (1 + low)) refl
+one-of m low lo hi = elim (ℕ-discrete m (1 + low)) [ yes e ↦ e ∙ rw (eq-eqb m (1 + low) e) | no n ↦ rw (ne-eqb m (1 + low) n) (omega (arith, n)) ]
+
+-- what the head of an array, a map or a tag opens: as many items as it holds
+pub opens-held : (major arg len : ℕ) → (n : ℕ) × (pairs : Bool) × (opens major arg len ≡ Step.Opened len n pairs) × (itemsOf n pairs ≡ itemsHeld major arg)
+unfolding opens itemsHeld itemsOf pick
+opens-held major arg len = one-test Held (eqb major 4) (arg, false, refl, refl) (one-test Held (eqb major 5) (arg, true, refl, refl) (1, false, refl, refl))
   where
-    by : (a : Bool) → eqb m (1 + low) ≡ a → m ≡ cond a (1 + low) low
-    by true e = eqb-true m (1 + low) e
-    by false e = omega (arith, eqb-false m (1 + low) e)
+    Held : Step → ℕ → Type 0
+    Held x k = (n : ℕ) × (pairs : Bool) × (x ≡ Step.Opened len n pairs) × (itemsOf n pairs ≡ k)
 
 module _ (left : ℕ) (s : List ℕ) (major arg len : ℕ) (h : HeadIs s major arg len) where
   -- the head, by its major type
@@ -147,22 +147,15 @@ module _ (left : ℕ) (s : List ℕ) (major arg len : ℕ) (h : HeadIs s major a
 
   -- an array, a map or a tag
   opens-is : 4 ≤ major → major < 7 → StepIs left s (opens major arg len)
-  unfolding opens itemsOf itemsHeld pick
-  opens-is lo hi = by (eqb major 4) (eqb major 5) refl refl
-    where
-      by : (p q : Bool) → eqb major 4 ≡ p → eqb major 5 ≡ q
-          → StepIs left s (pick p (Step.Opened len arg false) (pick q (Step.Opened len arg true) (Step.Opened len 1 false)))
-      by true q e f = opening arg lo hi (rw e)
-      by false true e f = opening (2 * arg) lo hi (rw (e, f))
-      by false false e f = opening 1 lo hi (rw (e, f))
+  opens-is lo hi = let (n, pairs, is, held) = opens-held major arg len in rw is (opening (itemsOf n pairs) lo hi (sym held))
 
   deep : 4 ≤ major → major < 7 → left ≡ 0 → FaultIs left s 6 0
   unfolding placeOf pick
-  deep lo hi none = record { fault = Fault.deep major (h .width) arg (drop len s) split (h .right) lo hi none; at = refl }
+  deep lo hi none = (Fault.deep major (h .width) arg (drop len s) split (h .right) lo hi none, refl)
 
   short : 2 ≤ major → major < 4 → length s - len < arg → FaultIs left s 2 (length s)
   unfolding placeOf pick
-  short lo hi less = record { fault = Fault.short major (h .width) arg (drop len s) split (h .right) lo hi (rw (length-drop len s) less); at = refl }
+  short lo hi less = (Fault.short major (h .width) arg (drop len s) split (h .right) lo hi (rw (length-drop len s) less), refl)
 
   step-of-is : Bytes s → StepIs left s (stepOf left (length s) major arg len)
   unfolding stepOf
@@ -188,5 +181,5 @@ unfolding stepAt stepFrom
 step-is left s b = by (headAt s) refl
   where
     by : (x : HeadRead) → headAt s ≡ x → StepIs left s (stepFrom left (length s) x)
-    by (HeadRead.Refused number place) e = let f = head-fault left s number place b e in record { fault = f .0; at = f .1 }
+    by (HeadRead.Refused number place) e = head-fault left s number place b e
     by (HeadRead.Head major arg len) e = step-of-is left s major arg len (head-is s b e) b

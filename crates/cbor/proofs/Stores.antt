@@ -42,12 +42,8 @@ unfolding bytesOf
 spell-end l at left rest h = let e : left ≡ 0 = omega arith in rw e
 
 -- the first byte holds an argument below 24
-pub in-first-lt : (width arg : ℕ) → Sized width arg → width ≡ 0 → arg < 24
-in-first-lt width arg (Sized.in-first h) e = h
-in-first-lt width arg (Sized.one h) e = absurd (omega arith)
-in-first-lt width arg (Sized.two h) e = absurd (omega arith)
-in-first-lt width arg (Sized.four h) e = absurd (omega arith)
-in-first-lt width arg (Sized.eight h) e = absurd (omega arith)
+pub in-first-lt : (arg : ℕ) → Sized 0 arg → arg < 24
+in-first-lt arg (Sized.in-first h) = h
 
 -- the shortest head has room for its argument
 pub sized-len : (arg len : ℕ) → len ≡ 1 + shortest arg → arg < 2 ^ 64 → Sized (len - 1) arg

@@ -2,16 +2,15 @@
 -- Assumes nothing.
 use mathlib.Core.Path.{_≡_, refl, sym, ap, _∙_, subst}
 use mathlib.Core.List.{List, [], _∷_}
-use mathlib.Core.Bool.{Bool, true, false}
 use Prim.Native.Nat.{ℕ, _+_, _-_, _/_, _%_, _≤_, _<_, zero-le}
-use native.Mathlib.Nat.{add-zero, le-refl, le-of-lt}
+use native.Mathlib.Nat.{add-zero, le-refl}
 use native.Mathlib.Omega.{arith}
 use lib.ListN.{length, take, drop, length-drop}
 use lib.Seq.{drop-drop}
 use lib.Dec.{ltb, leb, eqb, lit≤}
-use borrow.Author.Tests.{ltb-true, ltb-false, leb-true, leb-false, eqb-true}
+use borrow.Author.Tests.{ltb-true, ltb-false, leb-true, eqb-true}
 use Rattle.base.specs.Pick.{pick}
-use Rattle.base.proofs.Picks.{pick-case, both}
+use Rattle.base.proofs.Picks.{pick-case, both, one-test}
 use Rattle.base.proofs.Parts.{rest-is, drop-past}
 use Rattle.cbor.specs.declared.head.HeadRead.{HeadRead}
 use Rattle.cbor.specs.declared.item.ItemRead.{ItemRead}
@@ -21,51 +20,73 @@ use Rattle.cbor.specs.Item.{firstItem, run, enough, next, stepAt, stepFr
 use Rattle.cbor.specs.Token.{nothingAt, tokenOf, tokenFrom, tokenAt, TokenIs, sizeFrom, sizeAt, SizeIs, itemsIn, upTo}
 use Rattle.cbor.proofs.Bounds.{HeadOk, head-ok}
 use Rattle.cbor.proofs.HeadExact.{judged-case, first-case}
-use Rattle.cbor.proofs.Within.{item-within}
+use Rattle.cbor.proofs.Within.{size-within}
 
-abbrev Bounds : ℕ → ℕ → Token → Type 0
-Bounds size at t = (t .at ≡ at) × (t .body ≤ t .next) × (t .next ≤ size)
+-- ---- the bounds of a token
+-- a head with an argument above 23 has two bytes at least
+abbrev HeadLong : HeadRead → Type 0
+HeadLong (HeadRead.Refused number place) = Unit {0}
+HeadLong (HeadRead.Head major arg len) = 23 < arg → 2 ≤ len
 
-nothing-ok : (size at : ℕ) → Bounds size at (nothingAt at)
+head-long : (s : List ℕ) → HeadLong (headAt s)
+unfolding headAt argOf widthOf pick
+head-long [] = tt
+head-long (first ∷ s) =
+    first-case HeadLong first s (λ _ _. tt) (λ _. tt) (λ _ _. tt)
+    (λ _ _. judged-case HeadLong (first / 32) (argOf first (widthOf (first % 32)) s) (widthOf (first % 32)) (λ _ _ _. tt) (λ _ _. tt) (λ _ _ over. let one = wide over in omega arith))
+  where
+    By : ℕ → Type 0
+    By width = 23 < argOf first width s → 1 ≤ width
+
+    wide : By (widthOf (first % 32))
+    wide =
+        pick-case By (ltb (first % 32) 24) (λ e over. absurd (omega (arith, ltb-true (first % 32) 24 e)))
+        (λ _. both By (eqb (first % 32) 24) (λ _. lit≤ tt) (both By (eqb (first % 32) 25) (λ _. lit≤ tt) (both By (eqb (first % 32) 26) (λ _. lit≤ tt) (λ _. lit≤ tt))))
+
+-- where it stands, and what it has at least: a byte, two where the argument is above 23, and a string's own
+pub record TokenHas (size at : ℕ) (t : Token) : Type 0 where
+  pub here : t .at ≡ at
+  pub start : t .body ≤ t .next
+  pub end : t .next ≤ size
+  pub some : t .major < 8 → at + 1 ≤ t .next
+  pub wide : 23 < t .arg → at + 2 ≤ t .next
+  pub string : 1 < t .major → t .major < 4 → t .next ≡ t .body + t .arg
+
+nothing-has : (size at : ℕ) → TokenHas size at (nothingAt at)
 unfolding nothingAt
-nothing-ok size at = (refl, le-refl 0, zero-le)
+nothing-has size at =
+    record { here = refl; start = zero-le; end = zero-le; some = λ k. absurd (omega arith); wide = λ k. absurd (omega arith); string = λ _ k. absurd (omega arith) }
 
-token-of-ok : (at room major arg len : ℕ) → len ≤ room → Bounds (at + room) at (tokenOf at room major arg len)
-unfolding tokenOf
-token-of-ok at room major arg len h =
-    both B _ (both B _ (pick-case B _ (λ e. (refl, omega arith, omega (arith, leb-true arg (room - len) e))) (λ e. nothing-ok _ at)) leaf) leaf
+has-from : (size at room : ℕ) (x : HeadRead) → room ≡ size - at → HeadOk room x → HeadLong x → TokenHas size at (tokenFrom at room x)
+unfolding tokenFrom tokenOf
+has-from size at room (HeadRead.Refused number place) r h l = nothing-has size at
+has-from size at room (HeadRead.Head major arg len) r (some, fits) l =
+    pick-case Has _
+    (λ e. pick-case Has _
+    (λ f. pick-case Has _
+    (λ g. record { here = refl; start = omega arith; end = omega (arith, leb-true arg (room - len) g); some = λ _. omega arith; wide = λ k. omega (arith, l k); string = λ _ _. refl })
+    (λ _. nothing-has size at))
+    (λ f. leaf (λ _ k. omega (arith, ltb-false major 4 f))))
+    (λ e. leaf (λ k _. omega (arith, ltb-false 1 major e)))
   where
-    B : Token → Type 0
-    B = Bounds (at + room) at
+    Has : Token → Type 0
+    Has = TokenHas size at
 
-    leaf : B (record { at = at; major = major; arg = arg; body = at + len; next = at + len })
-    leaf = (refl, le-refl (at + len), omega arith)
+    leaf : (1 < major → major < 4 → ⊥) → Has (record { at = at; major = major; arg = arg; body = at + len; next = at + len })
+    leaf other =
+        record { here = refl; start = le-refl (at + len); end = omega arith; some = λ _. omega arith; wide = λ k. omega (arith, l k); string = λ j k. absurd (other j k) }
 
-token-from-ok : (at room : ℕ) (x : HeadRead) → HeadOk room x → Bounds (at + room) at (tokenFrom at room x)
-unfolding tokenFrom
-token-from-ok at room (HeadRead.Refused number place) h = nothing-ok _ at
-token-from-ok at room (HeadRead.Head major arg len) h = token-of-ok at room major arg len (h .1)
-
-token-past : (s : List ℕ) (at : ℕ) → length s ≤ at → tokenAt s at ≡ nothingAt at
-unfolding tokenAt tokenFrom headAt
-token-past s at h = rw (drop-past s at h)
-
--- the bounds of a token that is read
-pub token-is : (s : List ℕ) (at : ℕ) (t : Token) → t ≡ tokenAt s at → TokenIs s at t
+pub token-has : (s : List ℕ) (at : ℕ) → TokenHas (length s) at (tokenAt s at)
 unfolding tokenAt
-token-is s at t e = by (leb at (length s)) refl
-  where
-    as-record : Bounds (length s) at t → TokenIs s at t
-    as-record k = record { is = e; here = k .0; start = k .1; end = k .2 }
+token-has s at = has-from (length s) at (length (drop at s)) (headAt (drop at s)) (length-drop at s) (head-ok (drop at s)) (head-long (drop at s))
 
-    by : (b : Bool) → leb at (length s) ≡ b → TokenIs s at t
-    by true h =
-        let sum : at + length (drop at s) ≡ length s = omega (arith, length-drop at s, leb-true at (length s) h) in
-        as-record (rw sum at (subst (Bounds (at + length (drop at s)) at) (sym e) (token-from-ok at (length (drop at s)) (headAt (drop at s)) (head-ok (drop at s)))))
-    by false h = as-record (subst (Bounds (length s) at) (sym (e ∙ token-past s at (le-of-lt (leb-false at (length s) h)))) (nothing-ok (length s) at))
+-- ---- the code's answers
+pub token-is : (s : List ℕ) (at : ℕ) (t : Token) → t ≡ tokenAt s at → TokenIs s at t
+token-is s at t e = let h = subst (TokenHas (length s) at) (sym e) (token-has s at) in record { is = e; here = h .here; start = h .start; end = h .end }
 
 pub token-none : (s : List ℕ) (at : ℕ) (t : Token) → length s ≤ at → t ≡ nothingAt at → TokenIs s at t
-token-none s at t h e = token-is s at t (e ∙ sym (token-past s at h))
+unfolding tokenAt tokenFrom headAt
+token-none s at t h e = token-is s at t (rw (drop-past s at h) e)
 
 pub token-found : (s : List ℕ) (at : ℕ) (t : Token) (x y : HeadRead) → y ≡ headAt (take (length s - at) (drop at s)) → y ≡ x
     → t ≡ tokenFrom at (length s - at) x → TokenIs s at t
@@ -87,7 +108,7 @@ head-fits s at major arg len y e q =
     rw (length-drop at s) at (subst (HeadOk (length (drop at s))) (ap headAt (sym (rest-is at s)) ∙ sym e ∙ q) (head-ok (drop at s)) .1)
 
 pub token-end : (s : List ℕ) (at : ℕ) → tokenAt s at .next ≤ length s
-token-end s at = token-is s at (tokenAt s at) refl .end
+token-end s at = token-has s at .end
 
 -- ---- by its numbers
 -- items are of an array
@@ -106,57 +127,6 @@ is-number limit t =
     by : ℕ → Type 0
     by n = n ≤ limit → (t .major ≡ 0) × (n ≡ t .arg)
 
--- ---- the least that a token has
--- a head with an argument above 23 has two bytes at least
-abbrev HeadLong : HeadRead → Type 0
-HeadLong (HeadRead.Refused number place) = Unit {0}
-HeadLong (HeadRead.Head major arg len) = 23 < arg → 2 ≤ len
-
-head-long : (s : List ℕ) → HeadLong (headAt s)
-unfolding headAt argOf widthOf pick
-head-long [] = tt
-head-long (first ∷ s) =
-    first-case HeadLong first s (λ _ _. tt) (λ _. tt) (λ _ _. tt)
-    (λ _ _. judged-case HeadLong (first / 32) (argOf first (widthOf (first % 32)) s) (widthOf (first % 32)) (λ _ _ _. tt) (λ _ _. tt) (λ _ _ over. let one = wide over in omega arith))
-  where
-    By : ℕ → Type 0
-    By width = 23 < argOf first width s → 1 ≤ width
-
-    wide : By (widthOf (first % 32))
-    wide =
-        pick-case By (ltb (first % 32) 24) (λ e over. absurd (omega (arith, ltb-true (first % 32) 24 e)))
-        (λ _. both By (eqb (first % 32) 24) (λ _. lit≤ tt) (both By (eqb (first % 32) 25) (λ _. lit≤ tt) (both By (eqb (first % 32) 26) (λ _. lit≤ tt) (λ _. lit≤ tt))))
-
--- a byte, two where the argument is above 23, and a string's own
-pub record TokenHas (at : ℕ) (t : Token) : Type 0 where
-  pub some : t .major < 8 → at + 1 ≤ t .next
-  pub wide : 23 < t .arg → at + 2 ≤ t .next
-  pub string : 1 < t .major → t .major < 4 → t .next ≡ t .body + t .arg
-
-nothing-has : (at : ℕ) → TokenHas at (nothingAt at)
-unfolding nothingAt
-nothing-has at = record { some = λ k. absurd (omega arith); wide = λ k. absurd (omega arith); string = λ _ k. absurd (omega arith) }
-
-has-from : (at room : ℕ) (x : HeadRead) → HeadOk room x → HeadLong x → TokenHas at (tokenFrom at room x)
-unfolding tokenFrom tokenOf
-has-from at room (HeadRead.Refused number place) h l = nothing-has at
-has-from at room (HeadRead.Head major arg len) h l =
-    pick-case Has _
-    (λ e. pick-case Has _
-    (λ f. both Has _ (record { some = λ _. omega arith; wide = λ k. omega (arith, l k); string = λ _ _. refl }) (nothing-has at))
-    (λ f. leaf (λ _ k. omega (arith, ltb-false major 4 f))))
-    (λ e. leaf (λ k _. omega (arith, ltb-false 1 major e)))
-  where
-    Has : Token → Type 0
-    Has = TokenHas at
-
-    leaf : (1 < major → major < 4 → ⊥) → Has (record { at = at; major = major; arg = arg; body = at + len; next = at + len })
-    leaf other = record { some = λ _. omega (arith, h .0); wide = λ k. omega (arith, l k); string = λ j k. absurd (other j k) }
-
-pub token-has : (s : List ℕ) (at : ℕ) → TokenHas at (tokenAt s at)
-unfolding tokenAt
-token-has s at = has-from at (length (drop at s)) (headAt (drop at s)) (head-ok (drop at s)) (head-long (drop at s))
-
 -- ---- a token seen from an earlier place
 -- the same head with its string at two places: one is nothing where the other is, and the next heads lie as far off
 pub record Shifted (by : ℕ) (t u : Token) : Type 0 where
@@ -167,22 +137,15 @@ pub record Shifted (by : ℕ) (t u : Token) : Type 0 where
 shifted-from : (by at room : ℕ) (x : HeadRead) → Shifted by (tokenFrom (by + at) room x) (tokenFrom at room x)
 unfolding tokenFrom tokenOf nothingAt pick
 shifted-from by at room (HeadRead.Refused number place) = record { major = refl; arg = refl; next = λ ne. absurd (ne refl) }
-shifted-from by at room (HeadRead.Head major arg len) = go (ltb 1 major) (ltb major 4) (leb arg (room - len))
+shifted-from by at room (HeadRead.Head major arg len) =
+    one-test Same (ltb 1 major)
+    (one-test Same (ltb major 4)
+    (one-test Same (leb arg (room - len)) (record { major = refl; arg = refl; next = λ _. omega arith }) (record { major = refl; arg = refl; next = λ ne. absurd (ne refl) }))
+    (record { major = refl; arg = refl; next = λ _. omega arith }))
+    (record { major = refl; arg = refl; next = λ _. omega arith })
   where
-    leaf : ℕ → Token
-    leaf p = record { at = p; major = major; arg = arg; body = p + len; next = p + len }
-
-    string : ℕ → Token
-    string p = record { at = p; major = major; arg = arg; body = p + len; next = p + len + arg }
-
-    shown : ℕ → Bool → Bool → Bool → Token
-    shown p a b c = pick a (pick b (pick c (string p) (nothingAt p)) (leaf p)) (leaf p)
-
-    go : (a b c : Bool) → Shifted by (shown (by + at) a b c) (shown at a b c)
-    go true true true = record { major = refl; arg = refl; next = λ _. omega arith }
-    go true true false = record { major = refl; arg = refl; next = λ ne. absurd (ne refl) }
-    go true false c = record { major = refl; arg = refl; next = λ _. omega arith }
-    go false b c = record { major = refl; arg = refl; next = λ _. omega arith }
+    Same : Token → Token → Type 0
+    Same = Shifted by
 
 pub token-shifted : (s : List ℕ) (by at : ℕ) → Shifted by (tokenAt s (by + at)) (tokenAt (drop by s) at)
 unfolding tokenAt
@@ -193,26 +156,16 @@ pub token-first : (s : List ℕ) (at : ℕ) → Shifted at (tokenAt s at) (token
 token-first s at = subst (λ (p : ℕ). Shifted at (tokenAt s p) (tokenAt (drop at s) 0)) (add-zero at) (token-shifted s at 0)
 
 -- ---- an item passed over
-size-within : (levels : ℕ) (s : List ℕ) (x : ItemRead) → firstItem levels s ≡ x → sizeFrom x ≤ length s
-unfolding sizeFrom
-size-within levels s (ItemRead.Refused number place) e = zero-le
-size-within levels s (ItemRead.Ends end) e = item-within levels s end e
-
 pub size-le : (levels : ℕ) (s : List ℕ) (at : ℕ) → sizeAt levels s at ≤ length s - at
 unfolding sizeAt
-size-le levels s at = rw (length-drop at s) at (size-within levels (drop at s) (firstItem levels (drop at s)) refl)
-
-first-of-nothing : (levels : ℕ) → firstItem levels [] ≡ ItemRead.Refused 2 0
-unfolding firstItem run enough next stepAt stepFrom headAt
-first-of-nothing levels = refl
+size-le levels s at = rw (length-drop at s) at (size-within levels (drop at s))
 
 pub size-none : (levels : ℕ) (s : List ℕ) (at : ℕ) → length s ≤ at → SizeIs levels s at 0
-unfolding sizeAt sizeFrom
-size-none levels s at h =
-    record { is = sym (ap (λ (l : List ℕ). sizeFrom (firstItem levels l)) (drop-past s at h) ∙ ap sizeFrom (first-of-nothing levels)); within = zero-le }
+unfolding sizeAt sizeFrom firstItem run enough next stepAt stepFrom headAt
+size-none levels s at h = record { is = rw (drop-past s at h); within = zero-le }
 
 pub size-found : (levels : ℕ) (s : List ℕ) (at : ℕ) (x y : ItemRead) → y ≡ firstItem levels (take (length s - at) (drop at s)) → y ≡ x → SizeIs levels s at (sizeFrom x)
 unfolding sizeAt
 size-found levels s at x y e q =
     let same : x ≡ firstItem levels (drop at s) = sym q ∙ e ∙ ap (firstItem levels) (rest-is at s) in
-    record { is = ap sizeFrom same; within = rw (length-drop at s) at (size-within levels (drop at s) x (sym same)) }
+    record { is = ap sizeFrom same; within = rw same (size-le levels s at) }

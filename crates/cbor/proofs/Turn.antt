@@ -79,19 +79,11 @@ module _ (levels : ℕ) (s : List ℕ) (most : ℕ) (outer : List ℕ) (depth la
       }
 
   module _ (some : lacking ≡ 0 → ⊥) where
-    stepped : next (runs most) at (drop at s) ((lacking - 1) ∷ stackOf outer depth) (stepAt (most - depth) (drop at s)) ≡ firstItem levels s
-    stepped =
-        let n = lacking - 1 in
-        let e : lacking ≡ suc n = omega arith in
-        let below = stackOf outer depth in
-        sym
-        (runs-step most at n (drop at s) below
-        ∙ ap (λ (k : ℕ). next (runs most) at (drop at s) (n ∷ below) (stepAt (most - k) (drop at s))) (length-stack outer depth))
-        ∙ rw e at (i .same)
-
     -- the walk after an answer
     after : (x : Step) → stepAt (most - depth) (drop at s) ≡ x → next (runs most) at (drop at s) ((lacking - 1) ∷ stackOf outer depth) x ≡ firstItem levels s
-    after x answer = sym (ap (next (runs most) at (drop at s) ((lacking - 1) ∷ stackOf outer depth)) answer) ∙ stepped
+    after x answer =
+        let e : lacking ≡ suc (lacking - 1) = omega arith in
+        sym (runs-step most at (lacking - 1) (drop at s) (stackOf outer depth) ∙ rw (length-stack outer depth, answer)) ∙ rw e at (i .same)
 
     pub refused : (number place : ℕ) → stepAt (most - depth) (drop at s) ≡ Step.Refused number place → ItemRead.Refused number (at + place) ≡ firstItem levels s
     unfolding next

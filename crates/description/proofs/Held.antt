@@ -22,6 +22,3 @@ module _ (source : List ℕ) (s : Span) where
 
   pub length-held-in : s .len ≤ length source - s .at → s .len ≡ length (held source s)
   length-held-in h = simp (length-take, length-drop) (omega arith)
-
-  pub held-part : take (length source - s .at) (drop (s .at) source) ≡ drop (s .at) source
-  held-part = take-all (length source - s .at) (drop (s .at) source) (omega (arith, length-drop (s .at) source))

@@ -12,9 +12,10 @@ use lib.ListN.{length, take, drop}
 use borrow.Author.Tests.{eq-eqb, ne-eqb}
 use Rattle.options.specs.Text.{held}
 use Rattle.base.specs.Pick.{pick}
+use Rattle.base.proofs.Parts.{rest-is}
 use Rattle.options.specs.declared.Span.{Span}
 use Rattle.description.specs.Judge.{okValue, allFrom, okEach}
-use Rattle.description.proofs.Held.{held-none, held-rest, held-part}
+use Rattle.description.proofs.Held.{held-none, held-rest}
 
 module _ (p : ℕ → Bool) (n i : ℕ) where
   left : i < n → n - i ≡ suc (n - (i + 1))
@@ -22,11 +23,11 @@ module _ (p : ℕ → Bool) (n i : ℕ) where
 
   pub all-step : p i ≡ true → allFrom p (n - i) i ≡ allFrom p (n - (i + 1)) (i + 1)
   unfolding allFrom pick
-  all-step e = go (decLt i n)
-    where
-      go : Dec (i < n) → allFrom p (n - i) i ≡ allFrom p (n - (i + 1)) (i + 1)
-      go (yes h) = rw (left h, e, add-one i)
-      go (no h) = let none : n - i ≡ 0 = omega arith in let none′ : n - (i + 1) ≡ 0 = omega arith in rw (none, none′)
+  all-step e =
+      elim (decLt i n) [
+        | yes h ↦ rw (left h, e, add-one i)
+        | no h ↦ let none : n - i ≡ 0 = omega arith in let none′ : n - (i + 1) ≡ 0 = omega arith in rw (none, none′)
+      ]
 
   pub all-stop : i < n → p i ≡ false → allFrom p (n - i) i ≡ false
   unfolding allFrom pick
@@ -51,7 +52,7 @@ module _ (source : List ℕ) (s : Span) where
   value-none h = rw (held-none source s h)
 
   pub value-rest : (r : Bool) → length source - s .at < s .len → r ≡ okValue (take (length source - s .at) (drop (s .at) source)) → r ≡ okValue (held source s)
-  value-rest r h e = rw (held-rest source s h, ← held-part source s) e
+  value-rest r h e = rw (held-rest source s h, ← rest-is (s .at) source) e
 
   pub value-in : (r : Bool) → r ≡ okValue (take (s .at + s .len - s .at) (drop (s .at) source)) → r ≡ okValue (held source s)
   value-in r e = rw (add-sub-cancel-left (s .at) (s .len)) at e

@@ -23,13 +23,12 @@ pub clear-done : (to : List ℕ) (n i : ℕ) → length to ≤ i → length to �
 clear-done to n i h g e = copy-done to (replicate n 0) i (omega (arith, length-replicate {A = ℕ} n 0)) (omega (arith, length-replicate {A = ℕ} n 0)) e
 
 pub clear-turn : (to : List ℕ) (n i : ℕ) → length to ≡ n → take i to ≡ take i (replicate n 0) → take (i + 1) (set to i 0) ≡ take (i + 1) (replicate n 0)
-clear-turn to n i g e = go (decLt i (length to))
-  where
-    go : Dec (i < length to) → take (i + 1) (set to i 0) ≡ take (i + 1) (replicate n 0)
-    go (yes h) =
-        ap (λ (x : ℕ). take (i + 1) (set to i x)) (sym (getD-replicate n i 0 0 (omega arith)))
-        ∙ copy-turn to (replicate n 0) i h (omega (arith, length-replicate {A = ℕ} n 0)) e
-    go (no h) = ap (take (i + 1)) (set-out to i 0 (omega arith) ∙ clear-done to n i (omega arith) g e)
+clear-turn to n i g e =
+    elim (decLt i (length to)) [
+      | yes h ↦ ap (λ (x : ℕ). take (i + 1) (set to i x)) (sym (getD-replicate n i 0 0 (omega arith)))
+          ∙ copy-turn to (replicate n 0) i h (omega (arith, length-replicate {A = ℕ} n 0)) e
+      | no h ↦ ap (take (i + 1)) (set-out to i 0 (omega arith) ∙ clear-done to n i (omega arith) g e)
+    ]
 
 -- bytes in the place of a part that was lent
 pub lent-stored : (l bs : List ℕ) (at : ℕ) {to : List ℕ} → at + length bs ≤ length l → to ≡ bs

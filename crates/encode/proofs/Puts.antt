@@ -2,16 +2,16 @@
 -- Assumes nothing.
 use Prim.Native.Nat.{ℕ, _+_, _≤_, _<_}
 use mathlib.Core.Path.{_≡_, refl, sym, ap, ap₂, _∙_}
-use mathlib.Core.Bool.{Bool, true, false}
 use mathlib.Core.List.{List, [], _∷_, _++_}
 use native.Mathlib.Nat.{add-zero, zero-add}
+use native.Mathlib.Decide.{decLt}
 use native.Mathlib.Omega.{arith}
-use lib.Dec.{ltb, leb}
+use lib.Dec.{leb}
 use lib.ListN.{length, take, drop, set, replicate, length-append, length-drop, length-set, length-replicate}
 use lib.Seq.{sets, sets-eq, length-sets, take-append-seam}
-use borrow.Author.Tests.{ltb-true, ltb-false, leb-true, le-ltb, le-leb, lt-leb}
+use borrow.Author.Tests.{leb-true, le-ltb, le-leb, lt-leb}
 use Rattle.base.specs.Pick.{pick}
-use Rattle.base.proofs.Picks.{both}
+use Rattle.base.proofs.Picks.{pick-case, both}
 use Rattle.base.proofs.Parts.{sets-append}
 use Rattle.cbor.specs.Put.{head, allEnd, allPut, headEnd, headPut}
 use Rattle.cbor.proofs.Stores.{all-over, all-stored}
@@ -27,12 +27,13 @@ then {l} {l′} {l″} {at} {m} {r} {a} {b} v w =
           let x = v .fits (omega arith) in
           let y = w .fits (omega (arith, x .0)) in
           (omega (arith, x .0, y .0), y .1 ∙ ap₂ (λ (t : List ℕ) (k : ℕ). sets t k b) (x .1) (x .0) ∙ sets-append l at a b);
-      over = λ h. late (ltb (length l) (at + length a)) refl (rw length-append at h);
+      over = λ h.
+          let e : length (a ++ b) ≡ length a + length b = length-append a b in
+          elim (decLt (length l) (at + length a)) [
+            | yes k ↦ omega (arith, v .same, w .over (omega (arith, v .same, v .over k)))
+            | no k ↦ omega (arith, v .same, w .over (omega (arith, v .same, v .fits (omega arith) .0)))
+          ];
     }
-  where
-    late : (t : Bool) → ltb (length l) (at + length a) ≡ t → length l < at + (length a + length b) → length l < r
-    late true e h = let p = v .over (ltb-true _ _ e) in let q = w .over (omega arith) in omega arith
-    late false e h = let p = v .fits (ltb-false (length l) (at + length a) e) in let q = w .over (omega (arith, p .0)) in omega arith
 
 -- no step
 pub still : (l : List ℕ) (at : ℕ) → Wrote l l at [] at
@@ -70,21 +71,13 @@ finished {l} {l′} {bs} w k =
 
 -- a draft that ends in time is the bytes, and one that doesn't is too short for them
 pub drafted : {l l′ bs : List ℕ} {r : ℕ} → Wrote l l′ 0 bs r → r ≤ length l → (take r l′ ≡ bs) × (length bs ≤ length l)
-drafted {l} {l′} {bs} {r} w h = go (ltb (length l) (length bs)) refl
-  where
-    go : (t : Bool) → ltb (length l) (length bs) ≡ t → (take r l′ ≡ bs) × (length bs ≤ length l)
-    go true p = absurd (omega (arith, w .over (omega (arith, ltb-true (length l) (length bs) p))))
-    go false p =
-        let k : length bs ≤ length l = ltb-false (length l) (length bs) p in
-        let x = finished w k in
-        (ap₂ take (x .0) (x .1) ∙ take-append-seam bs (drop (length bs) l), k)
+drafted {l} {bs = bs} w h =
+    let k : length bs ≤ length l = elim (decLt (length l) (length bs)) [ yes p ↦ absurd (omega (arith, w .over (omega arith))) | no p ↦ omega arith ] in
+    let x = finished w k in
+    (ap₂ take (x .0) (x .1) ∙ take-append-seam bs (drop (length bs) l), k)
 
 pub long : {l l′ bs : List ℕ} {r : ℕ} → Wrote l l′ 0 bs r → length l < r → length l < length bs
-long {l} {l′} {bs} {r} w k = go (ltb (length l) (length bs)) refl
-  where
-    go : (t : Bool) → ltb (length l) (length bs) ≡ t → length l < length bs
-    go true p = ltb-true (length l) (length bs) p
-    go false p = absurd (omega (arith, ltb-false (length l) (length bs) p, w .fits (omega (arith, ltb-false (length l) (length bs) p)) .0))
+long {l} {bs = bs} w k = elim (decLt (length l) (length bs)) [ yes p ↦ p | no p ↦ absurd (omega (arith, w .fits (omega arith) .0)) ]
 
 -- ---- a message at the front of a buffer
 pub front-in : {l l′ bs : List ℕ} {r : ℕ} → Wrote l l′ 0 bs r → r ≤ length l → (r ≡ frontEnd l bs) × (l′ ≡ frontPut l bs)
@@ -106,7 +99,10 @@ pub front-step : {l l′ bs : List ℕ} {r : ℕ} → r ≡ frontEnd l bs → l�
 unfolding frontEnd frontPut pick
 front-step {l} {l′} {bs} {r} e p =
     record {
-      same = ap length p ∙ kept (leb (length bs) (length l)) refl;
+      same =
+          ap length p
+          ∙ pick-case (λ (t : List ℕ). length t ≡ length l) (leb (length bs) (length l))
+          (λ q. length-append bs (drop (length bs) l) ∙ omega (arith, leb-true (length bs) (length l) q, length-drop (length bs) l)) (λ _. length-replicate {A = ℕ} (length l) 0);
       fits = λ h.
           let k : length bs ≤ length l = omega arith in
           let e′ : r ≡ length bs = rw (le-leb (length bs) (length l) k) at e in
@@ -116,7 +112,3 @@ front-step {l} {l′} {bs} {r} e p =
           let k : length l < length bs = omega arith in
           let e′ : r ≡ length l + 1 = rw (lt-leb (length bs) (length l) k) at e in omega arith;
     }
-  where
-    kept : (t : Bool) → leb (length bs) (length l) ≡ t → length (pick t (bs ++ drop (length bs) l) (replicate (length l) 0)) ≡ length l
-    kept true q = length-append bs (drop (length bs) l) ∙ omega (arith, leb-true (length bs) (length l) q, length-drop (length bs) l)
-    kept false q = length-replicate {A = ℕ} (length l) 0

@@ -64,9 +64,6 @@ module _ (s : List ℕ) where
           pairs-more n at size (pairsFrom s n (at + size) (firstOf bad b) (firstOf long l)) (h .1) (go (at + size) (firstOf bad b) (firstOf long l) (omega arith))
 
 -- ---- the turns of the loops
-less : (m : ℕ) → suc m - 1 ≡ m
-less m = omega arith
-
 module _ (s : List ℕ) (n from : ℕ) where
   -- the loop over locators: what is left of it is the whole
   abbrev pub Located : ℕ → ℕ → ℕ → Type 0
@@ -81,23 +78,21 @@ module _ (s : List ℕ) (n from : ℕ) where
   located-stop zero at bad b e t i = i
   located-stop (suc m) at bad b e t i = rw (sym e ∙ t) at i
 
-  next : (m at bad : ℕ) (b : Bool) (r x : LocatorRead) → b ≡ textLed s at → b ≡ false → r ≡ locatorAt s at → r ≡ x → Located (suc m) at bad
-      → locatorThen (locatorsFrom s m) at bad x ≡ locatorsFrom s n from 0
+  next : (left at bad : ℕ) (b : Bool) (r x : LocatorRead) → 0 < left → b ≡ textLed s at → b ≡ false → r ≡ locatorAt s at → r ≡ x → Located left at bad
+      → locatorThen (locatorsFrom s (left - 1)) at bad x ≡ locatorsFrom s n from 0
   unfolding locatorsFrom pick
-  next m at bad b r x e f g q i = rw (sym e ∙ f, sym g ∙ q) at i
+  next left at bad b r x h e f g q i = let one : left ≡ suc (left - 1) = omega arith in rw (sym e ∙ f, sym g ∙ q) at (rw one at i)
 
   pub located-bad : (left at bad place : ℕ) (b : Bool) (r : LocatorRead) → 0 < left → b ≡ textLed s at → b ≡ false → r ≡ locatorAt s at → r ≡ LocatorRead.Bad place
       → Located left at bad → LocatorsRead.Bad place ≡ locatorsFrom s n from 0
   unfolding locatorThen
-  located-bad zero at bad place b r h e f g q i = absurd (omega arith)
-  located-bad (suc m) at bad place b r h e f g q i = next m at bad b r (LocatorRead.Bad place) e f g q i
+  located-bad left at bad place b r = next left at bad b r (LocatorRead.Bad place)
 
   pub located-next : (left at bad : ℕ) (l : Locator) (size bad′ new : ℕ) (r : LocatorRead) → 0 < left → r ≡ locatorAt s at → r ≡ LocatorRead.Got l size bad′
       → new ≡ firstOf bad bad′ → Located left at bad → Located (left - 1) (at + size) new
   unfolding locatorThen
-  located-next zero at bad l size bad′ new r h g q k i = absurd (omega arith)
-  located-next (suc m) at bad l size bad′ new r h g q k i =
-      rw (less m, k) (next m at bad false r (LocatorRead.Got l size bad′) (sym (never-led s at l size bad′ (sym g ∙ q))) refl g q i)
+  located-next left at bad l size bad′ new r h g q k i =
+      rw k (next left at bad false r (LocatorRead.Got l size bad′) h (sym (never-led s at l size bad′ (sym g ∙ q))) refl g q i)
 
 module _ (s : List ℕ) (n from bad₀ long₀ : ℕ) where
   -- the loop over pairs
@@ -108,19 +103,18 @@ module _ (s : List ℕ) (n from bad₀ long₀ : ℕ) where
   unfolding pairsFrom
   paired-end left at bad long e i = rw e at i
 
-  after : (m at bad long : ℕ) (r x : PairRead) → r ≡ pairAt s at → r ≡ x → Paired (suc m) at bad long → pairThen (pairsFrom s m) at bad long x ≡ pairsFrom s n from bad₀ long₀
+  after : (left at bad long : ℕ) (r x : PairRead) → 0 < left → r ≡ pairAt s at → r ≡ x → Paired left at bad long
+      → pairThen (pairsFrom s (left - 1)) at bad long x ≡ pairsFrom s n from bad₀ long₀
   unfolding pairsFrom
-  after m at bad long r x g q i = rw (sym g ∙ q) at i
+  after left at bad long r x h g q i = let one : left ≡ suc (left - 1) = omega arith in rw (sym g ∙ q) at (rw one at i)
 
   pub paired-bad : (left at bad long place : ℕ) (r : PairRead) → 0 < left → r ≡ pairAt s at → r ≡ PairRead.Bad place
       → Paired left at bad long → PairsRead.Bad place ≡ pairsFrom s n from bad₀ long₀
   unfolding pairThen
-  paired-bad zero at bad long place r h g q i = absurd (omega arith)
-  paired-bad (suc m) at bad long place r h g q i = after m at bad long r (PairRead.Bad place) g q i
+  paired-bad left at bad long place r = after left at bad long r (PairRead.Bad place)
 
   pub paired-next : (left at bad long : ℕ) (o : Objective) (t : Tag) (size bad′ long′ new newer : ℕ) (r : PairRead) → 0 < left
       → r ≡ pairAt s at → r ≡ PairRead.Got o t size bad′ long′ → new ≡ firstOf bad bad′ → newer ≡ firstOf long long′
       → Paired left at bad long → Paired (left - 1) (at + size) new newer
   unfolding pairThen
-  paired-next zero at bad long o t size bad′ long′ new newer r h g q k l i = absurd (omega arith)
-  paired-next (suc m) at bad long o t size bad′ long′ new newer r h g q k l i = rw (less m, k, l) (after m at bad long r (PairRead.Got o t size bad′ long′) g q i)
+  paired-next left at bad long o t size bad′ long′ new newer r h g q k l i = rw (k, l) (after left at bad long r (PairRead.Got o t size bad′ long′) h g q i)

@@ -4,7 +4,7 @@
 use mathlib.Core.Path.{_≡_, refl, sym, subst}
 use mathlib.Core.List.{List}
 use mathlib.Core.Bool.{Bool, true, _||_}
-use mathlib.Core.Logic.{_⊎_, inl, inr}
+use mathlib.Core.Logic.{_⊎_, inl, inr, ⊎-elim}
 use Prim.Native.Nat.{ℕ, _+_, _-_, _*_, _≤_}
 use native.Mathlib.Omega.{arith}
 use lib.ListN.{length}
@@ -16,7 +16,7 @@ use Rattle.cbor.specs.declared.item.ItemRead.{ItemRead}
 use Rattle.cbor.specs.declared.token.Token.{Token}
 use Rattle.cbor.specs.Item.{firstItem}
 use Rattle.cbor.specs.Token.{tokenAt, itemsIn, upTo}
-use Rattle.cbor.proofs.Tokens.{token-is, token-end, token-has}
+use Rattle.cbor.proofs.Tokens.{token-end, token-has}
 use Rattle.options.specs.declared.Span.{Span}
 use Rattle.options.specs.declared.objective.Objective.{Objective}
 use Rattle.options.specs.declared.objective.ObjectiveRead.{ObjectiveRead}
@@ -89,14 +89,11 @@ OfKind kind (M.Invalid session item) = Unit {0}
 -- what the test of an initiator says
 pub initiated : (t : Token) → isInitiator t ≡ true → (t .major ≡ 2) × ((t .arg ≡ 4) ⊎ (t .arg ≡ 16))
 unfolding isInitiator
-initiated t q = (eqb-true (t .major) 2 (and-left (eqb (t .major) 2) size q), by (or-true (eqb (t .arg) 4) (eqb (t .arg) 16) (and-right (eqb (t .major) 2) size q)))
-  where
-    size : Bool
-    size = eqb (t .arg) 4 || eqb (t .arg) 16
-
-    by : (eqb (t .arg) 4 ≡ true) ⊎ (eqb (t .arg) 16 ≡ true) → (t .arg ≡ 4) ⊎ (t .arg ≡ 16)
-    by (inl e) = inl (eqb-true (t .arg) 4 e)
-    by (inr e) = inr (eqb-true (t .arg) 16 e)
+initiated t q =
+    let size = eqb (t .arg) 4 || eqb (t .arg) 16 in (
+      eqb-true (t .major) 2 (and-left (eqb (t .major) 2) size q),
+      ⊎-elim (λ e. inl (eqb-true (t .arg) 4 e)) (λ e. inr (eqb-true (t .arg) 16 e)) (or-true (eqb (t .arg) 4) (eqb (t .arg) 16) (and-right (eqb (t .major) 2) size q)),
+    )
 
 module _ (s : List ℕ) where
   -- ---- the shapes
@@ -112,7 +109,7 @@ module _ (s : List ℕ) where
       let (two, size) = initiated t e in
       let string : t .next ≡ t .body + t .arg = token-has s at .string (omega arith) (omega arith) in
       let long : t .arg ≡ t .next - t .body = omega arith in
-      (omega (arith, token-is s at t refl .start, token-end s at), subst (λ (n : ℕ). (n ≡ 4) ⊎ (n ≡ 16)) long size)
+      (omega (arith, token-has s at .start, token-end s at), subst (λ (n : ℕ). (n ≡ 4) ⊎ (n ≡ 16)) long size)
 
   -- an objective of the message
   objective-in : {at : ℕ} {o : Objective} → at ≤ length s → ObjectiveParts (at + (length s - at)) o → ObjectiveParts (length s) o
@@ -238,6 +235,8 @@ module _ (s : List ℕ) where
   pub kind-parts : (kind n at : ℕ) → ShapeParts kind (byKind s kind n at)
   unfolding byKind noopAt endAt waitAt invalidAt
   kind-parts kind n at =
+      let session = upTo mostNumber (tokenAt s at) in
+      let next = tokenAt s at .next in
       both Parts _ (both Parts _ (tt, tt) tt)
       (pick-case Parts _ (λ e. of-kind 1 (discoveryAt s n at) e (discovery-parts n at))
       (λ _. pick-case Parts _ (λ e. of-kind 2 (responseAt s n at) e (response-parts n at))
@@ -247,12 +246,6 @@ module _ (s : List ℕ) where
       (λ _. both Parts _ (both Parts _ tt (both Parts _ tt (both Parts _ tt (both Parts _ (tt, tt) (both Parts _ tt (tt, tt))))))
       (exchange-parts kind n at)))))))
     where
-      session : ℕ
-      session = upTo mostNumber (tokenAt s at)
-
-      next : ℕ
-      next = tokenAt s at .next
-
       Parts : Shape → Type 0
       Parts = ShapeParts kind
 

@@ -17,7 +17,7 @@ use Rattle.cbor.specs.declared.token.Token.{Token}
 use Rattle.cbor.specs.Token.{tokenAt, tokenFrom, nothingAt, sizeAt, itemsIn, upTo}
 use Rattle.cbor.specs.Head.{headAt}
 use Rattle.cbor.specs.Item.{leftUnder}
-use Rattle.cbor.proofs.Tokens.{token-is, token-end, token-has, is-array, is-number, size-le}
+use Rattle.cbor.proofs.Tokens.{token-end, token-has, is-array, is-number, size-le}
 use Rattle.cbor.proofs.Passes.{Passes, passes-none, passes-then, passes-within, Leaf, leaf-there, leaf-passes, array-passes, size-passes}
 use Rattle.options.specs.declared.locator.LocatorRead.{LocatorRead}
 use Rattle.options.specs.declared.objective.Objective.{Objective}
@@ -43,25 +43,14 @@ address-leaf kind t =
     P : Bool → Type 0
     P b = b ≡ true → Leaf t
 
--- what is read as a protocol is a leaf
-protocol-leaf : (kind : ℕ) (t : Token) → (protocolOf kind t ≡ noProtocol → ⊥) → Leaf t
-unfolding protocolOf
-protocol-leaf kind t =
+-- what is read as a protocol or a port is a leaf: a number, or null where the kind may have it
+number-leaf : (kind none null read : ℕ) (t : Token) → (pick (eqb (t .major) 0) read (pick (eqb kind 106) (pick (isNull t) null none) none) ≡ none → ⊥) → Leaf t
+number-leaf kind none null read t =
     pick-case P (eqb (t .major) 0) (λ e _. inl (omega (arith, eqb-true (t .major) 0 e)))
     (λ _. both P (eqb kind 106) (pick-case P (isNull t) (λ e _. null-leaf t e) (λ _ n. absurd (n refl))) (λ n. absurd (n refl)))
   where
     P : ℕ → Type 0
-    P p = (p ≡ noProtocol → ⊥) → Leaf t
-
--- what is read as a port is a leaf
-port-leaf : (kind : ℕ) (t : Token) → (portOf kind t ≡ noPort → ⊥) → Leaf t
-unfolding portOf
-port-leaf kind t =
-    pick-case P (eqb (t .major) 0) (λ e _. inl (omega (arith, eqb-true (t .major) 0 e)))
-    (λ _. both P (eqb kind 106) (pick-case P (isNull t) (λ e _. null-leaf t e) (λ _ n. absurd (n refl))) (λ n. absurd (n refl)))
-  where
-    P : ℕ → Type 0
-    P p = (p ≡ noPort → ⊥) → Leaf t
+    P p = (p ≡ none → ⊥) → Leaf t
 
 -- a locator has six bytes at least, and lies within so many
 abbrev pub LocatorOk : ℕ → LocatorRead → Type 0
@@ -75,8 +64,14 @@ LocatorWalked s (LocatorRead.Got l size bad) = (left : ℕ) → Passes (suc left
 
 -- both: two bytes are its kind's, and one its own head's, its address's, its protocol's and its port's
 locator-told : (base : ℕ) (s : List ℕ) → LocatorOk (length s) (locatorIn base s) × LocatorWalked s (locatorIn base s)
-unfolding locatorIn locatorReached
+unfolding locatorIn locatorReached protocolOf portOf
 locator-told base s =
+    let a = tokenAt s 0 in
+    let k = tokenAt s (a .next) in
+    let kind = upTo 106 k in
+    let b = tokenAt s (k .next) in
+    let p = tokenAt s (b .next) in
+    let q = tokenAt s (p .next) in
     pick-case P (eqb (itemsIn a) 0) (λ _. (tt, tt))
     (λ t₁. pick-case P (ltb kind 103) (λ _. (tt, tt))
     (λ t₂. pick-case P (ltb 106 kind) (λ _. (tt, tt))
@@ -89,8 +84,8 @@ locator-told base s =
     let (number, same) = is-number 106 k (ltb-false 106 kind t₃) in
     let high : 103 ≤ kind = ltb-false kind 103 t₂ in
     let address = address-leaf kind b t₅ in
-    let protocol = protocol-leaf kind p (eqb-false (protocolOf kind p) noProtocol t₆) in
-    let port = port-leaf kind q (eqb-false (portOf kind q) noPort t₇) in
+    let protocol = number-leaf kind noProtocol _ _ p (eqb-false (protocolOf kind p) noProtocol t₆) in
+    let port = number-leaf kind noPort _ _ q (eqb-false (portOf kind q) noPort t₇) in
     let a₁ : 0 + 1 ≤ a .next = token-has s 0 .some (omega arith) in
     let k₁ : a .next + 2 ≤ k .next = token-has s (a .next) .wide (omega arith) in
     let b₁ : k .next + 1 ≤ b .next = token-has s (k .next) .some (leaf-there b address) in
@@ -104,32 +99,10 @@ locator-told base s =
     (λ _. (tt, tt)))
     (λ _. (tt, tt)))))
   where
-    a : Token
-    a = tokenAt s 0
-
-    k : Token
-    k = tokenAt s (a .next)
-
-    kind : ℕ
-    kind = upTo 106 k
-
-    b : Token
-    b = tokenAt s (k .next)
-
-    p : Token
-    p = tokenAt s (b .next)
-
-    q : Token
-    q = tokenAt s (p .next)
-
     P : LocatorRead → Type 0
     P r = LocatorOk (length s) r × LocatorWalked s r
 
--- a locator that is read lies within the part
-locator-ok : (base : ℕ) (s : List ℕ) → LocatorOk (length s) (locatorIn base s)
-locator-ok base s = locator-told base s .0
-
--- and is passed
+-- so it is passed
 pub locator-walked : (base : ℕ) (s : List ℕ) → LocatorWalked s (locatorIn base s)
 locator-walked base s = locator-told base s .1
 
@@ -207,8 +180,8 @@ objective-told levels base s =
         let n₁ : a .next + 1 ≤ n .next = token-has s (a .next) .some (omega arith) in
         let f₁ : n .next + 1 ≤ f .next = token-has s (n .next) .some (omega arith) in
         let c₁ : f .next + 1 ≤ c .next = token-has s (f .next) .some (omega arith) in
-        let here : c .at ≡ f .next = token-is s (f .next) c refl .here in
-        let start : n .body ≤ n .next = token-is s (a .next) n refl .start in (
+        let here : c .at ≡ f .next = token-has s (f .next) .here in
+        let start : n .body ≤ n .next = token-has s (a .next) .start in (
           record {
             name = omega (arith, token-end s (a .next));
             limit = byte;
@@ -221,11 +194,7 @@ objective-told levels base s =
           passes-then (passes-then (leaf-passes s (a .next) (inl (omega arith))) (leaf-passes s (n .next) (inl (omega arith)))) (leaf-passes s (f .next) (inl (omega arith))),
         )
 
--- an objective that is read lies within the part
-objective-ok : (levels base : ℕ) (s : List ℕ) → ObjectiveOk base (length s) (objectiveIn levels base s)
-objective-ok levels base s = objective-told levels base s .0
-
--- and is passed
+-- so it is passed
 pub objective-walked : (levels base : ℕ) (s : List ℕ) → ObjectiveWalked levels s (objectiveIn levels base s)
 objective-walked levels base s = objective-told levels base s .1
 
@@ -237,10 +206,10 @@ PairOk base room (PairRead.Got o t size bad long) = ObjectiveParts (base + room)
 
 -- at a place
 pub locator-within : (s : List ℕ) (base at : ℕ) (r x : LocatorRead) → r ≡ locatorIn base (drop at s) → r ≡ x → LocatorOk (length s - at) x
-locator-within s base at r x e q = rw (length-drop at s) at (subst (LocatorOk (length (drop at s))) (sym e ∙ q) (locator-ok base (drop at s)))
+locator-within s base at r x e q = rw (length-drop at s) at (subst (LocatorOk (length (drop at s))) (sym e ∙ q) (locator-told base (drop at s) .0))
 
 pub objective-within : (levels : ℕ) (s : List ℕ) (base at : ℕ) (r x : ObjectiveRead) → r ≡ objectiveIn levels base (drop at s) → r ≡ x → ObjectiveOk base (length s - at) x
-objective-within levels s base at r x e q = rw (length-drop at s) at (subst (ObjectiveOk base (length (drop at s))) (sym e ∙ q) (objective-ok levels base (drop at s)))
+objective-within levels s base at r x e q = rw (length-drop at s) at (subst (ObjectiveOk base (length (drop at s))) (sym e ∙ q) (objective-told levels base (drop at s) .0))
 
 -- at a part
 pub locator-fits : (s : List ℕ) (base at : ℕ) (r x : LocatorRead) → r ≡ locatorIn base (take (length s - at) (drop at s)) → r ≡ x → LocatorOk (length s - at) x
@@ -295,6 +264,9 @@ module _ (base : ℕ) (s : List ℕ) where
   unfolding pairLed pairTail isEmpty
   led-told (ObjectiveRead.Bad place) array h walked = (tt, tt)
   led-told (ObjectiveRead.Got o size bad long) array h walked =
+      let n = tokenAt s 0 .arg in
+      let at = tokenAt s 0 .next in
+      let t = tokenAt s (at + size) in
       let some : 0 + 1 ≤ at = token-has s 0 .some (omega arith) in
       let end : base + at + (length s - at) ≡ base + length s = omega arith in
       let parts = subst (λ (e : ℕ). ObjectiveParts e o) end (h .0) in
@@ -308,15 +280,6 @@ module _ (base : ℕ) (s : List ℕ) where
       ((parts, omega arith, token-end s (at + size), omega (arith, h .3)), second (t .next) (array-passes s (at + size) four (rw none passes-none))))
       (λ _. tagged-told (at + size) o bad long _ parts (omega (arith, h .3)) (locator-within s (base + (at + size)) (at + size) _ _ refl refl) (locator-walked (base + (at + size)) (drop (at + size) s)) second))
       (λ _. (tt, tt))
-    where
-      n : ℕ
-      n = tokenAt s 0 .arg
-
-      at : ℕ
-      at = tokenAt s 0 .next
-
-      t : Token
-      t = tokenAt s (at + size)
 
   -- four bytes are its objective's, and one its own head's and its tag's
   pair-told : Told (pairIn base s)
@@ -328,16 +291,12 @@ module _ (base : ℕ) (s : List ℕ) where
       let four = is-array a (eqb-false (itemsIn a) 0 t) in
       led-told _ four (objective-within pairLevels s (base + a .next) (a .next) _ _ refl refl) (objective-walked pairLevels (base + a .next) (drop (a .next) s)))
 
-  -- a pair that is read lies within the part
-  pair-ok : PairOk base (length s) (pairIn base s)
-  pair-ok = pair-told .0
-
-  -- and is passed
+  -- so it is passed
   pub pair-walked : PairWalked s (pairIn base s)
   pair-walked = pair-told .1
 
 pub pair-within : (s : List ℕ) (base at : ℕ) (r x : PairRead) → r ≡ pairIn base (drop at s) → r ≡ x → PairOk base (length s - at) x
-pair-within s base at r x e q = rw (length-drop at s) at (subst (PairOk base (length (drop at s))) (sym e ∙ q) (pair-ok base (drop at s)))
+pair-within s base at r x e q = rw (length-drop at s) at (subst (PairOk base (length (drop at s))) (sym e ∙ q) (pair-told base (drop at s) .0))
 
 -- no part is left past the message's end
 none-past : (P : List ℕ → Type 0) (s : List ℕ) (at : ℕ) → length s ≤ at → P [] → P (drop at s)

@@ -2,7 +2,6 @@
 -- Assumes nothing.
 use mathlib.Core.Path.{_≡_, refl, ap}
 use mathlib.Core.List.{List}
-use mathlib.Core.Bool.{false}
 use Prim.Native.Nat.{ℕ, _+_, _≤_, _<_}
 use native.Mathlib.Omega.{arith}
 use lib.ListN.{drop}
@@ -12,7 +11,7 @@ use Rattle.base.specs.Pick.{pick}
 use Rattle.base.proofs.Picks.{both, one-test, one-test-case}
 use Rattle.cbor.specs.declared.token.Token.{Token}
 use Rattle.cbor.specs.Token.{tokenAt, sizeAt, itemsIn, upTo}
-use Rattle.cbor.proofs.Tokens.{token-is, token-has, is-array, is-number}
+use Rattle.cbor.proofs.Tokens.{token-has, is-array, is-number}
 use Rattle.options.specs.declared.locator.Locator.{Locator}
 use Rattle.options.specs.declared.locator.LocatorRead.{LocatorRead}
 use Rattle.options.specs.declared.objective.Objective.{Objective}
@@ -27,7 +26,7 @@ use Rattle.options.proofs.Texts.{none-first, NoneMoves, bad-text-moves,
 
 -- a token stands past the head before it
 after-head : (s : List ℕ) (at : ℕ) → tokenAt s at .major < 8 → 1 ≤ tokenAt s (tokenAt s at .next) .at
-after-head s at there = omega (arith, token-has s at .some there, token-is s (tokenAt s at .next) (tokenAt s (tokenAt s at .next)) refl .here)
+after-head s at there = omega (arith, token-has s at .some there, token-has s (tokenAt s at .next) .here)
 
 -- ---- locators
 -- what is read at another place, by what is read at this one: a locator without fault is one there too, of the same size
@@ -43,39 +42,24 @@ locator-got {l′} {size} moves z = (l′, ap (LocatorRead.Got l′ size) (moves
 pub locator-moves : (base base′ : ℕ) (s : List ℕ) → LocatorMoves (locatorIn base s) (locatorIn base′ s)
 unfolding locatorIn locatorReached textOf
 locator-moves base base′ s =
+    let a = tokenAt s 0 in
+    let k = tokenAt s (a .next) in
+    let kind = upTo 106 k in
+    let b = tokenAt s (k .next) in
+    let p = tokenAt s (b .next) in
     one-test LocatorMoves (eqb (itemsIn a) 0) tt
     (one-test LocatorMoves (ltb kind 103) tt
     (one-test-case LocatorMoves (ltb 106 kind) (λ _. tt)
-    (λ t. one-test LocatorMoves (eqb (a .arg) 4)
+    (λ t.
+    let (number, _) = is-number 106 k (ltb-false 106 kind t) in
+    let some = after-head s (a .next) (omega arith) in
+    one-test LocatorMoves (eqb (a .arg) 4)
     (one-test LocatorMoves (addressFits kind b)
     (one-test LocatorMoves (eqb (protocolOf kind p) noProtocol) tt
-    (one-test LocatorMoves (eqb (portOf kind q) noPort) tt (locator-got (text t))))
+    (one-test LocatorMoves (eqb (portOf kind (tokenAt s (p .next))) noPort) tt
+    (locator-got (one-test NoneMoves (ltb kind 105) (λ _. refl) (bad-text-moves (contentIn s b) (base + b .at) (base′ + b .at) (omega arith))))))
     tt)
     tt)))
-  where
-    a : Token
-    a = tokenAt s 0
-
-    k : Token
-    k = tokenAt s (a .next)
-
-    kind : ℕ
-    kind = upTo 106 k
-
-    b : Token
-    b = tokenAt s (k .next)
-
-    p : Token
-    p = tokenAt s (b .next)
-
-    q : Token
-    q = tokenAt s (p .next)
-
-    text : ltb 106 kind ≡ false → NoneMoves (textOf kind (contentIn s b) (base + b .at)) (textOf kind (contentIn s b) (base′ + b .at))
-    text t =
-        let (number, _) = is-number 106 k (ltb-false 106 kind t) in
-        let some = after-head s (a .next) (omega arith) in
-        one-test NoneMoves (ltb kind 105) (λ _. refl) (bad-text-moves (contentIn s b) (base + b .at) (base′ + b .at) (omega arith))
 
 -- ---- objectives
 -- what is read at another place, by what is read at this one: an objective without fault is one there too, of the same size
@@ -92,6 +76,10 @@ objective-got {o′} moves moves′ z z′ = (o′, rw (moves z, moves′ z′) 
 pub objective-moves : (levels base base′ : ℕ) (s : List ℕ) → ObjectiveMoves (objectiveIn levels base s) (objectiveIn levels base′ s)
 unfolding objectiveIn objectiveNamed
 objective-moves levels base base′ s =
+    let a = tokenAt s 0 in
+    let n = tokenAt s (a .next) in
+    let f = tokenAt s (n .next) in
+    let c = tokenAt s (f .next) in
     one-test-case ObjectiveMoves (eqb (itemsIn a) 0) (λ _. tt)
     (λ t.
     let four : a .major ≡ 4 = is-array a (eqb-false (itemsIn a) 0 t) in
@@ -106,18 +94,6 @@ objective-moves levels base base′ s =
     (one-test ObjectiveMoves (eqb (a .arg) 3) (objective-got bad long)
     (one-test ObjectiveMoves (eqb (sizeAt levels s (c .next)) 0) tt (objective-got bad long)))))))
     tt)
-  where
-    a : Token
-    a = tokenAt s 0
-
-    n : Token
-    n = tokenAt s (a .next)
-
-    f : Token
-    f = tokenAt s (n .next)
-
-    c : Token
-    c = tokenAt s (f .next)
 
 -- ---- pairs
 -- what is read at another place, by what is read at this one: a pair without fault is one there too, of the same size

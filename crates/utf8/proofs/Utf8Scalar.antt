@@ -181,27 +181,6 @@ firstOf s =
     (pick (ltb (getD s 0 0) 0xF0) (value-three (getD s 0 0) (getD s 1 0) (getD s 2 0))
     (value-four (getD s 0 0) (getD s 1 0) (getD s 2 0) (getD s 3 0))))
 
-first-one : (b : ℕ) (r : List ℕ) → b < 0x80 → firstOf (b ∷ r) ≡ b
-unfolding firstOf pick
-first-one b r h = rw (lt-ltb b 0x80 h)
-
-first-two : (b t : ℕ) (r : List ℕ) → 0x80 ≤ b → b < 0xE0 → firstOf (b ∷ t ∷ r) ≡ value-two b t
-unfolding firstOf pick
-first-two b t r l h = rw (le-ltb b 0x80 l, lt-ltb b 0xE0 h)
-
-first-three : (b t u : ℕ) (r : List ℕ) → 0xE0 ≤ b → b < 0xF0 → firstOf (b ∷ t ∷ u ∷ r) ≡ value-three b t u
-unfolding firstOf pick
-first-three b t u r l h =
-    let l1 : 0x80 ≤ b = omega arith in
-    rw (le-ltb b 0x80 l1, le-ltb b 0xE0 l, lt-ltb b 0xF0 h)
-
-first-four : (b t u v : ℕ) (r : List ℕ) → 0xF0 ≤ b → firstOf (b ∷ t ∷ u ∷ v ∷ r) ≡ value-four b t u v
-unfolding firstOf pick
-first-four b t u v r l =
-    let l1 : 0x80 ≤ b = omega arith in
-    let l2 : 0xE0 ≤ b = omega arith in
-    rw (le-ltb b 0x80 l1, le-ltb b 0xE0 l2, le-ltb b 0xF0 l)
-
 value-four-is : (c : ℕ) → value-four (0xF0 + c / 2 ^ 18) (0x80 + c / 2 ^ 12 % 2 ^ 6) (0x80 + c / 2 ^ 6 % 2 ^ 6) (0x80 + c % 2 ^ 6) ≡ c
 value-four-is c =
     let e : c / 2 ^ 12 ≡ c / 2 ^ 6 / 2 ^ 6 = omega arith in
@@ -209,11 +188,12 @@ value-four-is c =
     omega arith
 
 pub first-is : (c : ℕ) (r : List ℕ) → firstOf (scalarBytes c ++ r) ≡ c
+unfolding firstOf pick
 first-is c r =
-    scalar-case c (λ s. firstOf (s ++ r) ≡ c) (first-one c r)
-    (λ l h. first-two (0xC0 + c / 2 ^ 6) (0x80 + c % 2 ^ 6) r (omega arith) (omega arith) ∙ omega arith)
-    (λ l h. first-three (0xE0 + c / 2 ^ 12) (0x80 + c / 2 ^ 6 % 2 ^ 6) (0x80 + c % 2 ^ 6) r (omega arith) (omega arith) ∙ omega arith)
-    (λ l. first-four (0xF0 + c / 2 ^ 18) (0x80 + c / 2 ^ 12 % 2 ^ 6) (0x80 + c / 2 ^ 6 % 2 ^ 6) (0x80 + c % 2 ^ 6) r (omega arith) ∙ value-four-is c)
+    scalar-case c (λ s. firstOf (s ++ r) ≡ c) (λ h. rw (lt-ltb c 0x80 h))
+    (λ l h. let b = 0xC0 + c / 2 ^ 6 in rw (le-ltb b 0x80 (omega arith), lt-ltb b 0xE0 (omega arith)) (omega arith))
+    (λ l h. let b = 0xE0 + c / 2 ^ 12 in rw (le-ltb b 0x80 (omega arith), le-ltb b 0xE0 (omega arith), lt-ltb b 0xF0 (omega arith)) (omega arith))
+    (λ l. let b = 0xF0 + c / 2 ^ 18 in rw (le-ltb b 0x80 (omega arith), le-ltb b 0xE0 (omega arith), le-ltb b 0xF0 (omega arith)) (value-four-is c))
 
 pub some-bytes : (c : ℕ) (r : List ℕ) → 1 ≤ length (scalarBytes c ++ r)
-some-bytes c r = scalar-case c (λ s. 1 ≤ length (s ++ r)) (λ _. omega arith) (λ _ _. omega arith) (λ _ _. omega arith) (λ _. omega arith)
+some-bytes c r = scalar-case c (λ s. 1 ≤ length (s ++ r)) (omega arith) (omega arith) (omega arith) (omega arith)

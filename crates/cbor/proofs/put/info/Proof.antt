@@ -9,7 +9,7 @@ use Rattle.cbor.proofs.put.info.Statement.{statement}
 use Rattle.cbor.proofs.put.info.Tie as tie
 
 cast-result : tie.Need-cast-result
-cast-result c = omega (arith, in-first-lt _ _ (c .before .pre) (c .if1 .taken))
+cast-result c = omega (arith, in-first-lt _ (rw (c .if1 .taken) at (c .before .pre)))
 
 returns : tie.Need-returns
 unfolding infoOf pick
