@@ -26,23 +26,15 @@ module _ (R : ItemRead → ItemRead → Type 0) (at : ℕ) (s st st′ : List �
   next-both left (Step.Opened len n pairs) h same agree = agree len (itemsOf n pairs ∷ []) (h .0 .0) (h .0 .1) (le-refl 1)
 
 module _ (most : ℕ) where
-  -- a step by what may open here
-  here : List ℕ → List ℕ → Step
-  here s stack = stepAt (most - length stack) s
-
-  here-ok : (s stack : List ℕ) → StepOk (most - length stack) (length s) (here s stack)
-  unfolding here
-  here-ok s stack = step-ok (most - length stack) s
-
   -- any count of turns that is large enough gives the same
   any-turns : (f g at : ℕ) (s stack : List ℕ) → enough s stack ≤ f → enough s stack ≤ g → run most f at s stack ≡ run most g at s stack
-  unfolding run enough here
+  unfolding run enough
   any-turns zero g at s stack hf hg = absurd (omega arith)
   any-turns (suc f) zero at s stack hf hg = absurd (omega arith)
   any-turns (suc f) (suc g) at s [] hf hg = refl
   any-turns (suc f) (suc g) at s (zero ∷ stack) hf hg = any-turns f g at s stack (omega arith) (omega arith)
   any-turns (suc f) (suc g) at s (suc n ∷ stack) hf hg =
-      next-both _≡_ at s (n ∷ stack) (n ∷ stack) (run most f) (run most g) _ (here s stack) (here-ok s stack) (λ _ _. refl)
+      next-both _≡_ at s (n ∷ stack) (n ∷ stack) (run most f) (run most g) _ _ (step-ok _ s) (λ _ _. refl)
       (λ len new lo hi one.
       let d = length-drop len s in
       let a = length-append new (n ∷ stack) in
@@ -58,10 +50,10 @@ module _ (most : ℕ) where
 
   pub runs-step : (at n : ℕ) (s stack : List ℕ)
       → runs most at s (suc n ∷ stack) ≡ next (runs most) at s (n ∷ stack) (stepAt (most - length stack) s)
-  unfolding run enough here
+  unfolding run enough
   runs-step at n s stack =
       let turns = 2 * length s + length (suc n ∷ stack) in
-      next-both _≡_ at s (n ∷ stack) (n ∷ stack) (run most turns) (runs most) _ (here s stack) (here-ok s stack) (λ _ _. refl)
+      next-both _≡_ at s (n ∷ stack) (n ∷ stack) (run most turns) (runs most) _ _ (step-ok _ s) (λ _ _. refl)
       (λ len new lo hi one.
       let d = length-drop len s in
       let a = length-append new (n ∷ stack) in
@@ -70,19 +62,18 @@ module _ (most : ℕ) where
   -- a count that exceeds the bytes left is never used up, so that it may be any other
   many : (f at : ℕ) (s above : List ℕ) (c c′ : ℕ) (below : List ℕ) → length s < c → length s < c′
       → run most f at s (above ++ c ∷ below) ≡ run most f at s (above ++ c′ ∷ below)
-  unfolding run here
+  unfolding run
   many zero at s above c c′ below h h′ = refl
   many (suc f) at s [] zero c′ below h h′ = absurd (omega arith)
   many (suc f) at s [] (suc c) zero below h h′ = absurd (omega arith)
   many (suc f) at s [] (suc c) (suc c′) below h h′ =
-      next-both _≡_ at s (c ∷ below) (c′ ∷ below) (run most f) (run most f) _ (here s below) (here-ok s below) (λ _ _. refl)
+      next-both _≡_ at s (c ∷ below) (c′ ∷ below) (run most f) (run most f) _ _ (step-ok _ s) (λ _ _. refl)
       (λ len new lo hi one. let d = length-drop len s in many f (at + len) (drop len s) new c c′ below (omega arith) (omega arith))
   many (suc f) at s (zero ∷ above) c c′ below h h′ = many f at s above c c′ below h h′
   many (suc f) at s (suc n ∷ above) c c′ below h h′ =
       let same-levels : length (above ++ c ∷ below) ≡ length (above ++ c′ ∷ below) = simp length-append in
       ap (λ (k : ℕ). next (run most f) at s (n ∷ above ++ c ∷ below) (stepAt (most - k) s)) same-levels
-      ∙ next-both _≡_ at s (n ∷ above ++ c ∷ below) (n ∷ above ++ c′ ∷ below) (run most f) (run most f) _ (here s (above ++ c′ ∷ below))
-      (here-ok s (above ++ c′ ∷ below)) (λ _ _. refl)
+      ∙ next-both _≡_ at s (n ∷ above ++ c ∷ below) (n ∷ above ++ c′ ∷ below) (run most f) (run most f) _ _ (step-ok _ s) (λ _ _. refl)
       (λ len new lo hi one.
       let d = length-drop len s in
       rw (← append-assoc new (n ∷ above) (c ∷ below), ← append-assoc new (n ∷ above) (c′ ∷ below))

@@ -91,11 +91,7 @@ token-none s at t h e = token-is s at t (rw (drop-past s at h) e)
 pub token-found : (s : List ℕ) (at : ℕ) (t : Token) (x y : HeadRead) → y ≡ headAt (take (length s - at) (drop at s)) → y ≡ x
     → t ≡ tokenFrom at (length s - at) x → TokenIs s at t
 unfolding tokenAt
-token-found s at t x y e q f =
-    token-is s at t
-    (f
-    ∙ ap (tokenFrom at (length s - at)) (sym q ∙ e ∙ ap headAt (rest-is at s))
-    ∙ ap (λ (n : ℕ). tokenFrom at n (headAt (drop at s))) (sym (length-drop at s)))
+token-found s at t x y e q f = token-is s at t (rw (length-drop at s, ← rest-is at s, ← e, q) f)
 
 -- a token whose head is told otherwise
 pub token-told : (s : List ℕ) (at : ℕ) (t : Token) (major arg len n : ℕ) → headAt (drop at s) ≡ HeadRead.Head major arg len → n ≡ arg
