@@ -10,6 +10,7 @@ use Rattle.message.specs.declared.Message.{Message}
 use Rattle.message.specs.declared.Reading.{Reading}
 use Rattle.message.specs.Read.{readOf}
 use Rattle.message.specs.Opening.{mostNumber}
+use Rattle.message.proofs.Parts.{SmallCount, read-number}
 use Rattle.contents.specs.declared.fields.Session.{Session}
 use Rattle.contents.specs.Fields.{sessionOf}
 use Rattle.negotiation.specs.declared.Side.{Side}
@@ -21,7 +22,7 @@ use Rattle.negotiation.specs.Step.{moveOf, stateStep, readingStep, step}
 use Rattle.negotiation.specs.Allowed.{HasCount, Allowed}
 use Rattle.negotiation.specs.Turns.{Sent, after, stepsOf}
 use Rattle.negotiation.proofs.Ways.{Judged, state-judged, allowed-moves}
-use Rattle.negotiation.proofs.Readings.{SmallSession, SmallCount, reading-number, reading-small}
+use Rattle.negotiation.proofs.Readings.{SmallSession, reading-small}
 
 -- an answer is a refusal or a state
 refused-or-moved : {number : ℕ} {next : State} {x : Stepped} → x ≡ Refused number → x ≡ Moved next → ⊥
@@ -62,7 +63,7 @@ refused-20-exactly state message sender = (by (readOf message) refl, λ h. back 
     by (Reading.Refused number) e q =
         let f = unread-step state message sender e in
         let same : number ≡ 20 = cc in
-        absurd (omega (arith, reading-number message e))
+        absurd (omega (arith, read-number message e))
     by (Reading.Read m) e q = (m, e, λ next a. refused-or-moved q (read-step state message sender e ∙ allowed-moves a))
 
     back : {m : Message} → readOf message ≡ Reading.Read m → ((next : State) → Allowed sender m state next → ⊥) → (x : Stepped) → step state message sender ≡ x → step state message sender ≡ Refused 20

@@ -2,6 +2,6 @@
 pub mod Accepted
 pub mod Turns
 pub mod Edges
--- For their proofs: what a step leads to is allowed, and what is allowed is led to; numbers and counts of what was read.
+-- For their proofs: what a step leads to is allowed, and what is allowed is led to; sessions and counts of what was read.
 mod Ways
 mod Readings

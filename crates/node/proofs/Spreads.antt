@@ -9,11 +9,12 @@ use lib.ListN.{length}
 use Rattle.options.specs.declared.Span.{Span}
 use Rattle.options.specs.declared.objective.Objective.{Objective}
 use Rattle.options.specs.declared.pair.Pair.{Pair}
+use Rattle.options.proofs.Fits.{ObjectiveParts}
 use Rattle.message.specs.declared.Message.{Message}
 use Rattle.message.specs.declared.Message.the-variants as M
 use Rattle.message.specs.declared.Series.{Series}
 use Rattle.message.specs.Read.{mostBytes}
-use Rattle.message.proofs.Parts.{SpreadParts, MessageParts, read-parts}
+use Rattle.message.proofs.Parts.{Opened, MessageParts, read-parts}
 use Rattle.roundtrip.specs.Lower.{Lowers}
 use Rattle.node.specs.declared.role.Spread.{Spread}
 use Rattle.node.specs.declared.role.Role.{Role}
@@ -26,10 +27,10 @@ pub record Spreading (message : List ℕ) (m : Message) (s : Spread) : Type 0 wh
   pub lowers : Lowers m (s .objective)
 
 -- its parts lie where reading says
-spread-in : {message : List ℕ} {session : ℕ} {i : Span} {o : Objective} (flood : Bool) {m : Message} → Lowers m o → SpreadParts message session i o
+spread-in : {message : List ℕ} {session : ℕ} {i : Span} {o : Objective} (flood : Bool) {m : Message} → Lowers m o → Opened message session i → ObjectiveParts (length message) o
     → Spreading message m (spreadOf flood session i o)
-spread-in flood low h =
-    record { within = record { initiator = h .within; bytes = h .bytes; name = h .objective .name }; session = omega (arith, h .session); lowers = low }
+spread-in flood low h parts =
+    record { within = record { initiator = h .within; bytes = h .bytes; name = parts .name }; session = omega (arith, h .session); lowers = low }
 
 -- a message that spreads: a Discovery, or a Flood by its first objective
 pub data SpreadBy : Message → Spread → Type 0 where
@@ -53,8 +54,8 @@ spread-by (M.Synch session o) s e = absurd (let z : _≡_ {A = ℕ} 0 1 = cc in 
 spread-by (M.Invalid session item) s e = absurd (let z : _≡_ {A = ℕ} 0 1 = cc in omega arith)
 
 spreading : {message : List ℕ} {m : Message} {s : Spread} → SpreadBy m s → MessageParts message m → Spreading message m s
-spreading SpreadBy.discovery h = spread-in false Lowers.discovery h
-spreading SpreadBy.flood h = spread-in true Lowers.flood (h .0)
+spreading SpreadBy.discovery h = spread-in false Lowers.discovery (h .0) (h .1)
+spreading SpreadBy.flood h = spread-in true Lowers.flood (h .0) (h .1)
 
 pub role-spreading : (message : List ℕ) (s : Spread) → (r : RoleIn message (Role.Spreads s)) → Spreading message (r .is) s
 role-spreading message s r = spreading (spread-by (r .is) s (r .plays)) (read-parts message (r .is) (r .read) .1)

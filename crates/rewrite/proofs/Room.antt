@@ -42,15 +42,15 @@ module _ (s : List ℕ) (few : length s ≤ mostBytes) (list : List ℕ) (long :
   unfolding R.rowsEnd R.rowsIn R.endBy R.targetRows
   message-fit M.Noop h = omega arith
   message-fit (M.Discovery session i o) h = omega arith
-  message-fit (M.Response session i ttl (Targets.Locators series) extra) h = locators-fit series h
-  message-fit (M.Response session i ttl (Targets.Divert series) extra) h = locators-fit series h
+  message-fit (M.Response session i ttl (Targets.Locators series) extra) h = locators-fit series (h .1)
+  message-fit (M.Response session i ttl (Targets.Divert series) extra) h = locators-fit series (h .1)
   message-fit (M.RequestNegotiation session o) h = omega arith
   message-fit (M.RequestSynchronization session o) h = omega arith
   message-fit (M.Negotiate session o) h = omega arith
   message-fit (M.End session outcome) h = omega arith
   message-fit (M.Wait session time) h = omega arith
   message-fit (M.Synch session o) h = omega arith
-  message-fit (M.Flood session i ttl first series) h = pairs-fit series (h .1)
+  message-fit (M.Flood session i ttl first series) h = pairs-fit series (h .2)
   message-fit (M.Invalid session item) h = omega arith
 
 -- for readers

@@ -308,11 +308,11 @@ module _ (u h r : List ℕ) (n : ℕ) where
   message-recounted end (Lowers.discovery {session} {i} {o}) place lower q =
       let l = led old q in
       let (one, parts) = of-kind (M.Discovery session i o) end l in
-      whole (M.Discovery session i o) (M.Discovery session i) o end i l (omega arith) (rw one (discovery-recounted (omega (arith, parts .objective .limit)) (array .arg) (kind .next) session i o end place (rw one at (l .shape))))
+      whole (M.Discovery session i o) (M.Discovery session i) o end i l (omega arith) (rw one (discovery-recounted (omega (arith, parts .1 .limit)) (array .arg) (kind .next) session i o end place (rw one at (l .shape))))
       (λ o′ same e. record { kind = refl; session = refl; initiator = same; objective = o′; lowers = Lowers.discovery; lower = e ∙ lower })
   message-recounted end (Lowers.flood {session} {ttl} {i} {first} {series}) place lower q =
       let l = led old q in
       let (nine, parts) = of-kind (M.Flood session i ttl first series) end l in
-      let (tag, shape) = flood-recounted (omega (arith, parts .0 .objective .limit)) (array .arg) (kind .next) session i ttl first series end place (rw nine at (l .shape)) in
+      let (tag, shape) = flood-recounted (omega (arith, parts .1 .limit)) (array .arg) (kind .next) session i ttl first series end place (rw nine at (l .shape)) in
       whole (M.Flood session i ttl first series) (λ o. M.Flood session i ttl (record { objective = o; tag = tag }) series) (first .objective) end i l (omega arith) (rw nine shape)
       (λ o′ same e. record { kind = refl; session = refl; initiator = same; objective = o′; lowers = Lowers.flood; lower = e ∙ lower })

@@ -60,8 +60,8 @@ texts-stay (Msg.invalid s item) = (refl, refl)
 -- ---- the head replaced
 -- the objective's parts lie in the message
 lowers-parts : (s : List ℕ) {m : Message} {o : Objective} → Lowers m o → MessageParts s m → ObjectiveParts (length s) o
-lowers-parts s Lowers.discovery h = h .objective
-lowers-parts s Lowers.flood h = h .0 .objective
+lowers-parts s Lowers.discovery h = h .1
+lowers-parts s Lowers.flood h = h .1
 
 -- the new head isn't longer, so the bytes are no more
 shorter : (s : List ℕ) (o : Objective) → ObjectiveParts (length s) o → length (onward s o) ≤ length s
