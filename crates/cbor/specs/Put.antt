@@ -19,16 +19,18 @@ written bs out = bs ++ drop (length bs) out
 abbrev pub endWithin : ℕ → ℕ → ℕ
 endWithin room end = pick (leb end room) end (room + 1)
 
--- bs stored from `at` on, and nothing where they don't fit: where they end, and the buffer then
+-- bs stored from `at` on, and nothing where they don't fit: where they end
 unfoldable pub allEnd : List ℕ → ℕ → List ℕ → ℕ
 allEnd l at bs = endWithin (length l) (at + length bs)
 
+-- the buffer then
 unfoldable pub allPut : List ℕ → ℕ → List ℕ → List ℕ
 allPut l at bs = pick (leb (at + length bs) (length l)) (sets l at bs) l
 
--- the shortest head of major types 0 to 6 stored likewise; none of another is stored
+-- the shortest head of major types 0 to 6 stored likewise, and none of another: where it ends
 unfoldable pub headEnd : List ℕ → ℕ → ℕ → ℕ → ℕ
 headEnd l at major arg = pick (ltb 6 major) (length l + 1) (allEnd l at (head major arg))
 
+-- the buffer then
 unfoldable pub headPut : List ℕ → ℕ → ℕ → ℕ → List ℕ
 headPut l at major arg = pick (ltb 6 major) l (allPut l at (head major arg))

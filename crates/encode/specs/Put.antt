@@ -9,9 +9,11 @@ use Rattle.base.specs.Pick.{pick}
 use Rattle.cbor.specs.Put.{written, endWithin}
 
 -- ---- `message`: bs at the front of the buffer, which is cleared where they don't fit
+-- where they end
 unfoldable pub frontEnd : List ℕ → List ℕ → ℕ
 frontEnd l bs = endWithin (length l) (length bs)
 
+-- the buffer then
 unfoldable pub frontPut : List ℕ → List ℕ → List ℕ
 frontPut l bs = pick (leb (length bs) (length l)) (written bs l) (replicate (length l) 0)
 
