@@ -13,11 +13,10 @@ use Rattle.base.specs.Pick.{pick}
 use Rattle.base.specs.BigEndian.{bigEndian, bytesOf, Bytes}
 use Rattle.base.proofs.Digits.{spelled}
 use Rattle.base.proofs.Parts.{bytes-drop}
-use Rattle.node_state.proofs.Keys.{flag-same}
+use Rattle.node_state.proofs.Keys.{flag-same, tag-read}
 use Rattle.node_state.specs.declared.key.Key.{Key}
 use Rattle.node_state.specs.Table.{tagIn}
 use Rattle.node_state.specs.Key.{tagOf, keyOf}
-use Rattle.verdicts.proofs.Lives.{tag-read}
 
 -- ---- by the initiator's length
 

@@ -4,16 +4,16 @@ use mathlib.Core.Path.{_≡_, refl, sym, ap, _∙_}
 use mathlib.Core.Logic.{_≢_, _↔_}
 use mathlib.Core.Bool.{true, false}
 use Prim.Native.Nat.{ℕ, zero, suc, _+_, _-_, _*_, _/_, _%_, _^_, _≤_, _<_}
-use native.Mathlib.Nat.{le-trans, mod-lt, zero-div, mul-add-mod-self-right, pow-suc}
+use native.Mathlib.Nat.{le-trans, zero-div, mul-add-mod-self-right, pow-suc}
 use native.Mathlib.Decide.{ℕ-discrete, decLt}
 use native.Mathlib.Omega.{arith}
 use lib.Dec.{eqb}
 use lib.Count.{leading-top}
-use lib.Pow.{pow-add, pow-mono, pow-pos, split, high, shr-shr, mod-pow-add, field}
+use lib.Pow.{pow-add, pow-mono, pow-pos, high, shr-shr, field}
 use borrow.Author.Tests.{eqb-true}
 use Rattle.base.specs.Bits.{hasBit}
 use Rattle.base.proofs.Bools.{not-both}
-use Rattle.node_state.proofs.Masks.{up-le, taken-down}
+use Rattle.node_state.proofs.Masks.{up-le, without-bit, taken-down}
 
 -- bit j is one of the last j + 1
 low-bits : (x y j : ℕ) → x % 2 ^ (1 + j) ≡ y % 2 ^ (1 + j) → hasBit x j ≡ hasBit y j
@@ -47,17 +47,13 @@ unfolding hasBit
 zero-off j = rw (zero-div (2 ^ j)) refl
 
 -- bits above i aren't touched by taking bit i away
-above-bit : (mask i k : ℕ) → hasBit mask i ≡ true → hasBit (mask - 2 ^ i) (1 + i + k) ≡ hasBit mask (1 + i + k)
+above-bit : (mask i k : ℕ) → hasBit mask i ≡ true → hasBit (mask - 2 ^ i) (i + 1 + k) ≡ hasBit mask (i + 1 + k)
 unfolding hasBit
 above-bit mask i k up =
-    let q = mask / 2 ^ (1 + i) in
-    let parts : q * 2 ^ (1 + i) + mask % 2 ^ (1 + i) ≡ mask = split mask (1 + i) in
     let odd : mask / 2 ^ i % 2 ≡ 1 = eqb-true (mask / 2 ^ i % 2) 1 up in
-    let low : mask % 2 ^ (1 + i) ≡ 1 * 2 ^ i + mask % 2 ^ i = rw odd at (mod-pow-add mask 1 i) in
-    let less : mask - 2 ^ i ≡ q * 2 ^ (1 + i) + mask % 2 ^ i = omega arith in
-    let small : mask % 2 ^ i < 2 ^ (1 + i) = omega (arith, mod-lt mask (pow-pos (1 + i))) in
-    let one : (mask - 2 ^ i) / 2 ^ (1 + i) ≡ q = ap (λ (z : ℕ). z / 2 ^ (1 + i)) less ∙ high q (1 + i) small in
-    ap (λ (z : ℕ). eqb (z % 2) 1) (sym (shr-shr (mask - 2 ^ i) (1 + i) k) ∙ ap (λ (z : ℕ). z / 2 ^ k) one ∙ shr-shr mask (1 + i) k)
+    let half : (mask / 2 ^ i - 1) / 2 ≡ mask / 2 ^ i / 2 = omega arith in
+    let one : (mask - 2 ^ i) / 2 ^ (i + 1) ≡ mask / 2 ^ (i + 1) = sym (shr-shr (mask - 2 ^ i) i 1) ∙ ap (λ (z : ℕ). z / 2) (without-bit mask i odd) ∙ half ∙ shr-shr mask i 1 in
+    ap (λ (z : ℕ). eqb (z % 2) 1) (sym (shr-shr (mask - 2 ^ i) (i + 1) k) ∙ ap (λ (z : ℕ). z / 2 ^ k) one ∙ shr-shr mask (i + 1) k)
 
 -- nor any other bit
 other-bit : (mask i j : ℕ) → hasBit mask i ≡ true → j ≢ i → hasBit (mask - 2 ^ i) j ≡ hasBit mask j
@@ -65,7 +61,7 @@ other-bit mask i j up ne =
     let most : 2 ^ i ≤ mask = up-le mask i up in
     elim (decLt j i) [
       | yes l ↦ let whole : 2 ^ i + (mask - 2 ^ i) ≡ mask = omega arith in sym (below-bit i (mask - 2 ^ i) j l) ∙ ap (λ (z : ℕ). hasBit z j) whole
-      | no l ↦ let is : 1 + i + (j - (1 + i)) ≡ j = omega arith in rw is at (above-bit mask i (j - (1 + i)) up)
+      | no l ↦ let is : i + 1 + (j - (i + 1)) ≡ j = omega arith in rw is at (above-bit mask i (j - (i + 1)) up)
     ]
 
 -- for readers

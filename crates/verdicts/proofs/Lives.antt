@@ -10,12 +10,13 @@ use native.Mathlib.Nat.{mod-lt}
 use native.Mathlib.Decide.{decLt}
 use native.Mathlib.Omega.{arith}
 use lib.Dec.{ltb, leb, eqb}
-use lib.Pow.{high, split, pow-pos}
+use lib.Pow.{split, pow-pos}
 use borrow.Author.Tests.{ltb-true, leb-true, eqb-true, lt-ltb, le-leb, lt-leb, eq-eqb}
 use Rattle.base.specs.Pick.{pick}
 use Rattle.base.proofs.Bools.{true-or-false, and-left, and-right, and-true, not-both}
 use Rattle.node_state.specs.Table.{cell, rowFree, tagIn, initiatorFits, rowKeyed, rowUsed, rowBad, tableBad, rowLife, rowDead, freed}
 use Rattle.node_state.specs.Key.{noKey}
+use Rattle.node_state.proofs.Keys.{tag-read}
 use Rattle.node_state.proofs.Rows.{Holds, past-zeros, same-holds, length-free, free-live, free-dead, free-zeros, zeros-free, table-sized, row-good}
 use Rattle.verdicts.specs.Rows.{Free, Tag, discovery-4, discovery-16, flood-4, flood-16, Used, Live, Dead, SameRow}
 
@@ -73,13 +74,6 @@ tag-odd discovery-4 second third = fits-four second third
 tag-odd discovery-16 second third = (λ e f. absurd (omega arith), λ f. refl)
 tag-odd flood-4 second third = fits-four second third
 tag-odd flood-16 second third = (λ e f. absurd (omega arith), λ f. refl)
-
--- the tag in a first number
-pub tag-read : (session tag : ℕ) → session < 2 ^ 32 → tagIn (session + 2 ^ 32 * tag) ≡ tag
-unfolding tagIn
-tag-read session tag h =
-    let e : session + 2 ^ 32 * tag ≡ tag * 2 ^ 32 + session = omega arith in
-    ap (λ (n : ℕ). n / 2 ^ 32) e ∙ high tag 32 h
 
 pub used-is : (now : ℕ) (t : List ℕ) (i : ℕ) → rowUsed now t i ≡ true ↔ Used now t i
 unfolding rowUsed rowKeyed tagIn
