@@ -184,10 +184,10 @@ outgoing : Step → ℕ
 outgoing x = x .node .links - 2 ^ x .call .interface
 
 -- one that was answered RELAY, whatever its message's elements are
-module _ (x : Step) (s : Spread) (is : x .after ≡ relayed (clocked (x .node) (x .call .clock)) (freed (x .call .clock) (x .table)) (x .call) s) where
-  went-copies : copies x ≡ interfacesIn 8 (outgoing x)
-  unfolding copies maskOf relayed others clocked outgoing
-  went-copies = ap (λ (z : After). interfacesIn 8 (maskOf (z .called .reply))) is
+went-copies : (x : Step) (s : Spread) → x .after ≡ relayed (clocked (x .node) (x .call .clock)) (freed (x .call .clock) (x .table)) (x .call) s
+    → copies x ≡ interfacesIn 8 (outgoing x)
+unfolding copies maskOf relayed others clocked outgoing
+went-copies x s is = ap (λ (z : After). interfacesIn 8 (maskOf (z .called .reply))) is
 
 -- the copies of a call that passed its checks
 module _ (x : Step) (passes : Passed (x .node) (x .table) (x .call .clock) (x .call .interface) (length (x .call .output))) where

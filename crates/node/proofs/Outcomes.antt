@@ -134,12 +134,13 @@ module _ (r : Record) (t : List ℕ) (c : Call) (s : Spread) where
 pub passed : (r : Record) (t : List ℕ) (clock i : ℕ) (names : List ℕ) (room : ℕ) → barred r t clock i names room ≡ 0 → Passed r t clock i room
 unfolding barred
 passed r t clock i names room =
-    pick-case (λ (n : ℕ). n ≡ 0 → Passed r t clock i room) _ (λ _ e. absurd (omega arith))
-    (λ good. pick-case (λ (n : ℕ). n ≡ 0 → Passed r t clock i room) _ (λ _ e. absurd (omega arith))
-    (λ arrives. pick-case (λ (n : ℕ). n ≡ 0 → Passed r t clock i room) _ (λ _ e. absurd (omega arith))
-    (λ later. pick-case (λ (n : ℕ). n ≡ 0 → Passed r t clock i room) _ (λ _ e. absurd (omega arith))
-    (λ table. pick-case (λ (n : ℕ). n ≡ 0 → Passed r t clock i room) _ (λ _ e. absurd (omega arith))
-    (λ named. pick-case (λ (n : ℕ). n ≡ 0 → Passed r t clock i room) _ (λ _ e. absurd (omega arith))
+    let P : ℕ → Type 0 = λ n. n ≡ 0 → Passed r t clock i room in
+    pick-case P _ (λ _ e. absurd (omega arith))
+    (λ good. pick-case P _ (λ _ e. absurd (omega arith))
+    (λ arrives. pick-case P _ (λ _ e. absurd (omega arith))
+    (λ later. pick-case P _ (λ _ e. absurd (omega arith))
+    (λ table. pick-case P _ (λ _ e. absurd (omega arith))
+    (λ named. pick-case P _ (λ _ e. absurd (omega arith))
     (λ fits e. record {
       good = good;
       arrives = arrives;

@@ -41,7 +41,7 @@ onward-given message out s r some room =
 -- ---- an answer
 
 -- bytes in a message
-pub held-length : (s : List ℕ) (i : Span) → i .at + i .len ≤ length s → length (held s i) ≡ i .len
+held-length : (s : List ℕ) (i : Span) → i .at + i .len ≤ length s → length (held s i) ≡ i .len
 held-length s i h = length-take-le (i .len) (drop (i .at) s) (omega (arith, length-drop (i .at) s))
 
 -- an initiator has 4 or 16 bytes

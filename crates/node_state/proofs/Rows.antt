@@ -125,7 +125,7 @@ length-free now t (suc n) =
     let rest = length-free now t n in both (λ (l : List ℕ). length l ≡ length t) _ (length-put (freeRows now t n) n noKey 0 ∙ rest) rest
 
 -- the rows that are still to come are as they were
-pub free-ahead : (now : ℕ) (t : List ℕ) (n i j : ℕ) → n ≤ i → cell (freeRows now t n) i j ≡ cell t i j
+free-ahead : (now : ℕ) (t : List ℕ) (n i j : ℕ) → n ≤ i → cell (freeRows now t n) i j ≡ cell t i j
 unfolding freeRows cell
 free-ahead now t zero i j h = refl
 free-ahead now t (suc n) i j h =
@@ -209,7 +209,7 @@ first-most p zero i = omega arith
 first-most p (suc n) i = both (λ (r : ℕ). r ≤ i + suc n) (p i) (omega arith) (omega (arith, first-most p n (suc i)))
 
 -- where no row passes a test, none does
-pub none-passes : (p : ℕ → Bool) (k : ℕ) → someRow p ≡ false → k < 64 → p k ≡ false
+none-passes : (p : ℕ → Bool) (k : ℕ) → someRow p ≡ false → k < 64 → p k ≡ false
 unfolding someRow
 none-passes p k e l = first-miss p 64 0 k zero-le (le-trans l (ltb-false (firstFrom p 64 0) 64 e))
 

@@ -75,7 +75,7 @@ tag-odd discovery-16 second third = (λ e f. absurd (omega arith), λ f. refl)
 tag-odd flood-4 second third = fits-four second third
 tag-odd flood-16 second third = (λ e f. absurd (omega arith), λ f. refl)
 
-pub used-is : (now : ℕ) (t : List ℕ) (i : ℕ) → rowUsed now t i ≡ true ↔ Used now t i
+used-is : (now : ℕ) (t : List ℕ) (i : ℕ) → rowUsed now t i ≡ true ↔ Used now t i
 unfolding rowUsed rowKeyed tagIn
 used-is now t i = (there, back)
   where

@@ -1,6 +1,6 @@
 -- The rows of the relay table: which tables are refused, what freeing leaves, which row is found free, which key is known, what a relay fills.
 -- Assumes nothing.
-use mathlib.Core.Path.{_≡_, refl, sym, ap, _∙_}
+use mathlib.Core.Path.{_≡_, refl, sym, _∙_, subst}
 use mathlib.Core.Logic.{_≢_, _⊎_, inl, inr, _↔_}
 use mathlib.Core.Bool.{true, false}
 use mathlib.Core.List.{List}
@@ -11,7 +11,7 @@ use lib.ListN.{length}
 use borrow.Author.Tests.{eq-eqb}
 use Rattle.base.proofs.Bools.{true-or-false, not-both}
 use Rattle.node_state.specs.declared.key.Key.{Key}
-use Rattle.node_state.specs.Table.{cell, putRow, rowFree, rowBad, firstFrom, someRow, tableBad, freed, lowestFree, rowMatches, isKnown}
+use Rattle.node_state.specs.Table.{cell, putRow, rowFree, rowBad, someRow, tableBad, freed, lowestFree, rowMatches, isKnown}
 use Rattle.node_state.proofs.Rows.{put-other, put-holds, length-put, length-free, first-hit, first-miss, first-most, some-passes, passes-some, holds-matches, matches-holds, table-sized}
 use Rattle.verdicts.specs.Rows.{Free, Used, Live, Dead, HasKey, SameRow}
 use Rattle.verdicts.specs.Bars.{GoodTable}
@@ -25,6 +25,15 @@ free-same f g (suc zero) l = f .second ∙ sym (g .second)
 free-same f g (suc (suc zero)) l = f .third ∙ sym (g .third)
 free-same f g (suc (suc (suc zero))) l = f .fourth ∙ sym (g .fourth)
 free-same f g (suc (suc (suc (suc j)))) l = absurd (omega arith)
+
+-- the row that is found is free, and none below it is
+found-free : (t : List ℕ) → lowestFree t < 64 → Free t (lowestFree t)
+unfolding lowestFree
+found-free t l = free-is t (lowestFree t) .0 (first-hit (rowFree t) 64 0 l)
+
+below-used : (t : List ℕ) (k : ℕ) → k < lowestFree t → Free t k → ⊥
+unfolding lowestFree
+below-used t k l = fails (free-is t k) (first-miss (rowFree t) 64 0 k zero-le l)
 
 -- for readers
 
@@ -58,31 +67,11 @@ freed-length now t = length-free now t 64
 
 -- The row that is found is the one that is free and has no free row below it.
 pub lowest-is : (t : List ℕ) (i : ℕ) → i < 64 → lowestFree t ≡ i ↔ (Free t i × ((k : ℕ) → k < i → Free t k → ⊥))
-unfolding lowestFree
-lowest-is t i l = (there, back)
-  where
-    there : firstFrom (rowFree t) 64 0 ≡ i → Free t i × ((k : ℕ) → k < i → Free t k → ⊥)
-    there e = (
-      free-is t i .0 (ap (rowFree t) (sym e) ∙ first-hit (rowFree t) 64 0 (omega arith)),
-      λ k h. fails (free-is t k) (first-miss (rowFree t) 64 0 k zero-le (omega arith)),
-    )
-
-    back : Free t i × ((k : ℕ) → k < i → Free t k → ⊥) → firstFrom (rowFree t) 64 0 ≡ i
-    back (f, none) = go (decLt (firstFrom (rowFree t) 64 0) i) (decLt i (firstFrom (rowFree t) 64 0))
-      where
-        go : Dec (firstFrom (rowFree t) 64 0 < i) → Dec (i < firstFrom (rowFree t) 64 0) → firstFrom (rowFree t) 64 0 ≡ i
-        go (yes h) d = absurd (none (firstFrom (rowFree t) 64 0) h (free-is t (firstFrom (rowFree t) 64 0) .0 (first-hit (rowFree t) 64 0 (omega arith))))
-        go (no h) (yes d) = absurd (fails (free-is t i) (first-miss (rowFree t) 64 0 i zero-le d) f)
-        go (no h) (no d) = omega arith
-
--- 64 stands for none: it is found exactly if no row is free.
-pub lowest-none : (t : List ℕ) → lowestFree t ≡ 64 ↔ ((i : ℕ) → i < 64 → Free t i → ⊥)
-unfolding lowestFree
-lowest-none t = (
-  λ e i l. fails (free-is t i) (first-miss (rowFree t) 64 0 i zero-le (omega arith)),
-  λ none. elim (decLt (firstFrom (rowFree t) 64 0) 64) [
-    | yes h ↦ absurd (none (firstFrom (rowFree t) 64 0) h (free-is t (firstFrom (rowFree t) 64 0) .0 (first-hit (rowFree t) 64 0 h)))
-    | no h ↦ omega (arith, first-most (rowFree t) 64 0)
+lowest-is t i l = (
+  λ e. (subst (Free t) e (found-free t (omega arith)), λ k h. below-used t k (omega arith)),
+  λ (f, none). elim (decLt (lowestFree t) i) [
+    | yes h ↦ absurd (none (lowestFree t) h (found-free t (omega arith)))
+    | no h ↦ elim (decLt i (lowestFree t)) [ yes d ↦ absurd (below-used t i d f) | no d ↦ omega arith ]
   ],
 )
 
@@ -90,6 +79,13 @@ lowest-none t = (
 pub lowest-most : (t : List ℕ) → lowestFree t ≤ 64
 unfolding lowestFree
 lowest-most t = first-most (rowFree t) 64 0
+
+-- 64 stands for none: it is found exactly if no row is free.
+pub lowest-none : (t : List ℕ) → lowestFree t ≡ 64 ↔ ((i : ℕ) → i < 64 → Free t i → ⊥)
+lowest-none t = (
+  λ e i l. below-used t i (omega arith),
+  λ none. elim (decLt (lowestFree t) 64) [ yes h ↦ absurd (none (lowestFree t) h (found-free t h)) | no h ↦ omega (arith, lowest-most t) ],
+)
 
 -- A key is known exactly if some row has its three numbers.
 pub known-is : (k : Key) (t : List ℕ) → isKnown k t ≡ true ↔ ((i : ℕ) × (i < 64) × HasKey t i k)

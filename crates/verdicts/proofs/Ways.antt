@@ -108,7 +108,7 @@ pub of-same : (P : Verdict → Bool → Type 0) {v w : Verdict} {a b : Bool} →
 of-same P {w = w} {a} (e, f) p = subst (P w) f (subst (λ (z : Verdict). P z a) e p)
 
 -- what a verdict says of handing up, for a Flood and for all else
-unfoldable pub handed : Bool → Verdict → Bool
+unfoldable handed : Bool → Verdict → Bool
 handed flood Own = false
 handed flood Answer = false
 handed flood Duplicate = false
@@ -190,7 +190,7 @@ module _ (r : Record) (t : List ℕ) (c : Call) where
   -- ---- what comes of a call
 
   -- the verdict that is due, and what it does
-  abbrev pub Verdicted : Message → After → Type 0
+  abbrev Verdicted : Message → After → Type 0
   Verdicted m a = (v : Verdict) × (up : Bool) × Due r t c m v up × Does r t c m v up a
 
   verdicted-once : (m : Message) {v : Verdict} {up : Bool} {a b : After} → Verdicted m a → Due r t c m v up → Does r t c m v up b → a ≡ b
