@@ -9,10 +9,10 @@ use lib.ListN.{length}
 use borrow.Author.Tests.{le-ltb}
 use Rattle.base.specs.BigEndian.{Bytes}
 use Rattle.base.specs.Pick.{pick}
-use Rattle.base.proofs.Picks.{pick-case}
+use Rattle.base.proofs.Picks.{pick-case, both}
 use Rattle.node_state.specs.declared.Record.{Record}
 use Rattle.node_state.specs.declared.Kept.{Kept}
-use Rattle.node_state.specs.Record.{linksBad, recordBad, fresh, linked, setLinks}
+use Rattle.node_state.specs.Record.{recordBad, fresh, linked, setLinks}
 use Rattle.node.specs.Call.{Call, nodeCall}
 use Rattle.negotiation.specs.declared.Stepped.{Stepped}
 use Rattle.negotiation.specs.declared.Stepped.the-variants.{Refused, Moved}
@@ -36,7 +36,7 @@ fresh-back address port ttl interfaces mask f p l none =
     kept-back address f (fresh address port ttl interfaces mask)
     (λ e. (
       fresh-record-fits address port ttl interfaces mask p l,
-      pick-case (λ (k : Kept). k .refusal ≡ 0 → k .node .address ≡ address) (linksBad interfaces mask) (λ _ e. absurd (omega arith)) (λ _ _. refl) e,
+      both (λ (k : Kept). k .refusal ≡ 0 → k .node .address ≡ address) _ (λ e. absurd (omega arith)) (λ _. refl) e,
     ))
     (λ ne. absurd (ne none))
 
@@ -48,9 +48,9 @@ links-back address f mask =
     kept-back address f (setLinks r mask)
     (λ e. (
       linked-record-fits r mask (node-fits address f),
-      pick-case Addressed (recordBad r) (λ _ e. absurd (omega arith)) (λ good. pick-case Addressed _ (λ _ e. absurd (omega arith)) (λ _ _. node-address address f good)) e,
+      pick-case Addressed (recordBad r) (λ _ e. absurd (omega arith)) (λ good. both Addressed _ (λ e. absurd (omega arith)) (λ _. node-address address f good)) e,
     ))
-    (pick-case Left (recordBad r) (λ _ _. refl) (λ _. pick-case Left _ (λ _ _. refl) (λ _ ne. absurd (ne refl))))
+    (both Left _ (λ _. refl) (both Left _ (λ _. refl) (λ ne. absurd (ne refl))))
   where
     r : Record
     r = nodeOf address f

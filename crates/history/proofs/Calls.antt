@@ -11,7 +11,7 @@ use native.Mathlib.Omega.{arith}
 use lib.Dec.{eqb}
 use lib.ListN.{length}
 use borrow.Author.Tests.{eqb-true, leb-false}
-use Rattle.base.proofs.Picks.{pick-case}
+use Rattle.base.proofs.Picks.{pick-case, both}
 use Rattle.message.specs.declared.Message.{Message}
 use Rattle.message.specs.declared.Reading.{Reading}
 use Rattle.message.specs.Read.{readOf}
@@ -103,7 +103,7 @@ unfolding setLinks linked
 links-keep r mask =
     let P : Kept → Type 0 = λ k. SameNode r (k .node) in
     let same : SameNode r r = record { interfaces = refl; clock = refl; tally = refl } in
-    pick-case P _ (λ e. same) (λ e. pick-case P _ (λ e. same) (λ e. record { interfaces = refl; clock = refl; tally = refl }))
+    both P _ same (both P _ same (record { interfaces = refl; clock = refl; tally = refl }))
 
 -- ---- a row that a relay filled
 
@@ -114,11 +114,8 @@ StillThere k row then now t = (then + rowLife (k .first) ≤ now) ⊎ Holds t ro
 module _ (k : Key) (row then : ℕ) where
   pub freed-there : (before now : ℕ) (t : List ℕ) → before ≤ now → StillThere k row then before t → StillThere k row then now (freed now t)
   freed-there before now t later (inl over) = inl (le-trans over later)
-  freed-there before now t later (inr h) = go (decLt (now - then) (rowLife (k .first)))
-    where
-      go : Dec (now - then < rowLife (k .first)) → StillThere k row then now (freed now t)
-      go (yes live) = inr (free-keeps now t row k then h live)
-      go (no dead) = inl (omega (arith, life-least (k .first)))
+  freed-there before now t later (inr h) =
+      elim (decLt (now - then) (rowLife (k .first))) [ yes live ↦ inr (free-keeps now t row k then h live) | no dead ↦ inl (omega (arith, life-least (k .first))) ]
 
   -- the call's clock isn't before the row's
   pub there-past : (now : ℕ) (t : List ℕ) → tableBad now t ≡ false → StillThere k row then now (freed now t) → then ≤ now

@@ -15,7 +15,7 @@ use Rattle.options.specs.Text.{held}
 use Rattle.base.specs.Pick.{pick}
 use Rattle.base.specs.Lists.{Every, EachPair, Distinct}
 use Rattle.base.specs.Bits.{hasBit}
-use Rattle.base.proofs.Picks.{pick-case}
+use Rattle.base.proofs.Picks.{both}
 use Rattle.base.proofs.Bools.{not-both}
 use Rattle.base.proofs.Lists.{every-imp, every-chosen, pairs-chosen}
 use Rattle.base.proofs.Pigeonhole.{pigeonhole}
@@ -34,7 +34,7 @@ use Rattle.node.specs.Demand.{Demand3}
 use Rattle.node_state.proofs.Masks.{record-links, up-below, taken-down, others-fewer}
 use Rattle.node_state.proofs.Rows.{put-holds, length-free, life-least, table-sized}
 use Rattle.node_state.proofs.Keys.{flag-same, key-life, key-used}
-use Rattle.node.proofs.Outcomes.{arrives}
+use Rattle.node.proofs.Outcomes.{arrival-up}
 use Rattle.node.proofs.Spreads.{role-spreading}
 use Rattle.history.proofs.Told.{spread-told, told-spread, onward-count}
 use Rattle.history.proofs.Copies.{interfaces-up, interfaces-distinct, length-interfaces}
@@ -79,13 +79,10 @@ module _ (x : Step) (s : Spread) (k : Known x s) where
   unfolding given
   known-given = told-spread (x .call .message) s (k .facts .role)
 
-  session-small : s .session < 2 ^ 32
-  session-small = role-spreading (x .call .message) s (k .facts .role) .session
-
   -- how long its row lives
   row-life : rowLife (keyIn (x .call .message) s .first) ≡ pick (s .flood) 120000 60000
   unfolding keyIn
-  row-life = key-life (s .flood) (s .session) (held (x .call .message) (s .initiator)) session-small
+  row-life = key-life (s .flood) (s .session) (held (x .call .message) (s .initiator)) (role-spreading (x .call .message) s (k .facts .role) .session)
 
   known-apart : apartBy (given x .kind) ≡ rowLife (keyIn (x .call .message) s .first)
   known-apart = ap (λ (g : Told). apartBy (g .kind)) known-given ∙ kind-life (s .flood) ∙ sym row-life
@@ -187,14 +184,10 @@ outgoing : Step → ℕ
 outgoing x = x .node .links - 2 ^ x .call .interface
 
 -- one that was answered RELAY, whatever its message's elements are
-module _ (x : Step) (s : Spread) (is : x .after ≡ relayed (clocked (x .node) (x .call .clock)) (freed (x .call .clock) (x .table)) (x .call) s) where
-  went-mask : maskOf (x .after .called .reply) ≡ outgoing x
-  unfolding maskOf relayed others clocked outgoing
-  went-mask = ap (λ (z : After). maskOf (z .called .reply)) is
-
-  went-copies : copies x ≡ interfacesIn 8 (outgoing x)
-  unfolding copies
-  went-copies = ap (interfacesIn 8) went-mask
+went-copies : (x : Step) (s : Spread) → x .after ≡ relayed (clocked (x .node) (x .call .clock)) (freed (x .call .clock) (x .table)) (x .call) s
+    → copies x ≡ interfacesIn 8 (outgoing x)
+unfolding copies maskOf relayed others clocked outgoing
+went-copies x s is = ap (λ (z : After). interfacesIn 8 (maskOf (z .called .reply))) is
 
 -- the copies of a call that passed its checks
 module _ (x : Step) (passes : Passed (x .node) (x .table) (x .call .clock) (x .call .interface) (length (x .call .output))) where
@@ -205,7 +198,7 @@ module _ (x : Step) (passes : Passed (x .node) (x .table) (x .call .clock) (x .c
   copies-differ : Every (λ j. j ≢ x .call .interface) (interfacesIn 8 (outgoing x))
   unfolding outgoing
   copies-differ =
-      let up = arrives (x .node) (x .call .interface) (passes .good) (passes .arrives) .up in
+      let up = arrival-up (x .node) (x .call .interface) (passes .arrives) in
       every-imp (λ j. (j < 8) × (hasBit (outgoing x) j ≡ true)) (λ j. j ≢ x .call .interface)
       (λ j h e. not-both (hasBit (outgoing x) (x .call .interface)) (subst (λ (z : ℕ). hasBit (outgoing x) z ≡ true) e (h .1)) (taken-down (x .node .links) (x .call .interface) up))
       (interfacesIn 8 (outgoing x)) (interfaces-up 8 (outgoing x))
@@ -314,7 +307,7 @@ every-pair R S f (x ∷ xs) h = (every-imp (R x) (S x) (f x) xs (h .0), every-pa
 -- a fresh record has tallied nothing
 fresh-tally : (address : List ℕ) (port ttl interfaces mask : ℕ) → fresh address port ttl interfaces mask .node .tally ≡ 0
 unfolding fresh
-fresh-tally address port ttl interfaces mask = pick-case (λ (k : Kept). k .node .tally ≡ 0) _ (λ e. refl) (λ e. refl)
+fresh-tally address port ttl interfaces mask = both (λ (k : Kept). k .node .tally ≡ 0) _ refl refl
 
 -- for readers
 

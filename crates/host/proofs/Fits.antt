@@ -2,7 +2,7 @@
 -- Assumes nothing.
 use Prim.Native.Nat.{ℕ, zero, suc, _+_, _*_, _^_, _<_}
 use mathlib.Core.Path.{_≡_, refl, _∙_}
-use mathlib.Core.Bool.{Bool, false, true≢false}
+use mathlib.Core.Bool.{Bool, true, false, true≢false}
 use mathlib.Core.List.{List, [], _∷_}
 use native.Mathlib.Omega.{arith}
 use lib.Count.{ones}
@@ -85,46 +85,50 @@ key-fits flood session initiator small bytes =
 
 -- ---- a node call
 
--- what holds of the record and the table that a call leaves, as it holds of those that it was given, of those at its clock, and of those that a relay leaves
-module _ (r : Record) (t : List ℕ) (c : Call) (P : Record → List ℕ → Type 0) where
-  abbrev pub AfterIs : After → Type 0
-  AfterIs a = P (a .called .node) (a .table)
-
-  abbrev pub node : Record
+module _ (r : Record) (t : List ℕ) (c : Call) where
+  abbrev node : Record
   node = clocked r (c .clock)
 
-  abbrev pub table : List ℕ
+  abbrev table : List ℕ
   table = freed (c .clock) t
 
-  module _ (took : P node table)
-      (relays : (s : Spread) → RoleIn (c .message) (Role.Spreads s)
-      → P (tallied node (ones (others node (c .interface)))) (putRow table (lowestFree table) (keyIn (c .message) s) (c .clock))) where
-    carried-leaves : (s : Spread) (v : Verdict) → RoleIn (c .message) (Role.Spreads s) → AfterIs (carriedOut node table c s v)
-    unfolding carriedOut quiet answered relayed clocked
-    carried-leaves s Own role = took
-    carried-leaves s Answer role = took
-    carried-leaves s Duplicate role = took
-    carried-leaves s Last role = took
-    carried-leaves s Nowhere role = took
-    carried-leaves s NoRow role = took
-    carried-leaves s Relay role = relays s role
-    carried-leaves s Noop role = took
-    carried-leaves s Hand role = took
+  -- what holds of each way that a call can go
+  module _ (P : After → Type 0) (refuses : (n : ℕ) → P (refuse n r t c)) (silent : (v : Verdict) (up : Bool) → P (quiet v up node table c))
+      (answers : (s : Spread) → P (answered node table c s)) (relays : (s : Spread) → RoleIn (c .message) (Role.Spreads s) → P (relayed node table c s)) where
+    carried-goes : (s : Spread) (v : Verdict) → RoleIn (c .message) (Role.Spreads s) → P (carriedOut node table c s v)
+    unfolding carriedOut
+    carried-goes s Own role = silent Own false
+    carried-goes s Answer role = answers s
+    carried-goes s Duplicate role = silent Duplicate false
+    carried-goes s Last role = silent Last (s .flood)
+    carried-goes s Nowhere role = silent Nowhere (s .flood)
+    carried-goes s NoRow role = silent NoRow (s .flood)
+    carried-goes s Relay role = relays s role
+    carried-goes s Noop role = silent Noop false
+    carried-goes s Hand role = silent Hand true
 
-    taken-leaves : (role : Role) → RoleIn (c .message) role → AfterIs (taken node table c role)
-    unfolding taken quiet
-    taken-leaves Role.Noop role = took
-    taken-leaves Role.Upward role = took
-    taken-leaves (Role.Spreads s) role = carried-leaves s (verdictOn node table c s) role
+    taken-goes : (role : Role) → RoleIn (c .message) role → P (taken node table c role)
+    unfolding taken
+    taken-goes Role.Noop role = silent Noop false
+    taken-goes Role.Upward role = silent Hand true
+    taken-goes (Role.Spreads s) role = carried-goes s (verdictOn node table c s) role
 
-    received-leaves : P r t → (reading : Reading) → readOf (c .message) ≡ reading → AfterIs (received r t c reading)
-    unfolding received refuse
-    received-leaves given (Reading.Refused number) e = given
-    received-leaves given (Reading.Read m) e = taken-leaves (roleOf m) (record { is = m; read = e; plays = refl })
+    received-goes : (reading : Reading) → readOf (c .message) ≡ reading → P (received r t c reading)
+    unfolding received
+    received-goes (Reading.Refused number) e = refuses number
+    received-goes (Reading.Read m) e = taken-goes (roleOf m) (record { is = m; read = e; plays = refl })
 
-    pub call-leaves : P r t → AfterIs (nodeCall r t c)
-    unfolding nodeCall refuse
-    call-leaves given = both AfterIs _ (received-leaves given (readOf (c .message)) refl) given
+    pub call-goes : P (nodeCall r t c)
+    unfolding nodeCall
+    call-goes = both P _ (received-goes (readOf (c .message)) refl) (refuses _)
+
+  -- of the record and the table that it leaves, as of those that it was given, of those at its clock, and of those that a relay leaves
+  pub call-leaves : (P : Record → List ℕ → Type 0) → P node table
+      → ((s : Spread) → RoleIn (c .message) (Role.Spreads s)
+      → P (tallied node (ones (others node (c .interface)))) (putRow table (lowestFree table) (keyIn (c .message) s) (c .clock)))
+      → P r t → P (nodeCall r t c .called .node) (nodeCall r t c .table)
+  unfolding refuse quiet answered relayed clocked
+  call-leaves P took relays given = call-goes (λ a. P (a .called .node) (a .table)) (λ _. given) (λ _ _. took) (λ _. took) relays
 
 -- ---- what numbers say
 

@@ -135,7 +135,7 @@ left-back r bytes c answer sized =
     rw (table-in bytes sized)
     (pick-case (λ (k : Left). (k .refusal ≡ answerFrom (n .called) .refusal) × (k .node ≡ n .called .node)) (eqb (answerFrom (n .called) .refusal) 0)
     (λ e. (sym (eqb-true (answerFrom (n .called) .refusal) 0 e), answer-node (n .called)))
-    (λ e. (refl, sym (call-still c r (loaded bytes) (eqb-false (answerFrom (n .called) .refusal) 0 e) .0))))
+    (λ e. (refl, sym (call-still r (loaded bytes) c (eqb-false (answerFrom (n .called) .refusal) 0 e) .0))))
   where
     n : After
     n = nodeCall r (loaded bytes) c
@@ -148,7 +148,7 @@ table-back r bytes c answer sized are clock message =
     rw (table-in bytes sized)
     (pick-case (λ (k : Left). loaded (k .table) ≡ n .table) (eqb (answerFrom (n .called) .refusal) 0)
     (λ e. saved-loads (n .table) (call-table-fits r (loaded bytes) c clock message (loaded-fits bytes are)))
-    (λ e. sym (call-still c r (loaded bytes) (eqb-false (answerFrom (n .called) .refusal) 0 e) .1)))
+    (λ e. sym (call-still r (loaded bytes) c (eqb-false (answerFrom (n .called) .refusal) 0 e) .1)))
   where
     n : After
     n = nodeCall r (loaded bytes) c
@@ -166,4 +166,4 @@ numbers-back address f bytes c answer sized =
       subst RecordFits (sym same) (call-record-fits r t c (node-fits address f)),
       ap (λ (x : Record). x .address) same ∙ call-address r t c ∙ node-address address f (call-passed r t c (sym number ∙ e) .good),
     ))
-    (λ ne. same ∙ call-still c r t (λ e. ne (number ∙ e)) .0) ∙ same
+    (λ ne. same ∙ call-still r t c (λ e. ne (number ∙ e)) .0) ∙ same

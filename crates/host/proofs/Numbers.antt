@@ -38,17 +38,16 @@ module _ (b : List ℕ) where
 
   load-step : (i : ℕ) (t : List ℕ) → Loading i t → Loading (suc i) (set t i (bigEndian (drop (8 * i) b) 8))
   unfolding numbersIn loaded
-  load-step i t l = go (decLt i tableNumbers)
-    where
-      go : Dec (i < tableNumbers) → Loading (suc i) (set t i (bigEndian (drop (8 * i) b) 8))
-      go (yes h) =
-          let e : tableNumbers - i ≡ suc (tableNumbers - suc i) = omega arith in
-          rw (mul-suc 8 i) (rw (e, drop-drop 8 (8 * i) b) at l)
-      go (no h) =
-          let none : tableNumbers - i ≡ 0 = omega arith in
-          let none′ : tableNumbers - suc i ≡ 0 = omega arith in
-          let is : t ≡ loaded b = rw none at l in
-          rw none′ (set-out t i (bigEndian (drop (8 * i) b) 8) (omega (arith, ap length is, length-numbers tableNumbers b)) ∙ is)
+  load-step i t l = elim (decLt i tableNumbers) [
+    | yes h ↦
+        let e : tableNumbers - i ≡ suc (tableNumbers - suc i) = omega arith in
+        rw (mul-suc 8 i) (rw (e, drop-drop 8 (8 * i) b) at l)
+    | no h ↦
+        let none : tableNumbers - i ≡ 0 = omega arith in
+        let none′ : tableNumbers - suc i ≡ 0 = omega arith in
+        let is : t ≡ loaded b = rw none at l in
+        rw none′ (set-out t i (bigEndian (drop (8 * i) b) 8) (omega (arith, ap length is, length-numbers tableNumbers b)) ∙ is)
+  ]
 
   pub load-turn : (i x₀ x₁ x₂ x₃ : ℕ) (t : List ℕ) → Loading i t → x₀ ≡ bigEndian (drop (8 * i) b) 8 → x₁ ≡ bigEndian (drop (8 * (i + 1)) b) 8
       → x₂ ≡ bigEndian (drop (8 * (i + 2)) b) 8 → x₃ ≡ bigEndian (drop (8 * (i + 3)) b) 8 → Loading (i + 4) (set (set (set (set t i x₀) (i + 1) x₁) (i + 2) x₂) (i + 3) x₃)
@@ -79,13 +78,12 @@ module _ (t : List ℕ) where
 
   save-step : (i : ℕ) (b : List ℕ) → Saving i b → Saving (suc i) (sets b (8 * i) (bytesOf 8 (getD t i 0)))
   unfolding saved flatMap bytesOf
-  save-step i b l = go (decLt i (length t))
-    where
-      go : Dec (i < length t) → Saving (suc i) (sets b (8 * i) (bytesOf 8 (getD t i 0)))
-      go (yes h) = simp (mul-suc, towards-suc) (rw (drop-cons t i 0 h) at l)
-      go (no h) =
-          let is : b ≡ saved t = rw (drop-past t i (omega arith)) at l in
-          rw (drop-past t (suc i) (omega arith)) (sets-out b (8 * i) (bytesOf 8 (getD t i 0)) (omega (arith, ap length is, length-saved t)) ∙ is)
+  save-step i b l = elim (decLt i (length t)) [
+    | yes h ↦ simp (mul-suc, towards-suc) (rw (drop-cons t i 0 h) at l)
+    | no h ↦
+        let is : b ≡ saved t = rw (drop-past t i (omega arith)) at l in
+        rw (drop-past t (suc i) (omega arith)) (sets-out b (8 * i) (bytesOf 8 (getD t i 0)) (omega (arith, ap length is, length-saved t)) ∙ is)
+  ]
 
   pub save-turn : (i : ℕ) (b b₁ b₂ b₃ b₄ : List ℕ) → Saving i b → b₁ ≡ sets b (8 * i) (bytesOf 8 (getD t i 0))
       → b₂ ≡ sets b₁ (8 * (i + 1)) (bytesOf 8 (getD t (i + 1) 0)) → b₃ ≡ sets b₂ (8 * (i + 2)) (bytesOf 8 (getD t (i + 2) 0)) → b₄ ≡ sets b₃ (8 * (i + 3)) (bytesOf 8 (getD t (i + 3) 0))

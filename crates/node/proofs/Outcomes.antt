@@ -73,11 +73,8 @@ found-sized t k clock sized found = (found .0 ∙ of-sized t (lowestFree t) 64 s
 
 -- a row was found in no table of another length
 found-room : (t : List ℕ) (row : ℕ) → row ≡ whereSized t (lowestFree t) 64 → row < 64 → length t ≡ 256
-found-room t row e room = go (ℕ-discrete (length t) 256)
-  where
-    go : Dec (length t ≡ 256) → length t ≡ 256
-    go (yes sized) = sized
-    go (no other) = let none : row ≡ 64 = e ∙ of-other t (lowestFree t) 64 other in absurd (omega arith)
+found-room t row e room =
+    elim (ℕ-discrete (length t) 256) [ yes sized ↦ sized | no other ↦ let none : row ≡ 64 = e ∙ of-other t (lowestFree t) 64 other in absurd (omega arith) ]
 
 module _ (r : Record) (t : List ℕ) (c : Call) (s : Spread) where
   pub own-outcome : (b : Called) → b ≡ replies (Given Own false 0 0) r → sameBytes (held (c .message) (s .initiator)) (r .address) ≡ true
@@ -137,12 +134,13 @@ module _ (r : Record) (t : List ℕ) (c : Call) (s : Spread) where
 pub passed : (r : Record) (t : List ℕ) (clock i : ℕ) (names : List ℕ) (room : ℕ) → barred r t clock i names room ≡ 0 → Passed r t clock i room
 unfolding barred
 passed r t clock i names room =
-    pick-case (λ (n : ℕ). n ≡ 0 → Passed r t clock i room) _ (λ _ e. absurd (omega arith))
-    (λ good. pick-case (λ (n : ℕ). n ≡ 0 → Passed r t clock i room) _ (λ _ e. absurd (omega arith))
-    (λ arrives. pick-case (λ (n : ℕ). n ≡ 0 → Passed r t clock i room) _ (λ _ e. absurd (omega arith))
-    (λ later. pick-case (λ (n : ℕ). n ≡ 0 → Passed r t clock i room) _ (λ _ e. absurd (omega arith))
-    (λ table. pick-case (λ (n : ℕ). n ≡ 0 → Passed r t clock i room) _ (λ _ e. absurd (omega arith))
-    (λ named. pick-case (λ (n : ℕ). n ≡ 0 → Passed r t clock i room) _ (λ _ e. absurd (omega arith))
+    let P : ℕ → Type 0 = λ n. n ≡ 0 → Passed r t clock i room in
+    pick-case P _ (λ _ e. absurd (omega arith))
+    (λ good. pick-case P _ (λ _ e. absurd (omega arith))
+    (λ arrives. pick-case P _ (λ _ e. absurd (omega arith))
+    (λ later. pick-case P _ (λ _ e. absurd (omega arith))
+    (λ table. pick-case P _ (λ _ e. absurd (omega arith))
+    (λ named. pick-case P _ (λ _ e. absurd (omega arith))
     (λ fits e. record {
       good = good;
       arrives = arrives;
@@ -152,29 +150,21 @@ passed r t clock i names room =
     }))))))
 
 -- the arriving interface is one of eight, and its link is up
-pub record Arrives (r : Record) (i : ℕ) : Type 0 where
-  pub below : i < r .interfaces
-  pub small : i < 8
-  pub up : hasBit (r .links) i ≡ true
-
-pub arrives : (r : Record) (i : ℕ) → recordBad r ≡ false → arrivalBad r i ≡ false → Arrives r i
+pub arrival-small : (r : Record) (i : ℕ) → recordBad r ≡ false → arrivalBad r i ≡ false → i < 8
 unfolding arrivalBad
-arrives r i good e =
-    let below : i < r .interfaces = leb-false (r .interfaces) i (or-left (leb (r .interfaces) i) (not (hasBit (r .links) i)) e) in
-    record {
-      below = below;
-      small = omega (arith, record-links r good .most);
-      up = not-false (hasBit (r .links) i) (or-right (leb (r .interfaces) i) (not (hasBit (r .links) i)) e);
-    }
+arrival-small r i good e = omega (arith, leb-false (r .interfaces) i (or-left (leb (r .interfaces) i) (not (hasBit (r .links) i)) e), record-links r good .most)
+
+pub arrival-up : (r : Record) (i : ℕ) → arrivalBad r i ≡ false → hasBit (r .links) i ≡ true
+unfolding arrivalBad
+arrival-up r i e = not-false (hasBit (r .links) i) (or-right (leb (r .interfaces) i) (not (hasBit (r .links) i)) e)
 
 -- so the verdicts have what they rest on
 pub readied : (r : Record) (t : List ℕ) (clock i room : ℕ) → Passed r t clock i room → Ready (clocked r clock) (freed clock t) i room
 unfolding clocked freed
 readied r t clock i room p =
-    let a = arrives r i (p .good) (p .arrives) in
     record {
       sized = length-free clock t 64 ∙ table-sized clock t (p .table);
-      up = a .up;
+      up = arrival-up r i (p .arrives);
       tally = record-tally r (p .good);
       fits = p .fits;
     }

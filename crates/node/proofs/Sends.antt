@@ -41,19 +41,14 @@ onward-given message out s r some room =
 -- ---- an answer
 
 -- bytes in a message
-pub held-length : (s : List ℕ) (i : Span) → i .at + i .len ≤ length s → length (held s i) ≡ i .len
+held-length : (s : List ℕ) (i : Span) → i .at + i .len ≤ length s → length (held s i) ≡ i .len
 held-length s i h = length-take-le (i .len) (drop (i .at) s) (omega (arith, length-drop (i .at) s))
 
 -- an initiator has 4 or 16 bytes
 pub held-sized : {message : List ℕ} {s : Spread} → Within message s → (length (held message (s .initiator)) ≡ 4) ⊎ (length (held message (s .initiator)) ≡ 16)
-held-sized {message = message} {s = s} w = sized (w .bytes)
-  where
-    long : length (held message (s .initiator)) ≡ s .initiator .len
-    long = held-length message (s .initiator) (w .initiator)
-
-    sized : (s .initiator .len ≡ 4) ⊎ (s .initiator .len ≡ 16) → (length (held message (s .initiator)) ≡ 4) ⊎ (length (held message (s .initiator)) ≡ 16)
-    sized (inl q) = inl (long ∙ q)
-    sized (inr q) = inr (long ∙ q)
+held-sized {message = message} {s = s} w =
+    let long = held-length message (s .initiator) (w .initiator) in
+    elim (w .bytes) [ inl four ↦ inl (long ∙ four) | inr sixteen ↦ inr (long ∙ sixteen) ]
 
 pub response-given : (r : Record) (message out : List ℕ) (s : Spread) → length (r .address) ≡ 16 → (length (held message (s .initiator)) ≡ 4) ⊎ (length (held message (s .initiator)) ≡ 16)
     → mostBytes ≤ length out

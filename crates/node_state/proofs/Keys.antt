@@ -58,13 +58,16 @@ module _ (flood : Bool) (session : ℕ) (initiator : List ℕ) where
 
 -- ---- how long its row lives
 
--- by the tag in its first number
-life-tagged : (session tag : ℕ) → session < 2 ^ 32 → rowLife (session + 2 ^ 32 * tag) ≡ pick (ltb tag 3) 60000 120000
-unfolding rowLife tagIn
-life-tagged session tag h =
+-- the tag in a first number
+pub tag-read : (session tag : ℕ) → session < 2 ^ 32 → tagIn (session + 2 ^ 32 * tag) ≡ tag
+unfolding tagIn
+tag-read session tag h =
     let e : session + 2 ^ 32 * tag ≡ tag * 2 ^ 32 + session = omega arith in
-    let tagged : (session + 2 ^ 32 * tag) / 2 ^ 32 ≡ tag = ap (λ (n : ℕ). n / 2 ^ 32) e ∙ high tag 32 h in
-    ap (λ (n : ℕ). pick (ltb n 3) 60000 120000) tagged
+    ap (λ (n : ℕ). n / 2 ^ 32) e ∙ high tag 32 h
+
+life-tagged : (session tag : ℕ) → session < 2 ^ 32 → rowLife (session + 2 ^ 32 * tag) ≡ pick (ltb tag 3) 60000 120000
+unfolding rowLife
+life-tagged session tag h = ap (λ (n : ℕ). pick (ltb n 3) 60000 120000) (tag-read session tag h)
 
 life-of : (flood : Bool) (len session : ℕ) → session < 2 ^ 32 → rowLife (session + 2 ^ 32 * tagOf flood len) ≡ pick flood 120000 60000
 unfolding tagOf pick

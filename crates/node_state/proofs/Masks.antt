@@ -53,49 +53,37 @@ links-wide n mask some most = rw (ne-eqb n 0 (λ e. omega arith), le-ltb 8 n mos
 pub one-bit : (w i : ℕ) → i < w → 1 * 2 ^ i % 2 ^ w ≡ 2 ^ i
 one-bit w i h = shl-exact {a = 1} 1 i w (lit< tt) (omega arith) ∙ one-mul (2 ^ i)
 
--- what is up in a mask below 2^n is below n
-pub up-below : (n mask i : ℕ) → mask < 2 ^ n → hasBit mask i ≡ true → i < n
-unfolding hasBit
-up-below n mask i h e = go (decLt i n)
-  where
-    go : Dec (i < n) → i < n
-    go (yes p) = p
-    go (no p) =
-        let small : mask < 2 ^ i = le-trans h (pow-mono (omega arith)) in
-        let nil : mask / 2 ^ i ≡ 0 = div-eq-of-lt small in
-        let one : mask / 2 ^ i % 2 ≡ 1 = eqb-true (mask / 2 ^ i % 2) 1 e in
-        omega arith
-
 -- what is up in a mask is part of it
 pub up-le : (mask i : ℕ) → hasBit mask i ≡ true → 2 ^ i ≤ mask
 unfolding hasBit
-up-le mask i e = go (decLt mask (2 ^ i))
-  where
-    go : Dec (mask < 2 ^ i) → 2 ^ i ≤ mask
-    go (no p) = omega arith
-    go (yes p) =
-        let nil : mask / 2 ^ i ≡ 0 = div-eq-of-lt p in
-        let one : mask / 2 ^ i % 2 ≡ 1 = eqb-true (mask / 2 ^ i % 2) 1 e in
-        omega arith
+up-le mask i e = elim (decLt mask (2 ^ i)) [
+  | no p ↦ omega arith
+  | yes p ↦
+      let nil : mask / 2 ^ i ≡ 0 = div-eq-of-lt p in
+      let one : mask / 2 ^ i % 2 ≡ 1 = eqb-true (mask / 2 ^ i % 2) 1 e in
+      absurd (omega arith)
+]
+
+-- what is up in a mask below 2^n is below n
+pub up-below : (n mask i : ℕ) → mask < 2 ^ n → hasBit mask i ≡ true → i < n
+up-below n mask i h e = elim (decLt i n) [ yes p ↦ p | no p ↦ let wide : 2 ^ n ≤ 2 ^ i = pow-mono (omega arith) in absurd (omega (arith, up-le mask i e)) ]
+
+-- from bit i on, the mask without it
+pub without-bit : (mask i : ℕ) → mask / 2 ^ i % 2 ≡ 1 → (mask - 2 ^ i) / 2 ^ i ≡ mask / 2 ^ i - 1
+without-bit mask i odd =
+    let q = mask / 2 ^ i in
+    let whole : q - 1 + 1 ≡ q = omega arith in
+    let parts : (q - 1 + 1) * 2 ^ i + mask % 2 ^ i ≡ mask = rw whole (split mask i) in
+    let less : mask - 2 ^ i ≡ (q - 1) * 2 ^ i + mask % 2 ^ i = omega arith in
+    ap (λ (z : ℕ). z / 2 ^ i) less ∙ high (q - 1) i (mod-lt mask (pow-pos i))
 
 -- a link that is taken out is no longer up
 pub taken-down : (mask i : ℕ) → hasBit mask i ≡ true → hasBit (mask - 2 ^ i) i ≡ false
 unfolding hasBit
-taken-down mask i e = go (mask / 2 ^ i) refl
-  where
-    odd : mask / 2 ^ i % 2 ≡ 1
-    odd = eqb-true (mask / 2 ^ i % 2) 1 e
-
-    go : (q : ℕ) → mask / 2 ^ i ≡ q → eqb ((mask - 2 ^ i) / 2 ^ i % 2) 1 ≡ false
-    go zero z = let k : mask / 2 ^ i % 2 ≡ 1 = odd in absurd (omega arith)
-    go (suc q) z =
-        let parts : mask / 2 ^ i * 2 ^ i + mask % 2 ^ i ≡ mask = split mask i in
-        let parts′ : suc q * 2 ^ i + mask % 2 ^ i ≡ mask = rw z at parts in
-        let less : mask - 2 ^ i ≡ q * 2 ^ i + mask % 2 ^ i = omega arith in
-        let quot : (mask - 2 ^ i) / 2 ^ i ≡ q = ap (λ x. x / 2 ^ i) less ∙ high q i (mod-lt mask (pow-pos i)) in
-        let odd′ : suc q % 2 ≡ 1 = rw z at odd in
-        let even : q % 2 ≡ 0 = omega arith in
-        rw (quot, even) refl
+taken-down mask i e =
+    let odd : mask / 2 ^ i % 2 ≡ 1 = eqb-true (mask / 2 ^ i % 2) 1 e in
+    let even : (mask / 2 ^ i - 1) % 2 ≡ 0 = omega arith in
+    rw (without-bit mask i odd, even) refl
 
 -- a mask that isn't full has fewer ones than bits
 ones-fewer : (n mask : ℕ) → mask + 1 < 2 ^ n → ones mask < n

@@ -122,15 +122,15 @@ pub length-free : (now : ℕ) (t : List ℕ) (n : ℕ) → length (freeRows now 
 unfolding freeRows
 length-free now t zero = refl
 length-free now t (suc n) =
-    pick-case (λ (l : List ℕ). length l ≡ length t) _ (λ e. length-put (freeRows now t n) n noKey 0 ∙ length-free now t n) (λ e. length-free now t n)
+    let rest = length-free now t n in both (λ (l : List ℕ). length l ≡ length t) _ (length-put (freeRows now t n) n noKey 0 ∙ rest) rest
 
 -- the rows that are still to come are as they were
-pub free-ahead : (now : ℕ) (t : List ℕ) (n i j : ℕ) → n ≤ i → cell (freeRows now t n) i j ≡ cell t i j
+free-ahead : (now : ℕ) (t : List ℕ) (n i j : ℕ) → n ≤ i → cell (freeRows now t n) i j ≡ cell t i j
 unfolding freeRows cell
 free-ahead now t zero i j h = refl
 free-ahead now t (suc n) i j h =
     let rest = free-ahead now t n i j (omega arith) in
-    pick-case (λ (f : List ℕ). getD f (4 * i + j) 0 ≡ getD t (4 * i + j) 0) _ (λ e. put-apart (freeRows now t n) n noKey 0 (4 * i + j) (λ e. omega arith) ∙ rest) (λ e. rest)
+    both (λ (f : List ℕ). getD f (4 * i + j) 0 ≡ getD t (4 * i + j) 0) _ (put-apart (freeRows now t n) n noKey 0 (4 * i + j) (λ e. omega arith) ∙ rest) rest
 
 -- so a row is judged as it was
 free-judged : (now : ℕ) (t : List ℕ) (n : ℕ) → rowDead now (freeRows now t n) n ≡ rowDead now t n
@@ -143,38 +143,39 @@ unfolding freeRows
 free-live now t zero i j live l = refl
 free-live now t (suc n) i j live l =
     let rest = free-live now t n i j live l in
-    pick-case (λ f. cell f i j ≡ cell t i j) _ (λ e. go (free-judged now t n) e rest (ℕ-discrete i n)) (λ e. rest)
-  where
-    go : rowDead now (freeRows now t n) n ≡ rowDead now t n → rowDead now (freeRows now t n) n ≡ true → cell (freeRows now t n) i j ≡ cell t i j → Dec (i ≡ n)
-        → cell (putRow (freeRows now t n) n noKey 0) i j ≡ cell t i j
-    go same e rest (no ne) = put-other (freeRows now t n) n noKey 0 i j ne l ∙ rest
-    go same e rest (yes at) = absurd (not-both (rowDead now t i) (ap (rowDead now t) at ∙ sym same ∙ e) live)
+    pick-case (λ f. cell f i j ≡ cell t i j) _
+    (λ e. elim (ℕ-discrete i n) [
+      | yes at ↦ absurd (not-both (rowDead now t i) (ap (rowDead now t) at ∙ sym (free-judged now t n) ∙ e) live)
+      | no ne ↦ put-other (freeRows now t n) n noKey 0 i j ne l ∙ rest
+    ])
+    (λ e. rest)
 
 -- a dead row is four zeros
 pub free-dead : (now : ℕ) (t : List ℕ) (n i : ℕ) → i < n → rowDead now t i ≡ true → Holds (freeRows now t n) i noKey 0
 unfolding freeRows
 free-dead now t zero i h dead = absurd (omega arith)
-free-dead now t (suc n) i h dead = go (free-judged now t n) (ℕ-discrete i n) (free-dead now t n i)
-  where
-    go : rowDead now (freeRows now t n) n ≡ rowDead now t n → Dec (i ≡ n) → (i < n → rowDead now t i ≡ true → Holds (freeRows now t n) i noKey 0)
-        → Holds (pick (rowDead now (freeRows now t n) n) (putRow (freeRows now t n) n noKey 0) (freeRows now t n)) i noKey 0
-    go same (yes at) ih =
-        pick-case (λ f. Holds f i noKey 0) _ (λ e. rw at (put-clears (freeRows now t n) n))
-        (λ e. absurd (not-both (rowDead now t n) (ap (rowDead now t) (sym at) ∙ dead) (sym same ∙ e)))
-    go same (no ne) ih =
-        let rest = ih (omega arith) dead in
-        pick-case (λ f. Holds f i noKey 0) _
-        (λ e. same-holds (freeRows now t n) (putRow (freeRows now t n) n noKey 0) i (λ j l. put-other (freeRows now t n) n noKey 0 i j ne l) rest) (λ e. rest)
+free-dead now t (suc n) i h dead = elim (ℕ-discrete i n) [
+  | yes at ↦
+      pick-case (λ f. Holds f i noKey 0) _ (λ e. rw at (put-clears (freeRows now t n) n))
+      (λ e. absurd (not-both (rowDead now t n) (ap (rowDead now t) (sym at) ∙ dead) (sym (free-judged now t n) ∙ e)))
+  | no ne ↦
+      let rest = free-dead now t n i (omega arith) dead in
+      both (λ f. Holds f i noKey 0) _
+      (same-holds (freeRows now t n) (putRow (freeRows now t n) n noKey 0) i (λ j l. put-other (freeRows now t n) n noKey 0 i j ne l) rest) rest
+]
 
 -- and no row is admitted later than it was
 pub free-admitted : (now : ℕ) (t : List ℕ) (n i d : ℕ) → cell t i 3 ≤ d → cell (freeRows now t n) i 3 ≤ d
 unfolding freeRows
 free-admitted now t zero i d h = h
-free-admitted now t (suc n) i d h = let rest = free-admitted now t n i d h in pick-case (λ (f : List ℕ). cell f i 3 ≤ d) _ (λ e. go (ℕ-discrete i n) rest) (λ e. rest)
-  where
-    go : Dec (i ≡ n) → cell (freeRows now t n) i 3 ≤ d → cell (putRow (freeRows now t n) n noKey 0) i 3 ≤ d
-    go (no ne) rest = rw (put-other (freeRows now t n) n noKey 0 i 3 ne (omega arith)) rest
-    go (yes at) rest = rw (at, put-clears (freeRows now t n) n .clock) zero-le
+free-admitted now t (suc n) i d h =
+    let rest = free-admitted now t n i d h in
+    both (λ (f : List ℕ). cell f i 3 ≤ d) _
+    (elim (ℕ-discrete i n) [
+      | yes at ↦ rw (at, put-clears (freeRows now t n) n .clock) zero-le
+      | no ne ↦ rw (put-other (freeRows now t n) n noKey 0 i 3 ne (omega arith)) rest
+    ])
+    rest
 
 -- no row lives for less than 60,000 ms
 pub life-least : (first : ℕ) → 60000 ≤ rowLife first
@@ -190,35 +191,25 @@ free-keeps now t i k d h live =
 -- ---- the lowest row that passes a test
 
 pub first-hit : (p : ℕ → Bool) (n i : ℕ) → firstFrom p n i < i + n → p (firstFrom p n i) ≡ true
-unfolding pick firstFrom
-first-hit p zero i h = absurd (omega arith)
-first-hit p (suc n) i h = go (true-or-false (p i)) (first-hit p n (suc i))
-  where
-    go : (p i ≡ true) ⊎ (p i ≡ false) → (firstFrom p n (suc i) < suc i + n → p (firstFrom p n (suc i)) ≡ true) → p (pick (p i) i (firstFrom p n (suc i))) ≡ true
-    go (inl e) ih = rw e e
-    go (inr e) ih = rw e (ih (let h′ : firstFrom p n (suc i) < i + suc n = rw e at h in omega arith))
+unfolding firstFrom
+first-hit p zero i = λ h. absurd (omega arith)
+first-hit p (suc n) i = pick-case (λ (r : ℕ). r < i + suc n → p r ≡ true) (p i) (λ e h. e) (λ e h. first-hit p n (suc i) (omega arith))
 
 pub first-miss : (p : ℕ → Bool) (n i k : ℕ) → i ≤ k → k < firstFrom p n i → p k ≡ false
-unfolding pick firstFrom
-first-miss p zero i k l h = absurd (omega arith)
-first-miss p (suc n) i k l h = go (true-or-false (p i)) (ℕ-discrete i k) (first-miss p n (suc i) k)
-  where
-    go : (p i ≡ true) ⊎ (p i ≡ false) → Dec (i ≡ k) → (suc i ≤ k → k < firstFrom p n (suc i) → p k ≡ false) → p k ≡ false
-    go (inl e) d ih = let h′ : k < i = rw e at h in absurd (omega arith)
-    go (inr e) (yes same) ih = rw (← same) e
-    go (inr e) (no ne) ih = ih (omega arith) (rw e at h)
+unfolding firstFrom
+first-miss p zero i k l = λ h. absurd (omega arith)
+first-miss p (suc n) i k l =
+    pick-case (λ (r : ℕ). k < r → p k ≡ false) (p i) (λ e h. absurd (omega arith))
+    (λ e h. elim (ℕ-discrete i k) [ yes same ↦ rw (← same) e | no ne ↦ first-miss p n (suc i) k (omega arith) h ])
 
 -- it is no row past the last
 pub first-most : (p : ℕ → Bool) (n i : ℕ) → firstFrom p n i ≤ i + n
-unfolding pick firstFrom
+unfolding firstFrom
 first-most p zero i = omega arith
-first-most p (suc n) i =
-    let here : i ≤ i + suc n = omega arith in
-    let there : firstFrom p n (suc i) ≤ i + suc n = omega (arith, first-most p n (suc i)) in
-    pick-case (λ (r : ℕ). r ≤ i + suc n) (p i) (λ e. here) (λ e. there)
+first-most p (suc n) i = both (λ (r : ℕ). r ≤ i + suc n) (p i) (omega arith) (omega (arith, first-most p n (suc i)))
 
 -- where no row passes a test, none does
-pub none-passes : (p : ℕ → Bool) (k : ℕ) → someRow p ≡ false → k < 64 → p k ≡ false
+none-passes : (p : ℕ → Bool) (k : ℕ) → someRow p ≡ false → k < 64 → p k ≡ false
 unfolding someRow
 none-passes p k e l = first-miss p 64 0 k zero-le (le-trans l (ltb-false (firstFrom p 64 0) 64 e))
 
@@ -228,11 +219,7 @@ unfolding someRow
 some-passes p e = let l = ltb-true (firstFrom p 64 0) 64 e in (firstFrom p 64 0, l, first-hit p 64 0 l)
 
 pub passes-some : (p : ℕ → Bool) (k : ℕ) → k < 64 → p k ≡ true → someRow p ≡ true
-passes-some p k l e = go (true-or-false (someRow p))
-  where
-    go : (someRow p ≡ true) ⊎ (someRow p ≡ false) → someRow p ≡ true
-    go (inl q) = q
-    go (inr q) = absurd (not-both (p k) e (none-passes p k q l))
+passes-some p k l e = elim (true-or-false (someRow p)) [ inl q ↦ q | inr q ↦ absurd (not-both (p k) e (none-passes p k q l)) ]
 
 -- ---- free rows
 
@@ -296,22 +283,20 @@ table-sized now t e = eqb-true (length t) 256 (not-false (eqb (length t) 256) (o
 
 pub row-good : (now : ℕ) (t : List ℕ) (i : ℕ) → tableBad now t ≡ false → (rowFree t i ≡ true) ⊎ (rowUsed now t i ≡ true)
 unfolding tableBad rowBad
-row-good now t i e = go (decLt i 64)
-  where
-    go : Dec (i < 64) → (rowFree t i ≡ true) ⊎ (rowUsed now t i ≡ true)
-    go (yes l) =
-        let none = or-right (not (eqb (length t) 256)) (someRow (rowBad now t)) e in
-        or-true (rowFree t i) (rowUsed now t i) (not-false (rowFree t i || rowUsed now t i) (none-passes (rowBad now t) i none l))
-    go (no l) = inl (zeros-free t i (past-zeros t i (table-sized now t e) (omega arith)))
+row-good now t i e = elim (decLt i 64) [
+  | yes l ↦
+      let none = or-right (not (eqb (length t) 256)) (someRow (rowBad now t)) e in
+      or-true (rowFree t i) (rowUsed now t i) (not-false (rowFree t i || rowUsed now t i) (none-passes (rowBad now t) i none l))
+  | no l ↦ inl (zeros-free t i (past-zeros t i (table-sized now t e) (omega arith)))
+]
 
 -- no row was admitted after the call's clock
 pub row-admitted : (now : ℕ) (t : List ℕ) (i : ℕ) → tableBad now t ≡ false → cell t i 3 ≤ now
 unfolding rowUsed
-row-admitted now t i e = go (row-good now t i e)
-  where
-    go : (rowFree t i ≡ true) ⊎ (rowUsed now t i ≡ true) → cell t i 3 ≤ now
-    go (inl f) = let z = free-zeros t i f .clock in omega arith
-    go (inr u) = leb-true (cell t i 3) now (and-right (rowKeyed t i) (leb (cell t i 3) now) u)
+row-admitted now t i e = elim (row-good now t i e) [
+  | inl f ↦ omega (arith, free-zeros t i f .clock)
+  | inr u ↦ leb-true (cell t i 3) now (and-right (rowKeyed t i) (leb (cell t i 3) now) u)
+]
 
 -- ---- for the loops
 
@@ -372,11 +357,10 @@ module _ (t : List ℕ) (row : ℕ) (k : Key) (clock : ℕ) (sized : length t �
 
   pub fills-row : (t′ : List ℕ) → t′ ≡ putRow t row k clock → (row ≡ whereSized t (lowestFree t) 64) × (t′ ≡ whereSized t (filled t k clock) t)
   unfolding filled pick
-  fills-row t′ h = go (decLt row 64)
-    where
-      go : Dec (row < 64) → (row ≡ whereSized t (lowestFree t) 64) × (t′ ≡ whereSized t (filled t k clock) t)
-      go (yes l) = (rw (of-sized t (lowestFree t) 64 sized) e, rw (of-sized t (filled t k clock) t sized, ← e, lt-ltb row 64 l) h)
-      go (no l) = let (found, left) = fills-none (omega arith) in (found, h ∙ put-out t row k clock (omega arith) ∙ left)
+  fills-row t′ h = elim (decLt row 64) [
+    | yes l ↦ (rw (of-sized t (lowestFree t) 64 sized) e, rw (of-sized t (filled t k clock) t sized, ← e, lt-ltb row 64 l) h)
+    | no l ↦ let (found, left) = fills-none (omega arith) in (found, h ∙ put-out t row k clock (omega arith) ∙ left)
+  ]
 
 -- the code's index of a row's first number
 pub cell-first : (t : List ℕ) (i : ℕ) → cell t i 0 ≡ getD t (4 * i) 0
@@ -385,8 +369,7 @@ cell-first t i = ap (λ (k : ℕ). getD t k 0) (add-zero (4 * i))
 
 -- a row that was admitted after the clock
 pub later-bad : (now d : ℕ) → ltb now d ≡ not (leb d now)
-later-bad now d = go (decLt now d)
-  where
-    go : Dec (now < d) → ltb now d ≡ not (leb d now)
-    go (yes l) = rw (lt-ltb now d l, lt-leb d now l) refl
-    go (no l) = rw (le-ltb now d (omega arith), le-leb d now (omega arith)) refl
+later-bad now d = elim (decLt now d) [
+  | yes l ↦ rw (lt-ltb now d l, lt-leb d now l) refl
+  | no l ↦ rw (le-ltb now d (omega arith), le-leb d now (omega arith)) refl
+]

@@ -1,6 +1,6 @@
 -- Which messages are never handed up.
 -- Assumes nothing.
-use mathlib.Core.Path.{_≡_, refl, subst}
+use mathlib.Core.Path.{_≡_, refl, sym, _∙_}
 use mathlib.Core.Logic.{inl, inr}
 use mathlib.Core.Bool.{Bool, false}
 use mathlib.Core.List.{List}
@@ -15,7 +15,7 @@ use Rattle.node_state.specs.declared.Record.{Record}
 use Rattle.node.specs.declared.Verdict.{Verdict}
 use Rattle.node.specs.declared.Reply.the-variants.{Given}
 use Rattle.node.specs.Call.{Call, nodeCall}
-use Rattle.verdicts.specs.Due.{Rules, when, otherwise, First, Due}
+use Rattle.verdicts.specs.Due.{Rules, when, otherwise, First, rulesOn}
 use Rattle.verdicts.proofs.Verdict.{verdict-exactly}
 
 -- rules that hand nothing up
@@ -26,23 +26,23 @@ Keep (otherwise v up) = up ≡ false
 -- the first of them hands nothing up
 first-kept : (rules : Rules) (v : Verdict) (up : Bool) → Keep rules → First rules v up → up ≡ false
 unfolding First
-first-kept (when P w f rules) v up (down, keep) (inl (p, same, is)) = subst (λ (b : Bool). b ≡ false) is down
+first-kept (when P w f rules) v up (down, keep) (inl (p, same, is)) = sym is ∙ down
 first-kept (when P w f rules) v up (down, keep) (inr (not, first)) = first-kept rules v up keep first
-first-kept (otherwise w f) v up down (same, is) = subst (λ (b : Bool). b ≡ false) is down
+first-kept (otherwise w f) v up down (same, is) = sym is ∙ down
 
 -- so do those on a Noop and on a Discovery
-due-kept : (r : Record) (t : List ℕ) (c : Call) (m : Message) (v : Verdict) (up : Bool) → kindOf m ≤ 1 → Due r t c m v up → up ≡ false
-due-kept r t c M.Noop v up low due = first-kept _ v up refl due
-due-kept r t c (M.Discovery session i o) v up low due = first-kept _ v up (refl, (refl, (refl, (refl, (refl, (refl, refl)))))) due
-due-kept r t c (M.Response session i ttl targets extra) v up low due = absurd (omega arith)
-due-kept r t c (M.RequestNegotiation session o) v up low due = absurd (omega arith)
-due-kept r t c (M.RequestSynchronization session o) v up low due = absurd (omega arith)
-due-kept r t c (M.Negotiate session o) v up low due = absurd (omega arith)
-due-kept r t c (M.End session outcome) v up low due = absurd (omega arith)
-due-kept r t c (M.Wait session time) v up low due = absurd (omega arith)
-due-kept r t c (M.Synch session o) v up low due = absurd (omega arith)
-due-kept r t c (M.Flood session i ttl first pairs) v up low due = absurd (omega arith)
-due-kept r t c (M.Invalid session item) v up low due = absurd (omega arith)
+kept : (r : Record) (t : List ℕ) (c : Call) (m : Message) → kindOf m ≤ 1 → Keep (rulesOn r t c m)
+kept r t c M.Noop low = refl
+kept r t c (M.Discovery session i o) low = (refl, (refl, (refl, (refl, (refl, (refl, refl))))))
+kept r t c (M.Response session i ttl targets extra) low = absurd (omega arith)
+kept r t c (M.RequestNegotiation session o) low = absurd (omega arith)
+kept r t c (M.RequestSynchronization session o) low = absurd (omega arith)
+kept r t c (M.Negotiate session o) low = absurd (omega arith)
+kept r t c (M.End session outcome) low = absurd (omega arith)
+kept r t c (M.Wait session time) low = absurd (omega arith)
+kept r t c (M.Synch session o) low = absurd (omega arith)
+kept r t c (M.Flood session i ttl first pairs) low = absurd (omega arith)
+kept r t c (M.Invalid session item) low = absurd (omega arith)
 
 -- for readers
 
@@ -52,4 +52,4 @@ pub never-handed : (r : Record) (t : List ℕ) (c : Call) (m : Message) (v : Ver
 never-handed r t c m v up mask len read low said =
     let (passes, is, read′, due) = verdict-exactly r t c v up .0 (mask, len, said) in
     let same : is ≡ m = cc in
-    due-kept r t c m v up low (subst (λ (x : Message). Due r t c x v up) same due)
+    first-kept (rulesOn r t c is) v up (kept r t c is (rw same low)) due

@@ -3,7 +3,7 @@
 use mathlib.Core.Path.{_≡_, refl, sym, ap, _∙_}
 use mathlib.Core.Logic.{_⊎_, inl, inr, _↔_}
 use mathlib.Core.Bool.{Bool, true, false}
-use mathlib.Core.List.{List, _++_}
+use mathlib.Core.List.{List}
 use Prim.Native.Nat.{ℕ, _+_, _*_, _^_, _≤_, _<_}
 use native.Mathlib.Nat.{le-of-eq}
 use native.Mathlib.Omega.{arith}
@@ -13,11 +13,10 @@ use Rattle.base.specs.Pick.{pick}
 use Rattle.base.specs.BigEndian.{bigEndian, bytesOf, Bytes}
 use Rattle.base.proofs.Digits.{spelled}
 use Rattle.base.proofs.Parts.{bytes-drop}
-use Rattle.node_state.proofs.Keys.{flag-same}
+use Rattle.node_state.proofs.Keys.{flag-same, tag-read}
 use Rattle.node_state.specs.declared.key.Key.{Key}
 use Rattle.node_state.specs.Table.{tagIn}
 use Rattle.node_state.specs.Key.{tagOf, keyOf}
-use Rattle.verdicts.proofs.Lives.{tag-read}
 
 -- ---- by the initiator's length
 
@@ -61,7 +60,7 @@ halves-same a b ba bb la lb e f =
     let back : drop 8 a ≡ drop 8 b =
     whole-same 8 (drop 8 a) (drop 8 b) (bytes-drop 8 a ba) (bytes-drop 8 b bb) (omega (arith, length-drop 8 a)) (omega (arith, length-drop 8 b)) f
     in
-    sym (take-append-drop 8 a) ∙ ap (λ (l : List ℕ). l ++ drop 8 a) front ∙ ap (λ (l : List ℕ). take 8 b ++ l) back ∙ take-append-drop 8 b
+    sym (take-append-drop 8 a) ∙ rw (front, back) (take-append-drop 8 b)
 
 -- for readers
 

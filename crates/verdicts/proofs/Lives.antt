@@ -10,14 +10,25 @@ use native.Mathlib.Nat.{mod-lt}
 use native.Mathlib.Decide.{decLt}
 use native.Mathlib.Omega.{arith}
 use lib.Dec.{ltb, leb, eqb}
-use lib.Pow.{high, split, pow-pos}
+use lib.Pow.{split, pow-pos}
 use borrow.Author.Tests.{ltb-true, leb-true, eqb-true, lt-ltb, le-leb, lt-leb, eq-eqb}
 use Rattle.base.specs.Pick.{pick}
 use Rattle.base.proofs.Bools.{true-or-false, and-left, and-right, and-true, not-both}
 use Rattle.node_state.specs.Table.{cell, rowFree, tagIn, initiatorFits, rowKeyed, rowUsed, rowBad, tableBad, rowLife, rowDead, freed}
 use Rattle.node_state.specs.Key.{noKey}
-use Rattle.node_state.proofs.Rows.{Holds, past-zeros, length-free, free-ahead, free-live, free-dead, free-zeros, zeros-free, table-sized, row-good}
+use Rattle.node_state.proofs.Keys.{tag-read}
+use Rattle.node_state.proofs.Rows.{Holds, past-zeros, same-holds, length-free, free-live, free-dead, free-zeros, zeros-free, table-sized, row-good}
 use Rattle.verdicts.specs.Rows.{Free, Tag, discovery-4, discovery-16, flood-4, flood-16, Used, Live, Dead, SameRow}
+
+-- ---- tests that decide a condition
+
+-- one that fails, and one whose condition does
+pub fails : {test : Bool} {P : Type 0} → test ≡ true ↔ P → test ≡ false → P → ⊥
+fails {test} e f p = not-both test (e .1 p) f
+
+pub failing : {test : Bool} {P : Type 0} → test ≡ true ↔ P → (P → ⊥) → test ≡ false
+failing {test = true} e none = absurd (none (e .0 refl))
+failing {test = false} e none = refl
 
 -- ---- free rows
 
@@ -26,9 +37,6 @@ free-is t i = (
   λ e. let h = free-zeros t i e in record { first = h .first; second = h .second; third = h .third; fourth = h .clock },
   λ h. zeros-free t i (record { first = h .first; second = h .second; third = h .third; clock = h .fourth }),
 )
-
-pub free-misses : (t : List ℕ) (i : ℕ) → rowFree t i ≡ false → Free t i → ⊥
-free-misses t i e h = not-both (rowFree t i) (free-is t i .1 h) e
 
 -- ---- used rows
 
@@ -67,14 +75,7 @@ tag-odd discovery-16 second third = (λ e f. absurd (omega arith), λ f. refl)
 tag-odd flood-4 second third = fits-four second third
 tag-odd flood-16 second third = (λ e f. absurd (omega arith), λ f. refl)
 
--- the tag in a first number
-pub tag-read : (session tag : ℕ) → session < 2 ^ 32 → tagIn (session + 2 ^ 32 * tag) ≡ tag
-unfolding tagIn
-tag-read session tag h =
-    let e : session + 2 ^ 32 * tag ≡ tag * 2 ^ 32 + session = omega arith in
-    ap (λ (n : ℕ). n / 2 ^ 32) e ∙ high tag 32 h
-
-pub used-is : (now : ℕ) (t : List ℕ) (i : ℕ) → rowUsed now t i ≡ true ↔ Used now t i
+used-is : (now : ℕ) (t : List ℕ) (i : ℕ) → rowUsed now t i ≡ true ↔ Used now t i
 unfolding rowUsed rowKeyed tagIn
 used-is now t i = (there, back)
   where
@@ -122,25 +123,15 @@ module _ (now : ℕ) (t : List ℕ) where
       let tag : tagIn (cell t i 0) ≡ u .tag = ap tagIn (u .first) ∙ tag-read (u .session) (u .tag) (u .small) in
       ap (λ (g : ℕ). leb (pick (ltb g 3) 60000 120000) (now - cell t i 3)) tag ∙ ap (λ (l : ℕ). leb l (now - cell t i 3)) (tag-life (u .tagged))
 
-  pub dead-test : (i : ℕ) → Dead now t i → rowDead now t i ≡ true
+  dead-test : (i : ℕ) → Dead now t i → rowDead now t i ≡ true
   dead-test i d = dead-by i (d .used) ∙ le-leb (d .used .life) (now - cell t i 3) (d .old)
 
   live-test : (i : ℕ) → Live now t i → rowDead now t i ≡ false
   live-test i l = dead-by i (l .used) ∙ lt-leb (l .used .life) (now - cell t i 3) (l .young)
 
-  used-lives : (i : ℕ) → Used now t i → Live now t i ⊎ Dead now t i
-  used-lives i u = go (decLt (now - cell t i 3) (u .life))
-    where
-      go : Dec (now - cell t i 3 < u .life) → Live now t i ⊎ Dead now t i
-      go (yes l) = inl (record { used = u; young = l })
-      go (no l) = inr (record { used = u; old = omega arith })
-
-  test-kept : (i : ℕ) → rowDead now t i ≡ false → SameRow (freed now t) t i
-  unfolding freed
-  test-kept i live j l = free-live now t 64 i j live l
-
   pub live-stays : (i : ℕ) → Live now t i → SameRow (freed now t) t i
-  live-stays i l = test-kept i (live-test i l)
+  unfolding freed
+  live-stays i l j = free-live now t 64 i j (live-test i l)
 
   pub live-used : (i : ℕ) → Live now t i → Free (freed now t) i → ⊥
   live-used i l f =
@@ -149,36 +140,28 @@ module _ (now : ℕ) (t : List ℕ) where
       let g = tag-range (l .used .tagged) in
       omega arith
 
-  pub free-stays : (i : ℕ) → Free t i → Free (freed now t) i
-  unfolding freed
-  free-stays i f = go (true-or-false (rowDead now t i)) (decLt i 64)
-    where
-      as-was : SameRow (freed now t) t i → Free (freed now t) i
-      as-was same =
-          record {
-            first = same 0 (omega arith) ∙ f .first;
-            second = same 1 (omega arith) ∙ f .second;
-            third = same 2 (omega arith) ∙ f .third;
-            fourth = same 3 (omega arith) ∙ f .fourth;
-          }
-
-      go : (rowDead now t i ≡ true) ⊎ (rowDead now t i ≡ false) → Dec (i < 64) → Free (freed now t) i
-      go (inl dead) (yes l) = free-is (freed now t) i .0 (zeros-free (freed now t) i (free-dead now t 64 i l dead))
-      go (inl dead) (no l) = as-was (λ j m. free-ahead now t 64 i j (omega arith))
-      go (inr live) d = as-was (test-kept i live)
-
   module _ (good : tableBad now t ≡ false) (i : ℕ) where
-    pub row-is : Free t i ⊎ (Live now t i ⊎ Dead now t i)
-    row-is = go (row-good now t i good)
-      where
-        go : (rowFree t i ≡ true) ⊎ (rowUsed now t i ≡ true) → Free t i ⊎ (Live now t i ⊎ Dead now t i)
-        go (inl f) = inl (free-is t i .0 f)
-        go (inr u) = inr (used-lives i (used-is now t i .0 u))
+    pub row-whole : Free t i ⊎ Used now t i
+    row-whole = elim (row-good now t i good) [ inl f ↦ inl (free-is t i .0 f) | inr u ↦ inr (used-is now t i .0 u) ]
 
-    pub test-cleared : rowDead now t i ≡ true → Free (freed now t) i
-    unfolding freed
-    test-cleared dead = free-is (freed now t) i .0 (zeros-free (freed now t) i (go (decLt i 64)))
+    pub row-is : Live now t i ⊎ (Free t i ⊎ Dead now t i)
+    row-is = go row-whole
       where
-        go : Dec (i < 64) → Holds (freed now t) i noKey 0
-        go (yes l) = free-dead now t 64 i l dead
-        go (no l) = past-zeros (freed now t) i (length-free now t 64 ∙ table-sized now t good) (omega arith)
+        go : Free t i ⊎ Used now t i → Live now t i ⊎ (Free t i ⊎ Dead now t i)
+        go (inl f) = inr (inl f)
+        go (inr u) =
+            elim (decLt (now - cell t i 3) (u .life)) [ yes l ↦ inl (record { used = u; young = l }) | no l ↦ inr (inr (record { used = u; old = omega arith })) ]
+
+    -- a row that is free or dead is left as four zeros
+    pub clears : Free t i ⊎ Dead now t i → Free (freed now t) i
+    unfolding freed
+    clears h = free-is (freed now t) i .0 (zeros-free (freed now t) i (go h (true-or-false (rowDead now t i))))
+      where
+        cleared : rowDead now t i ≡ true → Holds (freed now t) i noKey 0
+        cleared dead =
+            elim (decLt i 64) [ yes l ↦ free-dead now t 64 i l dead | no l ↦ past-zeros (freed now t) i (length-free now t 64 ∙ table-sized now t good) (omega arith) ]
+
+        go : Free t i ⊎ Dead now t i → (rowDead now t i ≡ true) ⊎ (rowDead now t i ≡ false) → Holds (freed now t) i noKey 0
+        go (inr d) e = cleared (dead-test i d)
+        go (inl f) (inl dead) = cleared dead
+        go (inl f) (inr live) = same-holds t (freed now t) i (λ j. free-live now t 64 i j live) (free-zeros t i (free-is t i .1 f))

@@ -1,6 +1,6 @@
 -- The rows of the relay table: which tables are refused, what freeing leaves, which row is found free, which key is known, what a relay fills.
 -- Assumes nothing.
-use mathlib.Core.Path.{_≡_, refl, sym, ap, _∙_}
+use mathlib.Core.Path.{_≡_, refl, sym, _∙_, subst}
 use mathlib.Core.Logic.{_≢_, _⊎_, inl, inr, _↔_}
 use mathlib.Core.Bool.{true, false}
 use mathlib.Core.List.{List}
@@ -11,12 +11,12 @@ use lib.ListN.{length}
 use borrow.Author.Tests.{eq-eqb}
 use Rattle.base.proofs.Bools.{true-or-false, not-both}
 use Rattle.node_state.specs.declared.key.Key.{Key}
-use Rattle.node_state.specs.Table.{cell, putRow, rowFree, rowUsed, rowBad, firstFrom, someRow, tableBad, freed, lowestFree, rowMatches, isKnown}
-use Rattle.node_state.proofs.Rows.{put-other, put-holds, length-put, length-free, first-hit, first-miss, first-most, some-passes, passes-some, holds-matches, matches-holds, table-sized, row-good}
+use Rattle.node_state.specs.Table.{cell, putRow, rowFree, rowBad, someRow, tableBad, freed, lowestFree, rowMatches, isKnown}
+use Rattle.node_state.proofs.Rows.{put-other, put-holds, length-put, length-free, first-hit, first-miss, first-most, some-passes, passes-some, holds-matches, matches-holds, table-sized}
 use Rattle.verdicts.specs.Rows.{Free, Used, Live, Dead, HasKey, SameRow}
 use Rattle.verdicts.specs.Bars.{GoodTable}
 use Rattle.verdicts.specs.Due.{Known, Full}
-use Rattle.verdicts.proofs.Lives.{free-is, free-misses, used-is, row-passes, dead-test, row-is, test-cleared, free-stays, live-stays, live-used}
+use Rattle.verdicts.proofs.Lives.{fails, free-is, row-passes, live-stays, live-used, row-whole, row-is, clears}
 
 -- free rows have the same numbers
 free-same : {t u : List ℕ} {i : ℕ} → Free u i → Free t i → SameRow u t i
@@ -26,50 +26,39 @@ free-same f g (suc (suc zero)) l = f .third ∙ sym (g .third)
 free-same f g (suc (suc (suc zero))) l = f .fourth ∙ sym (g .fourth)
 free-same f g (suc (suc (suc (suc j)))) l = absurd (omega arith)
 
+-- the row that is found is free, and none below it is
+found-free : (t : List ℕ) → lowestFree t < 64 → Free t (lowestFree t)
+unfolding lowestFree
+found-free t l = free-is t (lowestFree t) .0 (first-hit (rowFree t) 64 0 l)
+
+below-used : (t : List ℕ) (k : ℕ) → k < lowestFree t → Free t k → ⊥
+unfolding lowestFree
+below-used t k l = fails (free-is t k) (first-miss (rowFree t) 64 0 k zero-le l)
+
 -- for readers
 
 -- A table isn't refused exactly if it has 256 numbers and each row is free or used.
 pub table-good : (now : ℕ) (t : List ℕ) → tableBad now t ≡ false ↔ GoodTable t now
 unfolding tableBad rowBad
-table-good now t = (λ e. (table-sized now t e, λ i l. each e i), λ h. rw (eq-eqb (length t) 256 (h .0), none (h .1)) refl)
+table-good now t = (λ e. (table-sized now t e, λ i l. row-whole now t e i), λ h. rw (eq-eqb (length t) 256 (h .0), none (h .1)) refl)
   where
-    each : tableBad now t ≡ false → (i : ℕ) → Free t i ⊎ Used now t i
-    each e i = go (row-good now t i e)
-      where
-        go : (rowFree t i ≡ true) ⊎ (rowUsed now t i ≡ true) → Free t i ⊎ Used now t i
-        go (inl f) = inl (free-is t i .0 f)
-        go (inr u) = inr (used-is now t i .0 u)
-
     none : ((i : ℕ) → i < 64 → Free t i ⊎ Used now t i) → someRow (rowBad now t) ≡ false
-    none h = go (true-or-false (someRow (rowBad now t)))
-      where
-        go : (someRow (rowBad now t) ≡ true) ⊎ (someRow (rowBad now t) ≡ false) → someRow (rowBad now t) ≡ false
-        go (inr e) = e
-        go (inl e) =
-            let (i, l, bad) = some-passes (rowBad now t) e in
-            absurd (not-both (rowBad now t i) bad (row-passes now t i (h i l)))
+    none h = elim (true-or-false (someRow (rowBad now t))) [
+      | inl e ↦ let (i, l, bad) = some-passes (rowBad now t) e in absurd (not-both (rowBad now t i) bad (row-passes now t i (h i l)))
+      | inr e ↦ e
+    ]
 
 -- After freeing, a row is four zeros exactly if it was free or dead.
 pub freed-zeros : (now : ℕ) (t : List ℕ) → tableBad now t ≡ false → (i : ℕ) → Free (freed now t) i ↔ (Free t i ⊎ Dead now t i)
-freed-zeros now t good i = (λ f. there f (row-is now t good i), back)
-  where
-    there : Free (freed now t) i → Free t i ⊎ (Live now t i ⊎ Dead now t i) → Free t i ⊎ Dead now t i
-    there f (inl z) = inl z
-    there f (inr (inl live)) = absurd (live-used now t i live f)
-    there f (inr (inr d)) = inr d
-
-    back : Free t i ⊎ Dead now t i → Free (freed now t) i
-    back (inl z) = free-stays now t i z
-    back (inr d) = test-cleared now t good i (dead-test now t i d)
+freed-zeros now t good i = (λ f. elim (row-is now t good i) [ inl live ↦ absurd (live-used now t i live f) | inr h ↦ h ], clears now t good i)
 
 -- If it wasn't dead, each of its four numbers is as it was.
 pub freed-same : (now : ℕ) (t : List ℕ) → tableBad now t ≡ false → (i : ℕ) → (Dead now t i → ⊥) → SameRow (freed now t) t i
-freed-same now t good i other = go (row-is now t good i)
-  where
-    go : Free t i ⊎ (Live now t i ⊎ Dead now t i) → SameRow (freed now t) t i
-    go (inl z) = free-same (free-stays now t i z) z
-    go (inr (inl live)) = live-stays now t i live
-    go (inr (inr d)) = absurd (other d)
+freed-same now t good i other = elim (row-is now t good i) [
+  | inl live ↦ live-stays now t i live
+  | inr (inl z) ↦ free-same (clears now t good i (inl z)) z
+  | inr (inr d) ↦ absurd (other d)
+]
 
 -- Freeing leaves the table's length.
 pub freed-length : (now : ℕ) (t : List ℕ) → length (freed now t) ≡ length t
@@ -78,36 +67,25 @@ freed-length now t = length-free now t 64
 
 -- The row that is found is the one that is free and has no free row below it.
 pub lowest-is : (t : List ℕ) (i : ℕ) → i < 64 → lowestFree t ≡ i ↔ (Free t i × ((k : ℕ) → k < i → Free t k → ⊥))
-unfolding lowestFree
-lowest-is t i l = (there, back)
-  where
-    there : firstFrom (rowFree t) 64 0 ≡ i → Free t i × ((k : ℕ) → k < i → Free t k → ⊥)
-    there e = (
-      free-is t i .0 (ap (rowFree t) (sym e) ∙ first-hit (rowFree t) 64 0 (omega arith)),
-      λ k h. free-misses t k (first-miss (rowFree t) 64 0 k zero-le (omega arith)),
-    )
-
-    back : Free t i × ((k : ℕ) → k < i → Free t k → ⊥) → firstFrom (rowFree t) 64 0 ≡ i
-    back (f, none) = go (decLt (firstFrom (rowFree t) 64 0) i) (decLt i (firstFrom (rowFree t) 64 0))
-      where
-        go : Dec (firstFrom (rowFree t) 64 0 < i) → Dec (i < firstFrom (rowFree t) 64 0) → firstFrom (rowFree t) 64 0 ≡ i
-        go (yes h) d = absurd (none (firstFrom (rowFree t) 64 0) h (free-is t (firstFrom (rowFree t) 64 0) .0 (first-hit (rowFree t) 64 0 (omega arith))))
-        go (no h) (yes d) = absurd (free-misses t i (first-miss (rowFree t) 64 0 i zero-le d) f)
-        go (no h) (no d) = omega arith
-
--- 64 stands for none: it is found exactly if no row is free.
-pub lowest-none : (t : List ℕ) → lowestFree t ≡ 64 ↔ ((i : ℕ) → i < 64 → Free t i → ⊥)
-unfolding lowestFree
-lowest-none t = (λ e i l. free-misses t i (first-miss (rowFree t) 64 0 i zero-le (omega arith)), λ none. go none (decLt (firstFrom (rowFree t) 64 0) 64))
-  where
-    go : ((i : ℕ) → i < 64 → Free t i → ⊥) → Dec (firstFrom (rowFree t) 64 0 < 64) → firstFrom (rowFree t) 64 0 ≡ 64
-    go none (yes h) = absurd (none (firstFrom (rowFree t) 64 0) h (free-is t (firstFrom (rowFree t) 64 0) .0 (first-hit (rowFree t) 64 0 h)))
-    go none (no h) = let m : firstFrom (rowFree t) 64 0 ≤ 64 = first-most (rowFree t) 64 0 in omega arith
+lowest-is t i l = (
+  λ e. (subst (Free t) e (found-free t (omega arith)), λ k h. below-used t k (omega arith)),
+  λ (f, none). elim (decLt (lowestFree t) i) [
+    | yes h ↦ absurd (none (lowestFree t) h (found-free t (omega arith)))
+    | no h ↦ elim (decLt i (lowestFree t)) [ yes d ↦ absurd (below-used t i d f) | no d ↦ omega arith ]
+  ],
+)
 
 -- It is no number above 64.
 pub lowest-most : (t : List ℕ) → lowestFree t ≤ 64
 unfolding lowestFree
 lowest-most t = first-most (rowFree t) 64 0
+
+-- 64 stands for none: it is found exactly if no row is free.
+pub lowest-none : (t : List ℕ) → lowestFree t ≡ 64 ↔ ((i : ℕ) → i < 64 → Free t i → ⊥)
+lowest-none t = (
+  λ e i l. below-used t i (omega arith),
+  λ none. elim (decLt (lowestFree t) 64) [ yes h ↦ absurd (none (lowestFree t) h (found-free t h)) | no h ↦ omega (arith, lowest-most t) ],
+)
 
 -- A key is known exactly if some row has its three numbers.
 pub known-is : (k : Key) (t : List ℕ) → isKnown k t ≡ true ↔ ((i : ℕ) × (i < 64) × HasKey t i k)
@@ -127,10 +105,9 @@ known-is k t = (there, λ h. passes-some (rowMatches k t) (h .0) (h .1) (back (h
 pub known-live : (now : ℕ) (t : List ℕ) → tableBad now t ≡ false → (k : Key) → 0 < k .first → isKnown k (freed now t) ≡ true ↔ Known t now k
 known-live now t good k some = (λ e. let (i, l, h) = known-is k (freed now t) .0 e in go i l h (row-is now t good i), back)
   where
-    go : (i : ℕ) → i < 64 → HasKey (freed now t) i k → Free t i ⊎ (Live now t i ⊎ Dead now t i) → Known t now k
-    go i l h (inl f) = let z = free-stays now t i f .first in let e = h .first in absurd (omega arith)
-    go i l h (inr (inr d)) = let z = test-cleared now t good i (dead-test now t i d) .first in let e = h .first in absurd (omega arith)
-    go i l h (inr (inl live)) =
+    go : (i : ℕ) → i < 64 → HasKey (freed now t) i k → Live now t i ⊎ (Free t i ⊎ Dead now t i) → Known t now k
+    go i l h (inr z) = absurd (omega (arith, clears now t good i z .first, h .first))
+    go i l h (inl live) =
         let same = live-stays now t i live in (
           i,
           l,
@@ -156,9 +133,7 @@ filled-row t i k clock len l =
 
 -- After freeing, no row is free exactly if every row lived.
 pub full-exactly : (now : ℕ) (t : List ℕ) → tableBad now t ≡ false → lowestFree (freed now t) ≡ 64 ↔ Full t now
-full-exactly now t good = (λ e i l. there i (lowest-none (freed now t) .0 e i l) (row-is now t good i), λ h. lowest-none (freed now t) .1 (λ i l. live-used now t i (h i l)))
-  where
-    there : (i : ℕ) → (Free (freed now t) i → ⊥) → Free t i ⊎ (Live now t i ⊎ Dead now t i) → Live now t i
-    there i none (inl f) = absurd (none (free-stays now t i f))
-    there i none (inr (inl live)) = live
-    there i none (inr (inr d)) = absurd (none (test-cleared now t good i (dead-test now t i d)))
+full-exactly now t good = (
+  λ e i l. elim (row-is now t good i) [ inl live ↦ live | inr h ↦ absurd (lowest-none (freed now t) .0 e i l (clears now t good i h)) ],
+  λ h. lowest-none (freed now t) .1 (λ i l. live-used now t i (h i l)),
+)

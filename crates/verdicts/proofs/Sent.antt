@@ -1,8 +1,8 @@
 -- What each verdict leaves and sends.
 -- Assumes nothing.
-use mathlib.Core.Path.{_≡_, refl, sym, ap, _∙_, subst}
+use mathlib.Core.Path.{_≡_, refl, sym, ap, _∙_}
 use mathlib.Core.Logic.{_≢_}
-use mathlib.Core.Bool.{Bool, true, true≢false}
+use mathlib.Core.Bool.{Bool, false≢true}
 use mathlib.Core.List.{List}
 use Prim.Native.Nat.{ℕ, _-_, _^_}
 use lib.ListN.{length}
@@ -16,7 +16,6 @@ use Rattle.message.specs.Read.{readOf}
 use Rattle.node_state.specs.declared.Record.{Record}
 use Rattle.node.specs.declared.Verdict.{Verdict}
 use Rattle.node.specs.declared.Verdict.the-variants.{Answer, Relay}
-use Rattle.node.specs.declared.Reply.{Reply}
 use Rattle.node.specs.declared.Reply.the-variants.{Given}
 use Rattle.node.specs.declared.role.Spread.{Spread}
 use Rattle.node.specs.declared.role.Role.{Role}
@@ -26,64 +25,57 @@ use Rattle.node.specs.Role.{RoleIn, keyIn}
 use Rattle.roundtrip.specs.Lower.{onward}
 use Rattle.node.specs.Call.{Call, After, afterOf, replies, refuse, quiet, response, answered, relayed, nodeCall}
 use Rattle.node.specs.History.{isRelay, saysRelay}
-use Rattle.node.proofs.Outcomes.{arrives}
-use Rattle.history.proofs.Calls.{Relays, View, stayed, ended, went, view}
+use Rattle.node.proofs.Outcomes.{arrival-up}
+use Rattle.history.proofs.Calls.{View, stayed, ended, went, view}
 use Rattle.verdicts.specs.Due.{Does, sends-nothing, answers, relays-discovery, relays-flood, Comes, barred-by, unread, given}
 use Rattle.verdicts.specs.Sent.{Relayed, Answered}
 use Rattle.verdicts.proofs.Links.{others-exactly}
-use Rattle.verdicts.proofs.Ways.{comes, Says, says, says-once, no-refusal, does-say}
+use Rattle.verdicts.proofs.Ways.{of-same, comes, says-once, no-refusal, does-say}
 use Rattle.verdicts.proofs.Rows.{freed-length, lowest-is, filled-row, table-good}
 
-says-relay : {up : Bool} {mask len : ℕ} (x : Reply) → x ≡ Given Relay up mask len → saysRelay x ≡ true
-unfolding saysRelay isRelay
-says-relay x e = ap saysRelay e
-
 module _ (r : Record) (t : List ℕ) (c : Call) where
-  went-on : (s : Spread) (mask len : ℕ) (a : After) → Relays r t c s → a ≡ relayed (clocked r (c .clock)) (freed (c .clock) t) c s
-      → mask ≡ others r (c .interface) → len ≡ length (onward (c .message) (s .objective)) → Relayed r t c s mask len a
-  unfolding relayed clocked others
-  went-on s mask len a k e m l =
-      let now = c .clock in
-      let row = lowestFree (freed now t) in
-      let sized : length (freed now t) ≡ 256 = freed-length now t ∙ table-good now t .0 (k .passes .table) .0 in
-      let lowest = lowest-is (freed now t) row (k .room) .0 refl in
-      let filled = filled-row (freed now t) row (keyIn (c .message) s) now sized (k .room) in
-      let up = arrives r (c .interface) (k .passes .good) (k .passes .arrives) .up in
-      rw (e, m) (record {
-        row = row;
-        room = k .room;
-        free = lowest .0;
-        lowest = lowest .1;
-        key = filled .0;
-        admitted = filled .1;
-        no-other = filled .2;
-        sized = filled .3;
-        links = others-exactly (r .links) (c .interface) up;
-        node = refl;
-        long = l;
-        output = refl;
-      })
-
   went-way : (up : Bool) (mask len : ℕ) (a : After) → View r t c a → a .called .reply ≡ Given Relay up mask len
       → (s : Spread) × RoleIn (c .message) (Role.Spreads s) × (up ≡ s .flood) × Relayed r t c s mask len a
-  unfolding relayed clocked others
-  went-way up mask len a (stayed nb tb e) q = absurd (not-both (saysRelay (a .called .reply)) (says-relay (a .called .reply) q) e)
-  went-way up mask len a (ended p nb tb e) q = absurd (not-both (saysRelay (a .called .reply)) (says-relay (a .called .reply) q) e)
+  unfolding relayed clocked others saysRelay isRelay
+  went-way up mask len a (stayed nb tb e) q = absurd (not-both (saysRelay (a .called .reply)) (ap saysRelay q) e)
+  went-way up mask len a (ended p nb tb e) q = absurd (not-both (saysRelay (a .called .reply)) (ap saysRelay q) e)
   went-way up mask len a (went s k e) q =
+      let now = c .clock in
       let bytes = onward (c .message) (s .objective) in
       let same : Given Relay up mask len ≡ Given Relay (s .flood) (r .links - 2 ^ c .interface) (length bytes) = sym q ∙ ap (λ (z : After). z .called .reply) e in
       let ups : up ≡ s .flood = cc in
       let masks : mask ≡ r .links - 2 ^ c .interface = cc in
       let longs : len ≡ length bytes = cc in
-      (s, k .role, ups, went-on s mask len a k e masks longs)
+      let row = lowestFree (freed now t) in
+      let sized : length (freed now t) ≡ 256 = freed-length now t ∙ table-good now t .0 (k .passes .table) .0 in
+      let lowest = lowest-is (freed now t) row (k .room) .0 refl in
+      let filled = filled-row (freed now t) row (keyIn (c .message) s) now sized (k .room) in (
+        s,
+        k .role,
+        ups,
+        rw (e, masks) (record {
+          row = row;
+          room = k .room;
+          free = lowest .0;
+          lowest = lowest .1;
+          key = filled .0;
+          admitted = filled .1;
+          no-other = filled .2;
+          sized = filled .3;
+          links = others-exactly (r .links) (c .interface) (arrival-up r (c .interface) (k .passes .arrives));
+          node = refl;
+          long = longs;
+          output = refl;
+        }),
+      )
 
   answered-by : {m : Message} {v : Verdict} {up : Bool} {a : After} → v ≡ Answer → Does r t c m v up a
       → (session : ℕ) × (i : Span) × (o : Objective) × (m ≡ M.Discovery session i o) × Answered r t c session i a
-  unfolding answered response clocked isRelay
+  unfolding answered response clocked
   answered-by e (sends-nothing n k) = absurd (n e)
   answered-by e (answers {session} {i} {o}) = (session, i, o, refl, record { bytes = _; is = refl; output = refl; reply = refl; table = refl; node = refl })
-  answered-by e relays-discovery = absurd (true≢false (ap isRelay e))
-  answered-by e relays-flood = absurd (true≢false (ap isRelay e))
+  answered-by e relays-discovery = absurd (false≢true (cc))
+  answered-by e relays-flood = absurd (false≢true (cc))
 
   silent-by : {m : Message} {v : Verdict} {up : Bool} {a : After} → v ≢ Answer → v ≢ Relay → Does r t c m v up a → a ≡ quiet v up (clocked r (c .clock)) (freed (c .clock) t) c
   silent-by no-answer no-relay (sends-nothing n k) = refl
@@ -95,11 +87,9 @@ module _ (r : Record) (t : List ℕ) (c : Call) where
   gave : {v : Verdict} {up : Bool} {mask len : ℕ} {a : After} → Comes r t c a → a .called .reply ≡ Given v up mask len
       → (m : Message) × (readOf (c .message) ≡ Reading.Read m) × Does r t c m v up a
   unfolding refuse
-  gave {v} {up} (barred-by n e some) q = absurd (no-refusal (subst (λ (x : Reply). Says x v up) (sym q) says))
-  gave {v} {up} (unread n e read) q = absurd (no-refusal (subst (λ (x : Reply). Says x v up) (sym q) says))
-  gave {v} {up} {a = a} (given m w u e read due does) q =
-      let same = says-once (does-say does) (subst (λ (x : Reply). Says x v up) (sym q) says) in
-      (m, read, subst (λ (b : Bool). Does r t c m v b a) (same .1) (subst (λ (z : Verdict). Does r t c m z u a) (same .0) does))
+  gave (barred-by n e some) q = absurd (no-refusal (_, _, q))
+  gave (unread n e read) q = absurd (no-refusal (_, _, q))
+  gave {a = a} (given m w u e read due does) q = (m, read, of-same (λ z b. Does r t c m z b a) (says-once (does-say does) (_, _, q)) does)
 
 -- for readers
 

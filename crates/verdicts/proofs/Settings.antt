@@ -1,45 +1,27 @@
 -- A fresh record and the setting of links are answered as the rules say. For readers: each statement stands alone.
 -- Assumes nothing.
 use mathlib.Core.Path.{_≡_, refl, subst}
-use mathlib.Core.Logic.{_⊎_, inl, inr, _↔_}
-use mathlib.Core.Bool.{true}
+use mathlib.Core.Logic.{_↔_}
+use mathlib.Core.Bool.{Bool, true, or-false}
 use mathlib.Core.List.{List}
 use Prim.Native.Nat.{ℕ, _^_}
-use native.Mathlib.Nat.{le-trans}
-use native.Mathlib.Omega.{arith}
-use lib.Dec.{ltb, leb}
-use lib.Pow.{pow-mono}
-use borrow.Author.Tests.{ltb-true, leb-true, le-leb}
+use lib.Dec.{leb}
 use Rattle.base.specs.Pick.{pick}
 use Rattle.base.proofs.Picks.{pick-case}
-use Rattle.base.proofs.Bools.{or-true}
 use Rattle.node_state.specs.declared.Record.{Record}
 use Rattle.node_state.specs.declared.Kept.{Kept}
 use Rattle.node_state.specs.Record.{linksBad, recordBad, begun, fresh, setLinks}
-use Rattle.node_state.proofs.Masks.{up-le}
-use Rattle.verdicts.specs.Bars.{HighLink, BadRecord}
+use Rattle.verdicts.specs.Bars.{BadRecord}
 use Rattle.verdicts.specs.Settings.{FreshIs, LinksSet}
-use Rattle.verdicts.proofs.Bars.{high-bit, either, record-test, fails, failing}
-
--- the test of a mask
-mask-test : (n mask : ℕ) → leb (2 ^ n) mask ≡ true ↔ HighLink n mask
-mask-test n mask = (
-  λ e. high-bit n mask (leb-true (2 ^ n) mask e),
-  λ (j, l, up). le-leb (2 ^ n) mask (le-trans (pow-mono l) (up-le mask j up)),
-)
+use Rattle.verdicts.proofs.Bars.{mask-test, record-test}
+use Rattle.verdicts.proofs.Lives.{fails, failing}
 
 -- the test of a fresh record, whose tally is 0
 begun-test : (address : List ℕ) (port ttl interfaces mask : ℕ) → linksBad interfaces mask ≡ true ↔ BadRecord (begun address port ttl interfaces mask)
 unfolding recordBad
 begun-test address port ttl interfaces mask =
-    (λ e. record-test made .0 (either (linksBad interfaces mask) (ltb (2 ^ 63) 0) (inl e)), λ b. by (or-true (linksBad interfaces mask) (ltb (2 ^ 63) 0) (record-test made .1 b)))
-  where
-    made : Record
-    made = begun address port ttl interfaces mask
-
-    by : (linksBad interfaces mask ≡ true) ⊎ (ltb (2 ^ 63) 0 ≡ true) → linksBad interfaces mask ≡ true
-    by (inl e) = e
-    by (inr e) = absurd (omega (arith, ltb-true (2 ^ 63) 0 e))
+    let made = begun address port ttl interfaces mask in
+    subst (λ (bad : Bool). bad ≡ true ↔ BadRecord made) (or-false (linksBad interfaces mask)) (record-test made)
 
 -- what is answered
 fresh-is : (address : List ℕ) (port ttl interfaces mask : ℕ) → FreshIs address port ttl interfaces mask (fresh address port ttl interfaces mask)

@@ -4,7 +4,7 @@ use lib.ListN.{length}
 use mathlib.Core.Path.{refl, sym, _∙_}
 use native.Mathlib.Omega.{arith}
 use Rattle.node.specs.Call.{callOf}
-use Rattle.node.proofs.Outcomes.{passed, arrives, barred-outcome, refused-outcome, taken-outcome}
+use Rattle.node.proofs.Outcomes.{passed, arrival-small, barred-outcome, refused-outcome, taken-outcome}
 use borrow.Author.Needs.{needs}
 use Rattle.node.proofs.call.node_call.Statement.{statement}
 use Rattle.node.proofs.call.node_call.Tie as tie
@@ -34,7 +34,7 @@ enum-known-read-2 : tie.Need-enum-known-read-2
 enum-known-read-2 c = search needs
 
 cast-take : tie.Need-cast-take
-cast-take c = let p = passed (c .before .before .before .before .before .before .before .before .before .before .before .before .args .node) (c .before .before .before .before .before .before .before .before .before .before .before .before .args .table .now) (c .before .before .before .before .before .before .before .before .before .before .before .before .args .clock) (c .before .before .before .before .before .before .before .before .before .before .before .before .args .interface) (c .before .before .before .before .before .before .before .before .before .before .before .before .args .names .now) (length (c .before .before .before .before .before .before .before .before .before .before .before .before .args .out .now)) (sym (c .before .before .before .before .before .before .barred-by .ensures) ∙ c .before .before .before .before .before .if1 .left) in omega (arith, arrives (c .before .before .before .before .before .before .before .before .before .before .before .before .args .node) (c .before .before .before .before .before .before .before .before .before .before .before .before .args .interface) (p .good) (p .arrives) .small)
+cast-take c = let p = passed (c .before .before .before .before .before .before .before .before .before .before .before .before .args .node) (c .before .before .before .before .before .before .before .before .before .before .before .before .args .table .now) (c .before .before .before .before .before .before .before .before .before .before .before .before .args .clock) (c .before .before .before .before .before .before .before .before .before .before .before .before .args .interface) (c .before .before .before .before .before .before .before .before .before .before .before .before .args .names .now) (length (c .before .before .before .before .before .before .before .before .before .before .before .before .args .out .now)) (sym (c .before .before .before .before .before .before .barred-by .ensures) ∙ c .before .before .before .before .before .if1 .left) in omega (arith, arrival-small (c .before .before .before .before .before .before .before .before .before .before .before .before .args .node) (c .before .before .before .before .before .before .before .before .before .before .before .before .args .interface) (p .good) (p .arrives))
 
 role-of-requires : tie.Need-role-of-requires
 role-of-requires c κs = search needs
