@@ -21,27 +21,28 @@ use Rattle.blocks.specs.declared.told.Told.{Told}
 use Rattle.blocks.specs.declared.told.Told.the-variants.{Nothing, Says}
 use Rattle.blocks.specs.Block.{mostPlaces}
 
--- The places that a description has. The place of a count's head (10) and that of the first locator or pair (14) are the reader's alone.
+-- ---- the places that a description has; the place of a count's head (10) and that of the first locator or pair (14) are the reader's alone
+-- the kind and the session
 abbrev pub sessionPlaces : List ℕ
 sessionPlaces = 0 ∷ 1 ∷ []
 
--- place and length
+-- an initiator's place and length
 abbrev pub initiatorPlaces : List ℕ
 initiatorPlaces = 2 ∷ 3 ∷ []
 
--- or waiting time
+-- a ttl, or a waiting time
 abbrev pub ttlPlace : List ℕ
 ttlPlace = 4 ∷ []
 
--- whether there is one, then its numbers
+-- whether there is an objective, then its numbers
 abbrev pub objectivePlaces : List ℕ
 objectivePlaces = 5 ∷ 6 ∷ 7 ∷ 8 ∷ 9 ∷ 11 ∷ 12 ∷ []
 
--- which sort of rows, and how many
+-- which sort of rows the list has, and how many
 abbrev pub rowsPlaces : List ℕ
 rowsPlaces = 13 ∷ 15 ∷ []
 
--- accept, decline, or decline with a reason
+-- an End's outcome: accept, decline, or decline with a reason
 abbrev pub outcomePlace : List ℕ
 outcomePlace = 16 ∷ []
 
@@ -49,6 +50,7 @@ outcomePlace = 16 ∷ []
 abbrev pub itemPlaces : List ℕ
 itemPlaces = 17 ∷ 18 ∷ []
 
+-- ---- which of them a kind may fill
 -- the places that may hold other numbers than 0, as the bits of a mask, by the kind
 unfoldable pub allowedIn : ℕ → ℕ
 allowedIn kind =
@@ -64,7 +66,7 @@ allowedIn kind =
 unfoldable pub fieldFits : List ℕ → ℕ → ℕ → Bool
 fieldFits f mask i = pick (eqb (getD f i 0) 0) true (hasBit mask i)
 
--- each of a block
+-- every place of a block fits
 unfoldable pub allFit : List ℕ → ℕ → Bool
 allFit f mask = allFrom (fieldFits f mask) mostPlaces 0
 
@@ -85,7 +87,7 @@ toldObjective kind n initiator o =
     (pick (eqb kind 5) (Says (D.Negotiate (n .session) o))
     (pick (eqb kind 8) (Says (D.Synch (n .session) o)) Nothing))))
 
--- a Response: locators (1) or a divert (2), as many as the list has rows
+-- a Response with locators (1) or a divert (2)
 unfoldable pub toldTargets : ℕ → Narrow → Span → Extra → Told
 toldTargets sort n initiator extra =
     pick (eqb sort 1) (Says (D.Response (n .session) initiator (n .ttl) false extra))

@@ -38,7 +38,7 @@ pub record TokenIs (s : List ℕ) (at : ℕ) (t : Token) : Type 0 where
   pub start : t .body ≤ t .next
   pub end : t .next ≤ length s
 
--- an item is as long as where it ends
+-- an item's size is where it ends, 0 for none
 unfoldable pub sizeFrom : ItemRead → ℕ
 sizeFrom (ItemRead.Refused number place) = 0
 sizeFrom (ItemRead.Ends end) = end

@@ -29,19 +29,19 @@ padded text = record { bytes = take 12 (text ++ replicate 12 0); len = length te
 unfoldable pub withText : Line → List ℕ → Line
 withText line text = record { bytes = sets (line .bytes) (line .len) text; len = line .len + length text }
 
--- `kind `, the number, and a line feed
+-- `kind `
 unfoldable pub kindWord : List ℕ
 kindWord = 107 ∷ 105 ∷ 110 ∷ 100 ∷ 32 ∷ []
 
--- the line of a message
+-- the line of a message: `kind `, the number, and a line feed
 unfoldable pub kindLine : ℕ → Line
 kindLine n = padded (kindWord ++ numbered n)
 
--- `refused `, the number, and a line feed
+-- `refused `
 unfoldable pub refusedWord : List ℕ
 refusedWord = 114 ∷ 101 ∷ 102 ∷ 117 ∷ 115 ∷ 101 ∷ 100 ∷ 32 ∷ []
 
--- the line of a refusal
+-- the line of a refusal: `refused `, the number, and a line feed
 unfoldable pub refusedLine : ℕ → Line
 refusedLine n = padded (refusedWord ++ numbered n)
 

@@ -23,15 +23,16 @@ unfoldable pub rowsFrom : (ℕ → ℕ) → (ℕ → ℕ → List ℕ → List �
 rowsFrom next row zero i at list = list
 rowsFrom next row (suc n) i at list = rowsFrom next row n (i + 1) (next at) (row at i list)
 
--- a series in rows of so many numbers; a list that is too short stays as it is
+-- how many numbers a series is, in rows of so many, or one more than the list has where it is too short
 unfoldable pub seriesEnd : ℕ → Series → List ℕ → ℕ
 seriesEnd size series list = pick (ltb (length list / size) (series .many)) (length list + 1) (size * series .many)
 
--- the list with the rows of a series in front
+-- the list with the rows of a series in front; one that is too short stays as it is
 unfoldable pub seriesFilled : ℕ → (ℕ → ℕ) → (ℕ → ℕ → List ℕ → List ℕ) → Series → List ℕ → List ℕ
 seriesFilled size next row series list = pick (ltb (length list / size) (series .many)) list (rowsFrom next row (series .many) 0 (series .at) list)
 
 -- ---- locators
+-- the place after a locator that was read
 unfoldable pub locatorNextFrom : ℕ → LocatorRead → ℕ
 locatorNextFrom at (LocatorRead.Bad place) = at
 locatorNextFrom at (LocatorRead.Got l size bad) = at + size
@@ -41,7 +42,7 @@ unfoldable pub locatorStoredFrom : ℕ → List ℕ → LocatorRead → List ℕ
 locatorStoredFrom i list (LocatorRead.Bad place) = list
 locatorStoredFrom i list (LocatorRead.Got l size bad) = sets list (locatorRow * i) (locatorNumbers l)
 
--- the place after the one at `at`, and the list with its numbers in row i
+-- the place after the locator at `at`
 unfoldable pub locatorNext : List ℕ → ℕ → ℕ
 locatorNext s at = locatorNextFrom at (locatorAt s at)
 
@@ -64,7 +65,7 @@ unfoldable pub pairStoredFrom : ℕ → List ℕ → PairRead → List ℕ
 pairStoredFrom i list (PairRead.Bad place) = list
 pairStoredFrom i list (PairRead.Got o tag size bad long) = sets list (pairRow * i) (pairCells o tag)
 
--- the place after the one at `at`, and the list with its numbers in row i
+-- the place after the pair at `at`
 unfoldable pub pairNext : List ℕ → ℕ → ℕ
 pairNext s at = pairNextFrom at (pairAt s at)
 

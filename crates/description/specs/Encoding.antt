@@ -47,22 +47,22 @@ unfoldable pub maybeObj : Option (Obj (List ℕ)) → List ℕ
 maybeObj none = []
 maybeObj (some o) = encodeObj o
 
--- how many items that is
+-- how many items what may be left out is
 unfoldable pub howMany : {A : Type 0} → Option A → ℕ
 howMany none = 0
 howMany (some x) = 1
 
--- an objective with a locator or an empty array
+-- a locator, or an empty array
 unfoldable pub locOrEmpty : Option Loc → List ℕ
 locOrEmpty none = head 4 0
 locOrEmpty (some l) = encodeLoc l
 
--- a Flood's pair
+-- a Flood's pair: an objective with a locator or an empty array
 unfoldable pub encodePair : Pair (List ℕ) → List ℕ
 encodePair p = head 4 2 ++ encodeObj (p .0) ++ locOrEmpty (p .1)
 
 -- ---- the messages
--- a Response's locators, or its one divert
+-- how many items a Response's locators are, or its one divert
 unfoldable pub targetItems : Aim → ℕ
 targetItems (Aim.locators ls) = length ls
 targetItems (Aim.divert ls) = 1

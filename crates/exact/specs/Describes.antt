@@ -44,7 +44,7 @@ pub record SeriesIs (s : List ℕ) (series : Series) (e : ℕ) (P : Items → Ty
   pub many : series .many ≡ count items
   pub are : P items
 
--- locators stand from p to e; or the head of a divert stands at p, its lead, and then its locators, up to e
+-- locators stand from p to e; or the head of a divert stands at p, then its lead, 100, and then its locators, up to e
 pub data AimIs (s : List ℕ) (p e : ℕ) : Targets → Aim → Type 0 where
   locators : {series : Series} {ls : List Loc} → series .at ≡ p → SeriesIs s series e (λ xs. LocatorItems xs ls) → AimIs s p e (Targets.Locators series) (Aim.locators ls)
   divert : {series : Series} {ls : List Loc} {q w : ℕ} → ArrayHead s p q (suc (series .many)) → Stands s q (series .at) (uint w 100)
@@ -61,7 +61,8 @@ pub data OutcomeIs (s : List ℕ) : Outcome → Ending → Type 0 where
   decline : OutcomeIs s Outcome.Decline Ending.decline
   reason : {span : Span} {content : List ℕ} → Before (length s) content span → OutcomeIs s (Outcome.Reason span) (Ending.reason content)
 
--- the numbers are the message's; where an answer has places, each part stands right after the one before it, from the message's start on
+-- the numbers are the message's; where an answer has places, each part stands right after the one before it, from the message's start on, and an End's
+-- reason right before the message's end
 pub data Describes (s : List ℕ) : Message → Msg Value → Type 0 where
   noop : Describes s M.Noop Msg.noop
   discovery : {session p q r : ℕ} {i : Span} {from : List ℕ} {o : Objective} {obj : Obj Value}

@@ -1,5 +1,5 @@
 -- Which CBOR items are which message, as the CDDL of RFC 8990 (section 4) has it, with the limits of the rules on numbers. Heads have any width here; which
--- widths are good is `Good`'s to say.
+-- widths are good is said by `Good` of `cbor Tree`.
 use Prim.Native.Nat.{ℕ, _≤_}
 use mathlib.Core.List.{List, [], _∷_}
 use mathlib.Core.Bool.{true, false}
@@ -121,7 +121,7 @@ pub data EndingItem : Item → Ending → Type 0 where
   decline : {w k : ℕ} → EndingItem (array w (uint k 102 ∷ [])) Ending.decline
   reason : {w k t : ℕ} {content : List ℕ} → EndingItem (array w (uint k 102 ∷ text t content ∷ [])) (Ending.reason content)
 
--- grasp-message: one case for each row of the rules' table of messages
+-- grasp-message: one case for each kind, and two for Invalid
 pub data MessageItem : Item → Msg Value → Type 0 where
   noop : {w k : ℕ} → MessageItem (array w (uint k 0 ∷ [])) Msg.noop
   discovery : {w k session : ℕ} {s i x : Item} {from : List ℕ} {obj : Obj Value} → Number s session → Initiator i from → ObjectiveItem x obj

@@ -18,7 +18,7 @@ unfoldable pub lengthAfter : Written → ℕ → ℕ
 lengthAfter (Written.Refused number) before = before
 lengthAfter (Written.Length n) before = n
 
--- the same of what a block says: 18, and nothing changes, where it says nothing that could be written
+-- the number by what a block says: 18 where it says nothing that could be written, and then nothing changes
 unfoldable pub numberBy : List ℕ → List ℕ → List ℕ → Told → ℕ
 numberBy source list out Nothing = 18
 numberBy source list out (Says d) = numberOf (writeAnswer source list d out)

@@ -36,6 +36,6 @@ unfoldable pub floodBy : List ℕ → ℕ → OpeningRead → Shape
 floodBy s n (OpeningRead.Bad place) = Bad place
 floodBy s n (OpeningRead.Got opening next) = floodedAt s opening (n - 4) next
 
--- 9: a message s of n items in all, its session at `at`
+-- kind 9: a message s of n items in all, its session at `at`
 unfoldable pub floodAt : List ℕ → ℕ → ℕ → Shape
 floodAt s n at = pick (ltb n 5) (Bad 0) (floodBy s n (openingAt s at))

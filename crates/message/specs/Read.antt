@@ -31,7 +31,7 @@ byKind s kind n at =
     (pick (eqb kind 99) (invalidAt s n at)
     (exchangeAt s kind n at)))))))
 
--- 9, then 11, then 10
+-- refusal 9, then 11, then 10
 unfoldable pub judgedShape : Shape → Examined
 judgedShape (Shape.Bad place) = Refused 9 place
 judgedShape (Shape.Good m end bad long) = unless (eqb bad 0) (Refused 11 bad) (unless (eqb long 0) (Refused 10 long) (Accepted m end))

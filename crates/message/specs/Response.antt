@@ -69,6 +69,6 @@ unfoldable pub responseBy : List ℕ → ℕ → OpeningRead → Shape
 responseBy s n (OpeningRead.Bad place) = Bad place
 responseBy s n (OpeningRead.Got opening next) = targetsAt s opening (n - 4) next
 
--- 2: a message s of n items in all, its session at `at`
+-- kind 2: a message s of n items in all, its session at `at`
 unfoldable pub responseAt : List ℕ → ℕ → ℕ → Shape
 responseAt s n at = pick (ltb n 5) (Bad 0) (responseBy s n (openingAt s at))

@@ -18,7 +18,7 @@ use Rattle.message.specs.declared.shape.Shape.{Shape}
 use Rattle.message.specs.declared.shape.Shape.the-variants.{Bad, Good}
 use Rattle.message.specs.Opening.{mostNumber, objectiveLevels, isInitiator}
 
--- 0: nothing
+-- kind 0: nothing
 unfoldable pub noopAt : ℕ → ℕ → Shape
 noopAt n at = unless (eqb n 1) (Bad 0) (Good M.Noop at 0 0)
 
@@ -27,7 +27,7 @@ unfoldable pub discovered : ℕ → Span → ℕ → ObjectiveRead → Shape
 discovered session initiator at (ObjectiveRead.Bad place) = Bad place
 discovered session initiator at (ObjectiveRead.Got o size bad long) = Good (M.Discovery session initiator o) (at + size) bad long
 
--- 1: session, initiator, objective
+-- kind 1: session, initiator, objective
 unfoldable pub discoveryAt : List ℕ → ℕ → ℕ → Shape
 discoveryAt s n at =
     let i = tokenAt s at in
@@ -50,7 +50,7 @@ unfoldable pub exchanged : ℕ → ℕ → ℕ → ObjectiveRead → Shape
 exchanged kind session at (ObjectiveRead.Bad place) = Bad place
 exchanged kind session at (ObjectiveRead.Got o size bad long) = Good (exchangeOf kind session o) (at + size) bad long
 
--- 3, 4, 5 and 8: session, objective
+-- kinds 3, 4, 5 and 8: session, objective
 unfoldable pub exchangeAt : List ℕ → ℕ → ℕ → ℕ → Shape
 exchangeAt s kind n at =
     let i = tokenAt s at in
@@ -58,7 +58,7 @@ exchangeAt s kind n at =
     (pick (ltb mostNumber (upTo mostNumber i)) (Bad (i .at))
     (exchanged kind (upTo mostNumber i) (i .next) (objectiveAt objectiveLevels s (i .next))))
 
--- 7: session, waiting time
+-- kind 7: session, waiting time
 unfoldable pub waitAt : List ℕ → ℕ → ℕ → Shape
 waitAt s n at =
     let i = tokenAt s at in
@@ -72,7 +72,7 @@ waitAt s n at =
 abbrev pub itemLevels : ℕ
 itemLevels = 1
 
--- 99: session, an optional item of any sort
+-- kind 99: session, an optional item of any sort
 unfoldable pub invalidAt : List ℕ → ℕ → ℕ → Shape
 invalidAt s n at =
     let i = tokenAt s at in
@@ -100,7 +100,7 @@ optionAt s session at =
     (unless (eqb (t .major) 3) (Bad (t .at))
     (Good (M.End session (Outcome.Reason (contentOf t))) (t .next) (badText (contentIn s t) (t .at)) 0)))))))
 
--- 6: session, accept or decline
+-- kind 6: session, accept or decline
 unfoldable pub endAt : List ℕ → ℕ → ℕ → Shape
 endAt s n at =
     let i = tokenAt s at in

@@ -37,7 +37,7 @@ arrayBad s =
 unfoldable pub framedBad : List ℕ → ItemRead → Bool
 framedBad s r = framedBy (λ number place. true) (arrayBad s) (length s) r
 
--- 16
+-- refusal 16 is due
 unfoldable pub namesBad : List ℕ → Bool
 namesBad s = pick (eqb (length s) 0) true (pick (ltb mostBytes (length s)) true (framedBad s (firstItem 0 s)))
 

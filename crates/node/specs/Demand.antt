@@ -6,7 +6,7 @@ use Rattle.node_state.specs.Record.{fresh}
 use Rattle.node_state.specs.Table.{freshTable}
 use Rattle.node.specs.History.{Event, WholeList}
 
--- the demand's two sentences: of the node, and of a negotiation
+-- the demand's two parts: of the node, and of a negotiation
 pub record Demand3 : Type 0 where
   -- also where the fresh record was refused: it is all zeros then, and every call is refused
   pub node : (address : List ℕ) (port ttl interfaces mask : ℕ) (events : List Event)

@@ -13,7 +13,7 @@ use Rattle.node_state.specs.declared.Kept.{Kept}
 abbrev pub mostInterfaces : ℕ
 mostInterfaces = 8
 
--- house limit: how many copies it tallies at most
+-- house limit: the greatest tally of a record that isn't refused
 abbrev pub mostTally : ℕ
 mostTally = 2 ^ 63
 
@@ -21,7 +21,7 @@ mostTally = 2 ^ 63
 unfoldable pub linksBad : ℕ → ℕ → Bool
 linksBad interfaces mask = eqb interfaces 0 || ltb mostInterfaces interfaces || leb (2 ^ interfaces) mask
 
--- 12
+-- refusal 12 is due: bad links, or a tally above the limit
 unfoldable pub recordBad : Record → Bool
 recordBad r = linksBad (r .interfaces) (r .links) || ltb mostTally (r .tally)
 

@@ -67,15 +67,15 @@ firstFrom p (suc n) i = let r = firstFrom p n (suc i) in pick (p i) i r
 unfoldable pub someRow : (ℕ → Bool) → Bool
 someRow p = ltb (firstFrom p mostRows 0) mostRows
 
--- 15: not 256 numbers, or a bad row
+-- refusal 15 is due: not 256 numbers, or a bad row
 unfoldable pub tableBad : ℕ → List ℕ → Bool
 tableBad now t = not (eqb (length t) tableNumbers) || someRow (rowBad now t)
 
--- house limits: how long a row lives, in ms; of a Discovery
+-- house limit: how long a Discovery's row lives, in ms
 abbrev pub discoveryLife : ℕ
 discoveryLife = 60000
 
--- and of a Flood
+-- house limit: how long a Flood's row lives, in ms
 abbrev pub floodLife : ℕ
 floodLife = 120000
 
@@ -83,7 +83,7 @@ floodLife = 120000
 unfoldable pub rowLife : ℕ → ℕ
 rowLife first = pick (ltb (tagIn first) 3) discoveryLife floodLife
 
--- a row lives while the clock minus the admission is below its life
+-- a row is dead once the clock minus the admission is its life or more
 unfoldable pub rowDead : ℕ → List ℕ → ℕ → Bool
 rowDead now t i = leb (rowLife (cell t i 0)) (now - cell t i 3)
 

@@ -9,7 +9,7 @@ use Rattle.grammar.specs.Limits.{Utf8, Short}
 use Rattle.exact.specs.Accepted.{OneItem}
 use Rattle.names.specs.Names.{mostNames}
 
--- items that are texts of these contents, heads of any width; which widths are good is `Good`'s to say
+-- items that are texts of these contents, heads of any width; which widths are good is said by `Good` of `cbor Tree`
 pub data TextItems : Items → List (List ℕ) → Type 0 where
   empty : TextItems Items.done []
   more : {w : ℕ} {content : List ℕ} {xs : Items} {contents : List (List ℕ)} → TextItems xs contents → TextItems (Items.more (text w content) xs) (content ∷ contents)

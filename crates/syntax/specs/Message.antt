@@ -39,7 +39,7 @@ pub data Ending : Type 0 where
   decline : Ending
   reason : List ℕ → Ending
 
--- grasp-message: one case for each row of the rules' table of messages
+-- grasp-message: one case for each kind
 pub data Msg (A : Type 0) : Type 0 where
   noop : Msg A
   discovery : (session : ℕ) (initiator : List ℕ) → Obj A → Msg A

@@ -48,7 +48,7 @@ Spent o = (o .count ≡ 0) ⊎ (o .count ≡ 1)
 abbrev pub Alone : Record → Call → Type 0
 Alone r c = (j : ℕ) → j ≢ c .interface → hasBit (r .links) j ≡ false
 
--- no row is free once the dead ones are freed
+-- every row lives, so that none is free once the dead ones are freed
 abbrev pub Full : List ℕ → ℕ → Type 0
 Full t now = (i : ℕ) → i < 64 → Live now t i
 
@@ -76,7 +76,7 @@ module _ (r : Record) (t : List ℕ) (c : Call) where
       (when (Full t (c .clock)) NoRow false
       (otherwise Relay false))))))
 
-  -- the count that matters is the first objective's
+  -- a Flood's; the count that matters is the first objective's
   abbrev pub floodRules : ℕ → Span → Objective → Rules
   floodRules session initiator first =
       when (OwnInitiator r c initiator) Own false

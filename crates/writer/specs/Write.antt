@@ -46,7 +46,7 @@ accepted (Reading.Read m) = true
 unfoldable pub accepts : List ℕ → Bool
 accepts bs = accepted (readOf bs)
 
--- ---- `write`: the description by itself, at most 2,048 bytes, and the reader accepts them
+-- ---- `write`: the description is judged by itself; its encoding has at most 2,048 bytes, and the reader accepts it
 -- the bytes of the message that a description speaks of
 unfoldable pub draftOf : List ℕ → List ℕ → Description → List ℕ
 draftOf source list m = encodeMsg (msgOf source list m)
