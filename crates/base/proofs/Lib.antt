@@ -8,3 +8,5 @@ pub mod Digits
 pub mod Lists
 pub mod Bools
 pub mod Pigeonhole
+-- For the proofs of this crate: `SameBytes`, the loop that compares bytes.
+mod SameBytes

@@ -1,1 +1,2 @@
-// What every layer's definitions and proofs share; it has no code of its own.
+// What every layer shares, and nothing of the protocol.
+pub mod bytes;

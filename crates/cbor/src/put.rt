@@ -1,12 +1,11 @@
-// The shortest head written (RFC 8949, section 4.1).
-
+// The shortest head written (RFC 8949, section 4.1), and bytes put behind it.
 ghost use mathlib.Core.Path.{_≡_};
 ghost use Prim.Native.Nat.{_+_, _≤_};
 ghost use lib.ListN.{length};
 ghost use lib.Seq.{sets};
 ghost use Rattle.base.specs.BigEndian.{bytesOf};
 ghost use Rattle.cbor.specs.Tree.{infoOf, Sized, shortest};
-ghost use Rattle.cbor.specs.Put.{headEnd, headPut};
+ghost use Rattle.cbor.specs.Put.{headEnd, headPut, allEnd, allPut};
 
 // How many bytes the shortest head with this argument has.
 pub fn head_len(arg: u64) -> usize
@@ -81,5 +80,34 @@ fn spell(out: &mut [u8], at: usize, n: usize, value: u64)
         left -= 1;
         out[at + left] = (rest % 256) as u8;
         rest /= 256;
+    }
+}
+
+// All bytes of s, or none where they don't fit.
+pub fn all(out: &mut [u8], at: usize, s: &[u8]) -> usize
+    ensures { λ r. ⌜ r ≡ allEnd (now (out .entry)) at (now (s .entry)) ⌝ }
+    ensures { λ r. ⌜ now (out .exit) ≡ allPut (now (out .entry)) at (now (s .entry)) ⌝ }
+{
+    let room = out.len();
+    if room < at {
+        return room + 1;
+    }
+    if room - at < s.len() {
+        return room + 1;
+    }
+    let end = at + s.len();
+    copy(&mut out[at..end], s);
+    end
+}
+
+// The bytes of s in the place of as many others: nothing is tested in the loop, so that it is compiled to a block copy.
+fn copy(to: &mut [u8], s: &[u8])
+    requires { ⌜ length (now to) ≡ length (now s) ⌝ }
+    ensures { λ r. ⌜ now (to .exit) ≡ now (s .entry) ⌝ }
+{
+    let mut i: usize = 0;
+    while i < s.len() {
+        to[i] = s[i];
+        i += 1;
     }
 }

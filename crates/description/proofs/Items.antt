@@ -5,8 +5,8 @@ use mathlib.Core.Path.{_≡_, refl, ap, _∙_}
 use mathlib.Core.List.{List, [], _∷_}
 use native.Mathlib.Omega.{arith}
 use lib.ListN.{length, length-append}
-use Rattle.description.specs.Encoding.{oneMore}
-use Rattle.description.specs.Describe.{locatorRow, pairRow, listOf, locsOf, pairsOf}
+use Rattle.rfc8990.specs.Encoding.{oneMore}
+use Rattle.description.specs.Meaning.{locatorRow, pairRow, listOf, locsOf, pairsOf}
 
 length-up : {A : Type 0} (f : ℕ → A) (n : ℕ) → length (listOf f n) ≡ n
 unfolding listOf

@@ -5,7 +5,7 @@ use mathlib.Core.Path.{_≡_}
 use mathlib.Core.List.{List}
 use native.Mathlib.Omega.{arith}
 use lib.ListN.{length, getD, List·getD-eq-default}
-use Rattle.description.specs.Describe.{locatorRowAt, entryAt}
+use Rattle.description.specs.Meaning.{locatorRowAt, entryAt}
 
 -- past the end all are 0
 none-at : (l : List ℕ) (k j : ℕ) → length l ≤ k → getD l (k + j) 0 ≡ 0

@@ -18,7 +18,7 @@ use Rattle.options.specs.declared.Outcome.{Outcome}
 use Rattle.options.specs.declared.Outcome.the-variants as E
 use Rattle.description.specs.declared.Description.{Description}
 use Rattle.description.specs.declared.Description.the-variants as D
-use Rattle.description.specs.Describe.{locatorRow, pairRow, entryRow, entryOf, locatorRowAt, entryAt}
+use Rattle.description.specs.Meaning.{locatorRow, pairRow, entryRow, entryOf, locatorRowAt, entryAt}
 
 -- what was read of n bytes is one item and nothing else
 unfoldable pub alone : ℕ → ItemRead → Bool

@@ -1,4 +1,3 @@
--- `Encoding`: a message's encoding with shortest heads. `Describe`: which message a description speaks of. `Judge`: which descriptions speak of one.
-pub mod Encoding
-pub mod Describe
+-- `Meaning`: which message a description speaks of. `Judge`: which descriptions speak of one.
+pub mod Meaning
 pub mod Judge

@@ -2,8 +2,8 @@
 ghost use mathlib.Core.Path.{_≡_};
 ghost use mathlib.Core.List.{[]};
 ghost use Rattle.options.specs.Text.{held};
-ghost use Rattle.description.specs.Encoding.{targetItems, howMany, oneMore};
-ghost use Rattle.description.specs.Describe.{targetsOf, extraOf};
+ghost use Rattle.rfc8990.specs.Encoding.{targetItems, howMany, oneMore};
+ghost use Rattle.description.specs.Meaning.{targetsOf, extraOf};
 use crate::Extra;
 use crate::rows::LOCATOR_ROW;
 use crate::spans;

@@ -3,7 +3,7 @@ ghost use mathlib.Core.Path.{_≡_};
 ghost use Prim.Native.Nat.{_+_, _*_, _≤_};
 ghost use lib.ListN.{length};
 ghost use Rattle.options.specs.Text.{held};
-ghost use Rattle.description.specs.Describe.{locatorRow, pairRow, entryOf};
+ghost use Rattle.description.specs.Meaning.{locatorRow, pairRow, entryOf};
 ghost use Rattle.description.specs.Judge.{whole, inside, okValue, okItem, okEntry, okLocatorRow, blankLocatorRow, okNoneOr, okRow, okRows, okPair, okPairs, okExtra, okOutcome, okDiscovery, okResponse, okFlood, okParts, hasList, okList, okDescribed};
 use crate::Description;
 use crate::Extra;

@@ -1,7 +1,7 @@
 // The rows of a list: locators of five numbers, pairs of twelve.
 ghost use mathlib.Core.Path.{_≡_};
 ghost use lib.ListN.{getD};
-ghost use Rattle.description.specs.Describe.{entryOf, entryAt, locatorRowAt};
+ghost use Rattle.description.specs.Meaning.{entryOf, entryAt, locatorRowAt};
 use crate::Goal;
 use options::Span;
 

@@ -1,10 +1,10 @@
 // The eleven kinds put (RFC 8990, section 2.8), each from the front of the buffer.
 ghost use Rattle.options.specs.Text.{held};
 ghost use Rattle.encode.specs.Put.{Wrote};
-ghost use Rattle.syntax.specs.Message.{Msg};
-ghost use Rattle.syntax.specs.Message as Syntax;
-ghost use Rattle.description.specs.Encoding.{preamble, exchange, encodeMsg, encodeObj, encodeTargets, maybeObj};
-ghost use Rattle.description.specs.Describe.{entryOf, objOf, targetsOf, pairsOf, extraOf, endOf, msgOf};
+ghost use Rattle.rfc8990.specs.Message.{Msg};
+ghost use Rattle.rfc8990.specs.Message as Syntax;
+ghost use Rattle.rfc8990.specs.Encoding.{preamble, exchange, encodeMsg, encodeObj, encodeTargets, maybeObj};
+ghost use Rattle.description.specs.Meaning.{entryOf, objOf, targetsOf, pairsOf, extraOf, endOf, msgOf};
 use crate::locator;
 use crate::objective;
 use crate::pair;

@@ -1,8 +1,8 @@
 // GRASP messages encoded (RFC 8990) from a description into a buffer that is lent, every head in its shortest form.
 ghost use mathlib.Core.Path.{_≡_};
 ghost use lib.ListN.{length, replicate};
-ghost use Rattle.description.specs.Encoding.{encodeMsg};
-ghost use Rattle.description.specs.Describe.{msgOf};
+ghost use Rattle.rfc8990.specs.Encoding.{encodeMsg};
+ghost use Rattle.description.specs.Meaning.{msgOf};
 ghost use Rattle.encode.specs.Put.{frontEnd, frontPut};
 use description::Description;
 

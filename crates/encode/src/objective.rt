@@ -1,8 +1,8 @@
 // Objectives put (RFC 8990, section 2.10.1).
 ghost use Prim.Native.Nat.{_+_};
 ghost use Rattle.encode.specs.Put.{Wrote};
-ghost use Rattle.description.specs.Encoding.{encodeObj};
-ghost use Rattle.description.specs.Describe.{objOf};
+ghost use Rattle.rfc8990.specs.Encoding.{encodeObj};
+ghost use Rattle.description.specs.Meaning.{objOf};
 use crate::put;
 use description::counts;
 use description::rows::Entry;

@@ -1,13 +1,11 @@
 // The steps of the encoder. Each puts some bytes from `at` on and answers where they end; a step that would end after the buffer
 // answers more than the buffer's length. So no step asks for room, and the end of the last one tells whether all of them fit.
-ghost use mathlib.Core.Path.{_≡_};
 ghost use mathlib.Core.List.{[], _∷_};
 ghost use Prim.Native.Nat.{_<_};
-ghost use lib.ListN.{length};
 ghost use Rattle.options.specs.Text.{held};
-ghost use Rattle.cbor.specs.Put.{head, allEnd, allPut};
+ghost use Rattle.cbor.specs.Put.{head};
 ghost use Rattle.encode.specs.Put.{Wrote};
-ghost use Rattle.description.specs.Encoding.{string};
+ghost use Rattle.rfc8990.specs.Encoding.{string};
 use description::spans;
 use options::Span;
 
@@ -30,35 +28,6 @@ pub(crate) fn byte(out: &mut [u8], at: usize, b: u8) -> usize
     at + 1
 }
 
-// All bytes of s, or none where they don't fit.
-pub fn all(out: &mut [u8], at: usize, s: &[u8]) -> usize
-    ensures { λ r. ⌜ r ≡ allEnd (now (out .entry)) at (now (s .entry)) ⌝ }
-    ensures { λ r. ⌜ now (out .exit) ≡ allPut (now (out .entry)) at (now (s .entry)) ⌝ }
-{
-    let room = out.len();
-    if room < at {
-        return room + 1;
-    }
-    if room - at < s.len() {
-        return room + 1;
-    }
-    let end = at + s.len();
-    copy(&mut out[at..end], s);
-    end
-}
-
-// The bytes of s in the place of as many others: nothing is tested in the loop, so that it is compiled to a block copy.
-fn copy(to: &mut [u8], s: &[u8])
-    requires { ⌜ length (now to) ≡ length (now s) ⌝ }
-    ensures { λ r. ⌜ now (to .exit) ≡ now (s .entry) ⌝ }
-{
-    let mut i: usize = 0;
-    while i < s.len() {
-        to[i] = s[i];
-        i += 1;
-    }
-}
-
 // The bytes of a span.
 pub(crate) fn part(out: &mut [u8], at: usize, source: &[u8], s: Span) -> usize
     ensures { λ r. ⌜ Wrote (now (out .entry)) (now (out .exit)) at (held (now (source .entry)) s) r ⌝ }
@@ -70,10 +39,10 @@ pub(crate) fn part(out: &mut [u8], at: usize, source: &[u8], s: Span) -> usize
     }
     let room = source.len() - from;
     if room < len {
-        return all(out, at, &source[from..]);
+        return cbor::put::all(out, at, &source[from..]);
     }
     let end = from + len;
-    all(out, at, &source[from..end])
+    cbor::put::all(out, at, &source[from..end])
 }
 
 // A byte string (major type 2) or a text (3) with the bytes of a span.

@@ -5,9 +5,9 @@ use Rattle.options.specs.declared.locator.LocatorRead.{LocatorRead}
 use Rattle.options.specs.declared.pair.PairRead.{PairRead}
 use Rattle.options.specs.Locator.{locatorAt, locatorNumbers}
 use Rattle.options.specs.Pair.{pairAt, pairNumbers}
-use Rattle.message.specs.declared.Reading.{Reading}
-use Rattle.message.specs.Read.{readOf}
-use Rattle.blocks.specs.Block.{blockOf}
+use Rattle.reader.specs.declared.Reading.{Reading}
+use Rattle.reader.specs.Read.{readOf}
+use Rattle.forms.specs.Block.{blockOf}
 
 -- 0 for a message, or the number of the refusal
 unfoldable pub numberFrom : Reading → ℕ

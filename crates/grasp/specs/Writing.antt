@@ -4,9 +4,9 @@ use mathlib.Core.List.{List}
 use lib.ListN.{length}
 use Rattle.writer.specs.declared.Written.{Written}
 use Rattle.writer.specs.Write.{writeAnswer, writeOut}
-use Rattle.blocks.specs.declared.told.Told.{Told}
-use Rattle.blocks.specs.declared.told.Told.the-variants.{Nothing, Says}
-use Rattle.blocks.specs.Told.{toldBy}
+use Rattle.forms.specs.declared.described.Told.{Told}
+use Rattle.forms.specs.declared.described.Told.the-variants.{Nothing, Says}
+use Rattle.forms.specs.Described.{toldBy}
 
 -- a refusal's number, and 0 where there is none
 unfoldable pub numberOf : Written → ℕ

@@ -1,10 +1,10 @@
 // Reading, for C.
 ghost use mathlib.Core.Path.{_≡_};
 ghost use Rattle.grasp.specs.Reading.{readNumber, readBlock, locatorEnd, locatorAfter, pairEnd, pairAfter};
-use blocks::block;
-use message::Reading;
+use forms::block;
 use options::locator::LocatorRead;
 use options::pair::PairRead;
+use reader::Reading;
 
 // 0 and the message's block, or the number of the refusal and the block as it was.
 #[no_mangle]

@@ -1,8 +1,8 @@
 // Writing, for C: a message's block, laid out as `grasp_read` fills it, says what is to be written.
 ghost use mathlib.Core.Path.{_≡_};
 ghost use Rattle.grasp.specs.Writing.{writeNumber, writeBytes, writeLength};
-use blocks::told;
-use blocks::told::Told;
+use forms::described;
+use forms::described::Told;
 use writer::Written;
 
 // 0 with the length and the encoding at the front of `out`, or the number of the refusal with both as they were.

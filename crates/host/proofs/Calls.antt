@@ -11,7 +11,7 @@ use Rattle.base.specs.Pick.{pick}
 use Rattle.base.proofs.Picks.{pick-case}
 use Rattle.node_state.specs.declared.Record.{Record}
 use Rattle.node.specs.declared.Called.{Called}
-use Rattle.node_state.proofs.Rows.{table-sized}
+use Rattle.node_state.proofs.TableRows.{table-sized}
 use Rattle.node.specs.Passed.{Passed}
 use Rattle.node.proofs.Outcomes.{passed}
 use Rattle.node.specs.Call.{Call, After, afterOf, bar, refuse, quiet, answered, relayed, nodeCall}

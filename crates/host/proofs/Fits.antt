@@ -15,8 +15,8 @@ use Rattle.base.proofs.Picks.{pick-case, both}
 use Rattle.base.proofs.Digits.{big-endian-lt}
 use Rattle.base.proofs.Parts.{bytes-drop}
 use Rattle.message.specs.Opening.{mostNumber}
-use Rattle.message.specs.declared.Reading.{Reading}
-use Rattle.message.specs.Read.{readOf}
+use Rattle.reader.specs.declared.Reading.{Reading}
+use Rattle.reader.specs.Read.{readOf}
 use Rattle.node_state.specs.declared.Record.{Record}
 use Rattle.node_state.specs.declared.Kept.{Kept}
 use Rattle.node_state.specs.declared.key.Key.{Key}

@@ -16,8 +16,8 @@ use Rattle.base.proofs.Parts.{bytes-drop, bytes-take}
 use Rattle.options.specs.Text.{held}
 use Rattle.message.specs.Opening.{mostNumber}
 use Rattle.message.specs.declared.Message.{Message}
-use Rattle.message.specs.declared.Reading.{Reading}
-use Rattle.message.specs.Read.{readOf}
+use Rattle.reader.specs.declared.Reading.{Reading}
+use Rattle.reader.specs.Read.{readOf}
 use Rattle.negotiation.specs.declared.Side.{Side}
 use Rattle.negotiation.specs.declared.Side.the-variants.{Us, Them}
 use Rattle.negotiation.specs.declared.State.{State}

@@ -1,4 +1,4 @@
--- What is known of a message that was read, of any list of numbers: how long it is, that its session has 32 bits and a count is at most 255, where an
+-- What is known of a message that was examined, of any list of numbers: that its session has 32 bits and a count is at most 255, where an
 -- initiator, the objective of a Discovery, a Flood or an exchange, and its parts lie, and that each locator and each pair has six bytes at least; and of a
 -- refusal, that its number is at most 11.
 -- Assumes nothing.
@@ -13,11 +13,8 @@ use lib.Dec.{eqb, lit≤}
 use borrow.Author.Tests.{ltb-false, eqb-true}
 use Rattle.base.proofs.Bools.{and-left, and-right, or-true}
 use Rattle.base.proofs.Picks.{pick-case, both}
-use Rattle.cbor.specs.declared.item.ItemRead.{ItemRead}
 use Rattle.cbor.specs.declared.token.Token.{Token}
-use Rattle.cbor.specs.Item.{firstItem}
 use Rattle.cbor.specs.Token.{tokenAt}
-use Rattle.cbor.proofs.ItemLaws.{refused-numbers}
 use Rattle.cbor.proofs.Tokens.{token-end, token-has}
 use Rattle.options.specs.declared.Span.{Span}
 use Rattle.options.specs.declared.objective.Objective.{Objective}
@@ -39,13 +36,12 @@ use Rattle.message.specs.declared.sequence.LocatorsRead.{LocatorsRead}
 use Rattle.message.specs.declared.sequence.PairsRead.{PairsRead}
 use Rattle.message.specs.declared.shape.Shape.{Shape}
 use Rattle.message.specs.declared.Examined.{Examined}
-use Rattle.message.specs.declared.Reading.{Reading}
 use Rattle.message.specs.Opening.{mostNumber, objectiveLevels, isInitiator, openingAt}
 use Rattle.message.specs.Shape.{noopAt, discovered, discoveryAt, exchangeOf, exchanged, exchangeAt, waitAt, invalidAt, optionAt, endAt}
 use Rattle.message.specs.Response.{restOf, restAt, divertOf, divertAt, locatedOf, locatedAt, targetsAt, responseBy, responseAt}
 use Rattle.message.specs.Flood.{floodedBy, floodedOf, floodedAt, floodBy, floodAt}
 use Rattle.message.proofs.Fits.{LocatorsRan, locators-ran, PairsRan, pairs-ran}
-use Rattle.message.specs.Read.{mostBytes, byKind, judgedShape, examined, framed, readPlaced, placeless, readOf}
+use Rattle.message.specs.Examined.{byKind, judgedShape, examined}
 
 -- a session of 32 bits, and an initiator of 4 or 16 bytes in the message
 pub record Opened (s : List ℕ) (number : ℕ) (i : Span) : Type 0 where
@@ -241,43 +237,20 @@ module _ (s : List ℕ) where
         P = ShapeParts
 
   -- ---- the answer
-  abbrev ExaminedParts : Examined → Type 0
+  abbrev pub ExaminedParts : Examined → Type 0
   ExaminedParts (Examined.Refused number place) = number ≤ 11
-  ExaminedParts (Examined.Accepted m end) = (length s ≤ mostBytes) × MessageParts s m
+  ExaminedParts (Examined.Accepted m end) = MessageParts s m
 
-  abbrev ReadingParts : Reading → Type 0
-  ReadingParts (Reading.Refused number) = number ≤ 11
-  ReadingParts (Reading.Read m) = (length s ≤ mostBytes) × MessageParts s m
+  judged-parts : (kind : ℕ) (x : Shape) → ShapeParts kind x → ExaminedParts (judgedShape x)
+  unfolding judgedShape
+  judged-parts kind (Shape.Bad place) h = lit≤ tt
+  judged-parts kind (Shape.Good m end bad long) h = both ExaminedParts _ (both ExaminedParts _ (h .1) (lit≤ tt)) (lit≤ tt)
 
-  module _ (few : length s ≤ mostBytes) where
-    judged-parts : (kind : ℕ) (x : Shape) → ShapeParts kind x → ExaminedParts (judgedShape x)
-    unfolding judgedShape
-    judged-parts kind (Shape.Bad place) h = lit≤ tt
-    judged-parts kind (Shape.Good m end bad long) h = both ExaminedParts _ (both ExaminedParts _ (few, h .1) (lit≤ tt)) (lit≤ tt)
-
-    framed-parts : (x : ItemRead) → firstItem 0 s ≡ x → ExaminedParts (framed s x)
-    unfolding framed examined
-    framed-parts (ItemRead.Refused number place) e = omega (arith, refused-numbers 0 s number place e .1)
-    framed-parts (ItemRead.Ends end) e =
-        let read = judged-parts _ _ (kind-parts (tokenAt s (tokenAt s 0 .next) .arg) _ _) in
-        both P _ (both P _ (lit≤ tt) (both P _ (both P _ (both P _ read (lit≤ tt)) read) (lit≤ tt))) (lit≤ tt)
-      where
-        P : Examined → Type 0
-        P = ExaminedParts
-
-  reading-parts : ReadingParts (readOf s)
-  unfolding readOf readPlaced placeless
-  reading-parts =
-      by (readPlaced s)
-      (both ExaminedParts _ (lit≤ tt) (pick-case ExaminedParts _ (λ _. lit≤ tt) (λ e. framed-parts (ltb-false mostBytes (length s) e) (firstItem 0 s) refl)))
+  pub examined-parts : ExaminedParts (examined s)
+  unfolding examined
+  examined-parts =
+      let read = judged-parts _ _ (kind-parts (tokenAt s (tokenAt s 0 .next) .arg) _ _) in
+      both P _ (lit≤ tt) (both P _ (both P _ (both P _ read (lit≤ tt)) read) (lit≤ tt))
     where
-      by : (x : Examined) → ExaminedParts x → ReadingParts (placeless x)
-      by (Examined.Refused number place) h = h
-      by (Examined.Accepted m end) h = h
-
-pub read-parts : (s : List ℕ) (m : Message) → readOf s ≡ Reading.Read m → (length s ≤ mostBytes) × MessageParts s m
-read-parts s m e = subst (ReadingParts s) e (reading-parts s)
-
--- No reading is refused with a number over 11.
-pub read-number : (s : List ℕ) {number : ℕ} → readOf s ≡ Reading.Refused number → number ≤ 11
-read-number s e = subst (ReadingParts s) e (reading-parts s)
+      P : Examined → Type 0
+      P = ExaminedParts

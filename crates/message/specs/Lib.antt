@@ -1,7 +1,9 @@
--- What reading answers: `Opening`, `Sequence`, `Response`, `Flood`, `Shape` for the kinds' shapes, `Read` for the whole.
+-- What is read of a message's parts: `Opening`, `Sequence`, `Response`, `Flood`, `Shape` for the kinds' shapes, `Examined` for the whole. `Fields`: what a
+-- message holds.
 pub mod Opening
 pub mod Sequence
 pub mod Shape
 pub mod Response
 pub mod Flood
-pub mod Read
+pub mod Examined
+pub mod Fields

@@ -1,6 +1,6 @@
 // GRASP messages (RFC 8990): the eleven kinds and their shapes. What a message holds is told by numbers and by places in its bytes.
 ghost use mathlib.Core.Path.{_≡_};
-ghost use Rattle.message.specs.Read.{judgedShape, examined};
+ghost use Rattle.message.specs.Examined.{judgedShape, examined};
 use cbor::token;
 use options::Outcome;
 use options::Span;
@@ -8,6 +8,7 @@ use options::objective::Objective;
 use options::pair::Pair;
 use shape::Shape;
 
+pub mod fields;
 mod flood;
 mod opening;
 mod response;
@@ -85,12 +86,6 @@ pub enum Message {
         session: u32,
         item: Span,
     },
-}
-
-// A message, or the number of the refusal.
-pub enum Reading {
-    Refused(u8),
-    Read(Message),
 }
 
 // A message, with the place where its parts end, or the refusal with its place.

@@ -1,7 +1,7 @@
 // The shapes of the kinds (RFC 8990, section 2.8), each judged by its number of items, then by its items from left to right.
 ghost use mathlib.Core.Path.{_≡_};
 ghost use Rattle.message.specs.Shape.{noopAt, discoveryAt, exchangeOf, exchangeAt, waitAt, invalidAt, optionAt, endAt};
-ghost use Rattle.message.specs.Read.{byKind};
+ghost use Rattle.message.specs.Examined.{byKind};
 use crate::Message;
 use crate::flood;
 use crate::opening;

@@ -1,12 +1,11 @@
 // Runs the stored cases over `reader::read`, a line for each: what the program `read_message` prints, and all that was read. A case is the
 // message's length in two bytes and the message.
-use contents::fields;
-use contents::fields::Session;
 use message::Extra;
 use message::Message;
-use message::Reading;
 use message::Series;
 use message::Targets;
+use message::fields;
+use message::fields::Session;
 use options::Outcome;
 use options::Span;
 use options::locator::Locator;
@@ -14,6 +13,7 @@ use options::locator::LocatorRead;
 use options::objective::Objective;
 use options::pair::PairRead;
 use options::pair::Tag;
+use reader::Reading;
 
 const MOST_CASES: usize = 1_000_000;
 

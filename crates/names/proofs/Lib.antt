@@ -1,2 +1,2 @@
--- `Walks`: the loops over own names and over bytes.
+-- `Walks`: the loops over own names.
 pub mod Walks

@@ -1,18 +1,19 @@
 -- A node's own names (the rules, refusal 16): one CBOR array that passes refusals 1 to 7, with 0 to 16 items, each a UTF-8 text of at most 64 bytes.
 use Prim.Native.Nat.{ℕ, zero, suc}
 use mathlib.Core.Bool.{Bool, true, false, not, _&&_, _||_}
-use mathlib.Core.List.{List, [], _∷_}
+use mathlib.Core.List.{List}
 use lib.ListN.{length}
 use lib.Dec.{ltb, leb, eqb}
 use Rattle.base.specs.Pick.{pick}
+use Rattle.base.specs.Bytes.{sameBytes}
 use Rattle.cbor.specs.declared.item.ItemRead.{ItemRead}
 use Rattle.cbor.specs.declared.token.Token.{Token}
 use Rattle.cbor.specs.Item.{firstItem, framedBy}
 use Rattle.cbor.specs.Token.{tokenAt}
 use Rattle.utf8.specs.Utf8.{isUtf8}
 use Rattle.options.specs.Text.{contentIn}
-use Rattle.options.specs.Objective.{mostName}
-use Rattle.message.specs.Read.{mostBytes}
+use Rattle.rfc8990.specs.Limits.{mostName}
+use Rattle.rfc8990.specs.Limits.{mostBytes}
 
 -- house limit: how many own names a node has at most
 abbrev pub mostNames : ℕ
@@ -40,13 +41,6 @@ framedBad s r = framedBy (λ number place. true) (arrayBad s) (length s) r
 -- refusal 16 is due
 unfoldable pub namesBad : List ℕ → Bool
 namesBad s = pick (eqb (length s) 0) true (pick (ltb mostBytes (length s)) true (framedBad s (firstItem 0 s)))
-
--- two lists of bytes are the same
-unfoldable pub sameBytes : List ℕ → List ℕ → Bool
-sameBytes [] [] = true
-sameBytes [] (y ∷ ys) = false
-sameBytes (x ∷ xs) [] = false
-sameBytes (x ∷ xs) (y ∷ ys) = eqb x y && sameBytes xs ys
 
 -- one of n names from `at` on is `name`
 unfoldable pub namedFrom : List ℕ → List ℕ → ℕ → ℕ → Bool

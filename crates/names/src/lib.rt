@@ -2,7 +2,8 @@
 ghost use mathlib.Core.Path.{_≡_};
 ghost use Prim.Native.Nat.{_≤_};
 ghost use lib.ListN.{length};
-ghost use Rattle.names.specs.Names.{goodName, namesBad, arrayBad, sameBytes, isNamed};
+ghost use Rattle.names.specs.Names.{goodName, namesBad, arrayBad, isNamed};
+use base::bytes;
 use cbor::item;
 use cbor::item::ItemRead;
 use cbor::token;
@@ -89,28 +90,11 @@ pub fn is_named(s: &[u8], name: &[u8]) -> bool
         let t = token::token_at(s, at);
         let from = t.body;
         let to = t.next;
-        if are_same(&s[from..to], name) {
+        if bytes::are_same(&s[from..to], name) {
             return true;
         }
         at = to;
         left -= 1;
     }
     false
-}
-
-// Whether two slices have the same bytes.
-pub fn are_same(a: &[u8], b: &[u8]) -> bool
-    ensures { λ r. ⌜ r ≡ sameBytes (now (a .entry)) (now (b .entry)) ⌝ }
-{
-    if a.len() != b.len() {
-        return false;
-    }
-    let mut i = 0;
-    while i < a.len() {
-        if a[i] != b[i] {
-            return false;
-        }
-        i += 1;
-    }
-    true
 }

@@ -7,12 +7,13 @@ use Prim.Native.Nat.{ℕ, _≤_}
 use native.Mathlib.Omega.{arith}
 use Rattle.base.specs.Lists.{Every}
 use Rattle.message.specs.declared.Message.{Message}
-use Rattle.message.specs.declared.Reading.{Reading}
-use Rattle.message.specs.Read.{readOf}
+use Rattle.reader.specs.declared.Reading.{Reading}
+use Rattle.reader.specs.Read.{readOf}
 use Rattle.message.specs.Opening.{mostNumber}
-use Rattle.message.proofs.Parts.{SmallCount, read-number}
-use Rattle.contents.specs.declared.fields.Session.{Session}
-use Rattle.contents.specs.Fields.{sessionOf}
+use Rattle.message.proofs.Parts.{SmallCount}
+use Rattle.reader.proofs.ReadParts.{read-number}
+use Rattle.message.specs.declared.fields.Session.{Session}
+use Rattle.message.specs.Fields.{sessionOf}
 use Rattle.negotiation.specs.declared.Side.{Side}
 use Rattle.negotiation.specs.declared.State.{State}
 use Rattle.negotiation.specs.declared.State.the-variants.{Closed}

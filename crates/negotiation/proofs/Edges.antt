@@ -12,7 +12,8 @@ use Rattle.utf8.specs.Utf8.{tailsOf, leastTail, greatestTail, goesOn, isUtf8}
 use Rattle.options.specs.Text.{badText}
 use Rattle.options.specs.Objective.{longName, objectiveFrom, objectiveIn, objectiveNamed}
 use Rattle.message.specs.Shape.{exchangeOf, exchanged, exchangeAt, waitAt, optionAt, endAt}
-use Rattle.message.specs.Read.{byKind, judgedShape, examined, framed, readPlaced, placeless, readOf}
+use Rattle.message.specs.Examined.{byKind, judgedShape, examined}
+use Rattle.reader.specs.Read.{framed, readPlaced, placeless, readOf}
 use Rattle.negotiation.specs.declared.Side.the-variants.{Us, Them}
 use Rattle.negotiation.specs.declared.State.the-variants.{Fresh, Open, Closed}
 use Rattle.negotiation.specs.declared.Stepped.{Stepped}

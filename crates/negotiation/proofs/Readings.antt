@@ -5,12 +5,13 @@ use mathlib.Core.List.{List}
 use Prim.Native.Nat.{ℕ, _≤_}
 use Rattle.message.specs.declared.Message.{Message}
 use Rattle.message.specs.declared.Message.the-variants as M
-use Rattle.message.specs.declared.Reading.{Reading}
+use Rattle.reader.specs.declared.Reading.{Reading}
 use Rattle.message.specs.Opening.{mostNumber}
-use Rattle.message.specs.Read.{readOf}
-use Rattle.message.proofs.Parts.{SmallCount, MessageParts, read-parts}
-use Rattle.contents.specs.declared.fields.Session.{Session}
-use Rattle.contents.specs.Fields.{sessionOf, objectiveOf}
+use Rattle.reader.specs.Read.{readOf}
+use Rattle.message.proofs.Parts.{SmallCount, MessageParts}
+use Rattle.reader.proofs.ReadParts.{read-parts}
+use Rattle.message.specs.declared.fields.Session.{Session}
+use Rattle.message.specs.Fields.{sessionOf, objectiveOf}
 
 abbrev pub SmallSession : Session → Type 0
 SmallSession Session.Without = Unit {0}

@@ -11,9 +11,9 @@ use Rattle.base.specs.Pick.{pick}
 use Rattle.base.specs.Lists.{Every}
 use Rattle.message.specs.declared.Message.{Message}
 use Rattle.message.specs.declared.Message.the-variants as M
-use Rattle.message.specs.declared.Reading.{Reading}
-use Rattle.message.specs.Read.{readOf}
-use Rattle.contents.specs.Fields.{kindOf, objectiveOf, countIn}
+use Rattle.reader.specs.declared.Reading.{Reading}
+use Rattle.reader.specs.Read.{readOf}
+use Rattle.message.specs.Fields.{kindOf, objectiveOf, countIn}
 use Rattle.negotiation.specs.declared.Side.{Side}
 use Rattle.negotiation.specs.declared.State.{State}
 use Rattle.negotiation.specs.declared.State.the-variants.{Fresh, Open, Closed}

@@ -12,8 +12,8 @@ use Rattle.options.specs.declared.objective.Objective.{Objective}
 use Rattle.message.specs.declared.Message.{Message}
 use Rattle.message.specs.declared.Message.the-variants as M
 use Rattle.message.specs.declared.Extra.{Extra}
-use Rattle.contents.specs.declared.fields.Session.{Session}
-use Rattle.contents.specs.Fields.{kindOf, sessionOf, objectiveOf}
+use Rattle.message.specs.declared.fields.Session.{Session}
+use Rattle.message.specs.Fields.{kindOf, sessionOf, objectiveOf}
 use Rattle.negotiation.specs.declared.Side.{Side}
 use Rattle.negotiation.specs.declared.Side.the-variants.{Us, Them}
 use Rattle.negotiation.specs.declared.State.{State}

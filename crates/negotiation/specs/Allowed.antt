@@ -4,8 +4,8 @@ use Prim.Native.Nat.{ℕ, _+_, _≤_}
 use Rattle.options.specs.declared.objective.Objective.{Objective}
 use Rattle.message.specs.declared.Message.{Message}
 use Rattle.message.specs.declared.Extra.{Extra}
-use Rattle.contents.specs.declared.fields.Session.{Session}
-use Rattle.contents.specs.Fields.{kindOf, sessionOf, objectiveOf}
+use Rattle.message.specs.declared.fields.Session.{Session}
+use Rattle.message.specs.Fields.{kindOf, sessionOf, objectiveOf}
 use Rattle.negotiation.specs.declared.Side.{Side}
 use Rattle.negotiation.specs.declared.State.{State}
 use Rattle.negotiation.specs.declared.State.the-variants.{Fresh, Open, Closed}

@@ -6,8 +6,8 @@ use lib.Dec.{eqb}
 use Rattle.base.specs.Pick.{pick, unless}
 use Rattle.message.specs.declared.Message.{Message}
 use Rattle.message.specs.declared.Message.the-variants as M
-use Rattle.message.specs.declared.Reading.{Reading}
-use Rattle.message.specs.Read.{readOf}
+use Rattle.reader.specs.declared.Reading.{Reading}
+use Rattle.reader.specs.Read.{readOf}
 use Rattle.negotiation.specs.declared.Side.{Side}
 use Rattle.negotiation.specs.declared.Side.the-variants.{Us, Them}
 use Rattle.negotiation.specs.declared.State.{State}

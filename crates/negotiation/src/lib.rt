@@ -2,7 +2,7 @@
 ghost use mathlib.Core.Path.{_≡_};
 ghost use Rattle.negotiation.specs.Step.{moveOf, otherSide, sameSide, freshStep, lowerStep, turnStep, stateStep, step};
 use message::Message;
-use message::Reading;
+use reader::Reading;
 
 // The two sides of a session.
 pub enum Side {

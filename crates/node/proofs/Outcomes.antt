@@ -16,9 +16,11 @@ use Rattle.base.specs.Bits.{hasBit}
 use Rattle.base.proofs.Picks.{pick-case}
 use Rattle.base.proofs.Bools.{or-left, or-right}
 use Rattle.message.specs.declared.Message.{Message}
-use Rattle.message.specs.declared.Reading.{Reading}
-use Rattle.message.specs.Read.{mostBytes, readOf}
-use Rattle.names.specs.Names.{sameBytes, isNamed}
+use Rattle.reader.specs.declared.Reading.{Reading}
+use Rattle.rfc8990.specs.Limits.{mostBytes}
+use Rattle.reader.specs.Read.{readOf}
+use Rattle.base.specs.Bytes.{sameBytes}
+use Rattle.names.specs.Names.{isNamed}
 use Rattle.writer.specs.declared.Written.{Written}
 use Rattle.node_state.specs.declared.Record.{Record}
 use Rattle.node.specs.declared.Called.{Called}
@@ -31,11 +33,11 @@ use Rattle.node_state.specs.Record.{recordBad, arrivalBad, others, clocked, tal
 use Rattle.node_state.specs.Table.{whereSized, freed, lowestFree, filled, isKnown}
 use Rattle.node.specs.Role.{roleOf, keyIn}
 use Rattle.cbor.specs.Put.{written}
-use Rattle.roundtrip.specs.Lower.{onward}
+use Rattle.writer.specs.Lower.{onward}
 use Rattle.node.specs.Call.{Call, callOf, After, afterOf, barred, bar, replies, refuse, quiet, response, laterVerdict, verdictOn, answered, relayed, carriedOut, taken, received, nodeCall}
 use Rattle.node.specs.Passed.{Passed, Ready}
 use Rattle.node_state.proofs.Masks.{record-links, record-tally}
-use Rattle.node_state.proofs.Rows.{of-sized, of-other, length-free, table-sized}
+use Rattle.node_state.proofs.TableRows.{of-sized, of-other, length-free, table-sized}
 
 -- ---- what was written
 

@@ -11,11 +11,11 @@ use borrow.Author.Tests.{le-ltb}
 use Rattle.options.specs.Text.{held}
 use Rattle.base.specs.Pick.{pick}
 use Rattle.options.specs.declared.Span.{Span}
-use Rattle.message.specs.Read.{mostBytes}
+use Rattle.rfc8990.specs.Limits.{mostBytes}
 use Rattle.writer.specs.declared.Written.{Written}
 use Rattle.writer.specs.Write.{handAnswer, handOut, passes, passAnswer, passOut, lowerAnswer, lowerOut, answerOf, answerAnswer, answerOut}
 use Rattle.writer.proofs.Lengths.{initiator-sized, sized-few, answer-few}
-use Rattle.roundtrip.proofs.Relay.{lowered-shorter, lowered-given}
+use Rattle.writer.proofs.Onward.{lowered-shorter, lowered-given}
 use Rattle.node_state.specs.declared.Record.{Record}
 use Rattle.node.specs.declared.role.Spread.{Spread}
 use Rattle.node.specs.declared.role.Role.{Role}
@@ -24,7 +24,7 @@ use Rattle.node_state.specs.Key.{keyFor}
 use Rattle.node_state.proofs.Keys.{key-sized}
 use Rattle.node.specs.Role.{RoleIn, Within, keyIn}
 use Rattle.cbor.specs.Put.{written}
-use Rattle.roundtrip.specs.Lower.{onward}
+use Rattle.writer.specs.Lower.{onward}
 use Rattle.node.specs.Call.{response}
 use Rattle.node.proofs.Spreads.{role-spreading, read-most}
 

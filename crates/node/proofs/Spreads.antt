@@ -13,9 +13,10 @@ use Rattle.options.proofs.Fits.{ObjectiveParts}
 use Rattle.message.specs.declared.Message.{Message}
 use Rattle.message.specs.declared.Message.the-variants as M
 use Rattle.message.specs.declared.Series.{Series}
-use Rattle.message.specs.Read.{mostBytes}
-use Rattle.message.proofs.Parts.{Opened, MessageParts, read-parts}
-use Rattle.roundtrip.specs.Lower.{Lowers}
+use Rattle.rfc8990.specs.Limits.{mostBytes}
+use Rattle.message.proofs.Parts.{Opened, MessageParts}
+use Rattle.reader.proofs.ReadParts.{read-parts}
+use Rattle.writer.specs.Lower.{Lowers}
 use Rattle.node.specs.declared.role.Spread.{Spread}
 use Rattle.node.specs.declared.role.Role.{Role}
 use Rattle.node.specs.Role.{spreadOf, roleOf, RoleIn, Within}

@@ -7,12 +7,14 @@ use lib.Count.{ones}
 use lib.Dec.{ltb, leb, eqb}
 use Rattle.options.specs.Text.{held}
 use Rattle.base.specs.Pick.{pick}
-use Rattle.message.specs.declared.Reading.{Reading}
-use Rattle.message.specs.Read.{mostBytes, readOf}
+use Rattle.reader.specs.declared.Reading.{Reading}
+use Rattle.rfc8990.specs.Limits.{mostBytes}
+use Rattle.reader.specs.Read.{readOf}
 use Rattle.cbor.specs.Put.{written}
 use Rattle.writer.specs.Write.{answerOf}
-use Rattle.roundtrip.specs.Lower.{onward}
-use Rattle.names.specs.Names.{namesBad, sameBytes, isNamed}
+use Rattle.writer.specs.Lower.{onward}
+use Rattle.names.specs.Names.{namesBad, isNamed}
+use Rattle.base.specs.Bytes.{sameBytes}
 use Rattle.node_state.specs.declared.Record.{Record}
 use Rattle.node.specs.declared.Verdict.{Verdict}
 use Rattle.node.specs.declared.Verdict.the-variants.{Own, Answer, Duplicate, Last, Nowhere, NoRow, Relay, Noop, Hand}

@@ -5,7 +5,7 @@ use mathlib.Core.List.{List}
 use mathlib.Core.Path.{_≡_}
 use lib.ListN.{length}
 use Rattle.base.specs.Bits.{hasBit}
-use Rattle.message.specs.Read.{mostBytes}
+use Rattle.rfc8990.specs.Limits.{mostBytes}
 use Rattle.node_state.specs.declared.Record.{Record}
 use Rattle.node_state.specs.Record.{mostTally, recordBad, arrivalBad}
 use Rattle.node_state.specs.Table.{tableNumbers, tableBad}

@@ -3,23 +3,22 @@ ghost use mathlib.Core.Path.{_≡_};
 ghost use Prim.Native.Nat.{_<_};
 ghost use lib.ListN.{length};
 ghost use mathlib.Core.Bool.{true, false};
-ghost use Rattle.node.specs.Call.{callOf, afterOf, replies, barred, nodeCall, taken};
+ghost use Rattle.node.specs.Call.{callOf, afterOf, barred, nodeCall, taken};
 ghost use Rattle.node.specs.Passed.{Passed};
 ghost use Rattle.node_state.specs.Record.{recordBad, arrivalBad, clocked};
-ghost use Rattle.node.specs.declared.Reply.the-variants.{Given};
 ghost use Rattle.node_state.specs.Table.{freed};
 ghost use Rattle.node.specs.Role.{RoleIn};
 use crate::Called;
 use crate::Reply;
 use crate::Verdict;
-use crate::links;
+use crate::mask;
 use crate::role;
 use crate::role::Role;
 use crate::spread;
 use message::MOST_BYTES;
-use message::Reading;
 use node_state::Record;
 use node_state::table;
+use reader::Reading;
 
 // What a node does with a message that arrives on an interface: 12 to 17 in their order, then the message's own refusal, then the first verdict that
 // applies. A refusal leaves record, table and output as they were.
@@ -100,7 +99,7 @@ fn is_bad_arrival(node: Record, interface: u64) -> bool
     if node.interfaces as u64 <= interface {
         return true;
     }
-    !links::is_up(node.links, interface as u8)
+    !mask::is_up(node.links, interface as u8)
 }
 
 // The verdict on a message that was read, after every dead row is freed and the clock taken.
@@ -122,23 +121,8 @@ fn take(
     let mut node = node;
     node.clock = clock;
     match role {
-        Role::Noop => quiet(node, Verdict::Noop, false),
-        Role::Upward => quiet(node, Verdict::Hand, true),
+        Role::Noop => crate::quiet(node, Verdict::Noop, false),
+        Role::Upward => crate::quiet(node, Verdict::Hand, true),
         Role::Spreads(s) => spread::judge(node, table, interface, names, message, s, out),
-    }
-}
-
-// A verdict that sends nothing.
-pub(crate) fn quiet(node: Record, verdict: Verdict, handed_up: bool) -> Called
-    ensures { λ r. ⌜ r ≡ replies (Given verdict «handed_up» 0 0) node ⌝ }
-{
-    Called {
-        reply: Reply::Given {
-            verdict,
-            handed_up,
-            mask: 0,
-            length: 0,
-        },
-        node,
     }
 }

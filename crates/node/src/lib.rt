@@ -1,8 +1,11 @@
 // The node (the rules, "Verdicts"): the verdict on each message, and what it does to record and table.
+ghost use mathlib.Core.Path.{_≡_};
+ghost use Rattle.node.specs.declared.Reply.the-variants.{Given};
+ghost use Rattle.node.specs.Call.{replies};
 use node_state::Record;
 
 pub mod call;
-mod links;
+mod mask;
 mod role;
 mod spread;
 
@@ -35,4 +38,19 @@ pub enum Reply {
 pub struct Called {
     pub reply: Reply,
     pub node: Record,
+}
+
+// A verdict that sends nothing.
+pub(crate) fn quiet(node: Record, verdict: Verdict, handed_up: bool) -> Called
+    ensures { λ r. ⌜ r ≡ replies (Given verdict «handed_up» 0 0) node ⌝ }
+{
+    Called {
+        reply: Reply::Given {
+            verdict,
+            handed_up,
+            mask: 0,
+            length: 0,
+        },
+        node,
+    }
 }

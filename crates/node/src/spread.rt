@@ -7,8 +7,9 @@ ghost use lib.Count.{ones};
 ghost use mathlib.Core.Bool.{not, _&&_, false};
 ghost use Prim.Native.Nat.{_^_};
 ghost use Rattle.options.specs.Text.{held};
-ghost use Rattle.message.specs.Read.{mostBytes};
-ghost use Rattle.names.specs.Names.{sameBytes, isNamed};
+ghost use Rattle.rfc8990.specs.Limits.{mostBytes};
+ghost use Rattle.base.specs.Bytes.{sameBytes};
+ghost use Rattle.names.specs.Names.{isNamed};
 ghost use Rattle.node.specs.declared.Reply.the-variants.{Given};
 ghost use Rattle.node.specs.declared.Verdict.the-variants.{Answer, Relay};
 ghost use Rattle.node.specs.declared.role.Role.the-variants.{Spreads};
@@ -17,13 +18,13 @@ ghost use Rattle.node.specs.Role.{RoleIn, Within, keyIn};
 ghost use Rattle.node.specs.Call.{callOf, afterOf, replies, laterVerdict, verdictOn, carriedOut, response};
 ghost use Rattle.node.specs.Passed.{Ready};
 ghost use Rattle.cbor.specs.Put.{written};
-ghost use Rattle.roundtrip.specs.Lower.{onward};
+ghost use Rattle.writer.specs.Lower.{onward};
 use crate::Called;
 use crate::Reply;
 use crate::Verdict;
-use crate::call;
-use crate::links;
+use crate::mask;
 use crate::role::Spread;
+use base::bytes;
 use node_state::Record;
 use node_state::key;
 use node_state::key::Key;
@@ -45,14 +46,14 @@ pub(crate) fn judge(
     ensures { λ r. ⌜ afterOf r (now (table .exit)) (now (out .exit)) ≡ carriedOut node (now (table .entry)) (callOf (node .clock) interface (now (names .entry)) (now (message .entry)) (now (out .entry))) s (verdictOn node (now (table .entry)) (callOf (node .clock) interface (now (names .entry)) (now (message .entry)) (now (out .entry))) s) ⌝ }
 {
     if is_own(node, message, s) {
-        return call::quiet(node, Verdict::Own, false);
+        return crate::quiet(node, Verdict::Own, false);
     }
     if is_named(names, message, s) {
         return answer(node, interface, message, s, out);
     }
     let key = key_in(message, s);
     if table::knows(table, key) {
-        return call::quiet(node, Verdict::Duplicate, false);
+        return crate::quiet(node, Verdict::Duplicate, false);
     }
     relay_or_end(node, table, interface, message, s, key, out)
 }
@@ -65,7 +66,7 @@ fn is_own(node: Record, message: &[u8], s: Spread) -> bool
     let at = s.initiator.at;
     let to = at + s.initiator.len;
     let address = node.address;
-    names::are_same(&message[at..to], &address)
+    bytes::are_same(&message[at..to], &address)
 }
 
 // A Discovery asks for one of the node's own names.
@@ -111,7 +112,7 @@ fn put_response(node: Record, message: &[u8], s: Spread, out: &mut [u8]) -> usiz
     let at = s.initiator.at;
     let to = at + s.initiator.len;
     let address = node.address;
-    let sent = writer::answer(
+    let sent = writer::answer::answer(
         s.session,
         &message[at..to],
         node.ttl,
@@ -151,15 +152,15 @@ fn relay_or_end(
     ensures { λ r. ⌜ afterOf r (now (table .exit)) (now (out .exit)) ≡ carriedOut node (now (table .entry)) (callOf (node .clock) interface [] (now (message .entry)) (now (out .entry))) s (laterVerdict node (now (table .entry)) (callOf (node .clock) interface [] (now (message .entry)) (now (out .entry))) s) ⌝ }
 {
     if s.objective.count <= 1 {
-        return call::quiet(node, Verdict::Last, s.flood);
+        return crate::quiet(node, Verdict::Last, s.flood);
     }
-    let mask = links::others(node.links, interface);
+    let mask = mask::others(node.links, interface);
     if mask == 0 {
-        return call::quiet(node, Verdict::Nowhere, s.flood);
+        return crate::quiet(node, Verdict::Nowhere, s.flood);
     }
     let row = table::fill_lowest(table, key, node.clock);
     if Record::ROWS <= row {
-        return call::quiet(node, Verdict::NoRow, s.flood);
+        return crate::quiet(node, Verdict::NoRow, s.flood);
     }
     let length = put_onward(message, s, out);
     relayed(node, s.flood, mask, length)
@@ -174,7 +175,7 @@ fn put_onward(message: &[u8], s: Spread, out: &mut [u8]) -> usize
     ensures { λ r. ⌜ now (out .exit) ≡ written (onward (now (message .entry)) (s .objective)) (now (out .entry)) ⌝ }
 {
     let o = s.objective;
-    let sent = writer::lower(message, o.count_at, o.value.at, o.count, out);
+    let sent = writer::relay::lower(message, o.count_at, o.value.at, o.count, out);
     match sent {
         Written::Length(length) => length,
         Written::Refused(_) => 0,

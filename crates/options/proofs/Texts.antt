@@ -10,7 +10,8 @@ use Rattle.base.proofs.Picks.{pick-case, one-test}
 use Rattle.cbor.specs.declared.token.Token.{Token}
 use Rattle.utf8.specs.Utf8.{isUtf8}
 use Rattle.options.specs.Text.{badText, firstOf}
-use Rattle.options.specs.Objective.{mostName, longName}
+use Rattle.rfc8990.specs.Limits.{mostName}
+use Rattle.options.specs.Objective.{longName}
 
 -- two have no first place only where neither has one
 pub none-first : (a b : ℕ) → firstOf a b ≡ 0 → (a ≡ 0) × (b ≡ 0)

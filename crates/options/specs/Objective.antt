@@ -6,14 +6,11 @@ use lib.Dec.{ltb, eqb}
 use Rattle.base.specs.Pick.{pick, unless}
 use Rattle.cbor.specs.declared.token.Token.{Token}
 use Rattle.cbor.specs.Token.{tokenAt, sizeAt, itemsIn, upTo}
+use Rattle.rfc8990.specs.Limits.{mostName}
 use Rattle.options.specs.declared.objective.Objective.{Objective}
 use Rattle.options.specs.declared.objective.ObjectiveRead.{ObjectiveRead}
 use Rattle.options.specs.declared.objective.ObjectiveRead.the-variants as OR
 use Rattle.options.specs.Text.{spanOf, contentIn, badText}
-
--- house limit: how many bytes an objective's name has at most
-abbrev pub mostName : ℕ
-mostName = 64
 
 -- `place` where a name is longer than that, else 0
 unfoldable pub longName : Token → ℕ → ℕ

@@ -1,11 +1,13 @@
 // Reads a message's raw bytes from standard input and prints one line: `kind 0` or `refused 7`.
-use contents::line::Line;
+use text::line::Line;
+
+mod line;
 
 fn main() {
     // One byte more than a message has at most, so that a longer input is seen to be longer.
     let mut input = [0u8; 2_049];
     let n = io::read_full(0, &mut input);
-    print(contents::line::line_of(&input[..n]));
+    print(line::line_of(&input[..n]));
 }
 
 fn print(line: Line) {

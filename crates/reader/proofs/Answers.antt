@@ -17,13 +17,15 @@ use Rattle.cbor.specs.Head.{headAt}
 use Rattle.cbor.specs.Token.{nothingAt, tokenFrom, tokenAt, itemsIn}
 use Rattle.cbor.specs.Item.{firstItem}
 use Rattle.message.specs.declared.Message.{Message}
-use Rattle.message.specs.declared.Reading.{Reading}
+use Rattle.reader.specs.declared.Reading.{Reading}
 use Rattle.message.specs.declared.Examined.{Examined}
 use Rattle.message.specs.declared.Examined.the-variants as E
-use Rattle.message.specs.Read.{mostBytes, examined, framed, readPlaced, placeless, readOf}
-use Rattle.exact.specs.Rows.{Fits}
-use Rattle.exact.proofs.Walked.{parts-walked}
-use Rattle.exact.proofs.Refused.{placed-fit}
+use Rattle.rfc8990.specs.Limits.{mostBytes}
+use Rattle.message.specs.Examined.{examined}
+use Rattle.reader.specs.Read.{framed, readPlaced, placeless, readOf}
+use Rattle.rfc8990.specs.Refusals.{Fits}
+use Rattle.message_laws.proofs.Walked.{parts-walked}
+use Rattle.reader.proofs.Refused.{placed-fit}
 use Rattle.reader.specs.Walk.{walkedBy, walkedFirst}
 
 -- no bytes are no message

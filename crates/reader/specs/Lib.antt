@@ -1,2 +1,3 @@
--- `Walk`: the walk's own refusals, before the shape's. What `read` answers stands in `message`, in `Read`.
+-- `Read`: what `read` answers. `Walk`: the walk's own refusals, before the shape's.
+pub mod Read
 pub mod Walk

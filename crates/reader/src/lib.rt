@@ -1,12 +1,18 @@
 // Reading GRASP messages (RFC 8990): the message that bytes are, or the number of the refusal.
 ghost use mathlib.Core.Path.{_≡_};
-ghost use Rattle.message.specs.Read.{readOf};
+ghost use Rattle.reader.specs.Read.{readOf};
 ghost use Rattle.reader.specs.Walk.{walkedFirst};
 use cbor::item;
 use cbor::item::ItemRead;
 use message::Examined;
 use message::MOST_BYTES;
-use message::Reading;
+use message::Message;
+
+// A message, or the number of the refusal.
+pub enum Reading {
+    Refused(u8),
+    Read(Message),
+}
 
 // 1; the walk's 2 to 6; 7; then 8, 9, 11 and 10 by the message's parts. Bytes that begin with a message's parts begin with one item where
 // these end: so a message is read once, and the walk is left for what is refused.

@@ -1,10 +1,10 @@
 // Runs the stored cases over the writer, a line for each: the length or the refusal, and the whole output afterwards. A case is an operation and what
 // it takes: 1 writes a description, 2 lowers a count, 3 answers, 4 reads a message and writes it again.
-use blocks::told;
-use blocks::told::Told;
 use description::Description;
+use forms::described;
+use forms::described::Told;
 use message::Message;
-use message::Reading;
+use reader::Reading;
 use writer::Written;
 
 const MOST_CASES: usize = 1_000_000;
@@ -133,7 +133,7 @@ fn lower_in(message: &mut [u8], out: &mut [u8]) {
 }
 
 fn lower(message: &[u8], at: usize, end: usize, count: u8, out: &mut [u8]) {
-    print_written(writer::lower(message, at, end, count, out));
+    print_written(writer::relay::lower(message, at, end, count, out));
     print_bytes(out);
 }
 
@@ -169,7 +169,7 @@ fn answer_in(session: u32, initiator: &mut [u8], out: &mut [u8]) {
 }
 
 fn answer(session: u32, initiator: &[u8], ttl: u32, address: &[u8; 16], port: u16, out: &mut [u8]) {
-    print_written(writer::answer(session, initiator, ttl, address, port, out));
+    print_written(writer::answer::answer(session, initiator, ttl, address, port, out));
     print_bytes(out);
 }
 
@@ -205,11 +205,11 @@ fn rewrite(message: &[u8], list: &mut [u64], out: &mut [u8]) {
 }
 
 fn write_again(message: &[u8], m: Message, list: &mut [u64], out: &mut [u8]) {
-    let many = describe::rows::fill(message, m, list);
+    let many = forms::rows::fill(message, m, list);
     if list.len() < many {
         return;
     }
-    let d = describe::description_of(m);
+    let d = forms::describe::description_of(m);
     print_written(writer::write(message, &list[..many], d, out));
     print_bytes(out);
 }

@@ -12,7 +12,7 @@ use borrow.Author.Tests.{lt-ltb, le-ltb, lt-leb, le-leb, ltb-true, ltb-false}
 use Rattle.base.specs.Pick.{pick}
 use Rattle.base.proofs.Bools.{true-or-false}
 use Rattle.base.proofs.Picks.{both}
-use Rattle.message.specs.Read.{mostBytes}
+use Rattle.rfc8990.specs.Limits.{mostBytes}
 use Rattle.description.specs.declared.Description.{Description}
 use Rattle.writer.specs.declared.Written.{Written}
 use Rattle.encode.specs.Put.{Wrote}

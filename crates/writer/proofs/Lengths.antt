@@ -16,8 +16,8 @@ use Rattle.cbor.specs.Tree.{shortest}
 use Rattle.cbor.proofs.Stores.{length-shortest}
 use Rattle.cbor.specs.Put.{head}
 use Rattle.cbor.proofs.HeadExact.{shortest-case}
-use Rattle.message.specs.Read.{mostBytes}
-use Rattle.description.specs.Encoding.{string, reached, fixed, preamble}
+use Rattle.rfc8990.specs.Limits.{mostBytes}
+use Rattle.rfc8990.specs.Encoding.{string, reached, fixed, preamble}
 use Rattle.writer.specs.Write.{lowered, answerOf, okInitiator}
 use Rattle.writer.proofs.Response.{answer-is}
 

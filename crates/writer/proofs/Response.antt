@@ -4,7 +4,7 @@ use Prim.Native.Nat.{ℕ}
 use mathlib.Core.Path.{_≡_}
 use mathlib.Core.List.{List, _++_, flatMap, append-nil}
 use Rattle.cbor.specs.Put.{head}
-use Rattle.description.specs.Encoding.{string, fixed, preamble, encodeLoc, encodeTargets, targetItems, howMany, maybeObj, encodeMsg}
+use Rattle.rfc8990.specs.Encoding.{string, fixed, preamble, encodeLoc, encodeTargets, targetItems, howMany, maybeObj, encodeMsg}
 use Rattle.writer.specs.Write.{answerOf}
 
 pub answer-is : (session : ℕ) (initiator : List ℕ) (ttl : ℕ) (address : List ℕ) (port : ℕ)

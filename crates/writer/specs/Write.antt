@@ -8,13 +8,14 @@ use lib.ListN.{length, take, drop}
 use lib.Dec.{ltb, eqb}
 use Rattle.base.specs.Pick.{pick}
 use Rattle.cbor.specs.Put.{head, written}
-use Rattle.message.specs.declared.Reading.{Reading}
-use Rattle.message.specs.Read.{mostBytes, readOf}
+use Rattle.reader.specs.declared.Reading.{Reading}
+use Rattle.rfc8990.specs.Limits.{mostBytes}
+use Rattle.reader.specs.Read.{readOf}
 use Rattle.description.specs.declared.Description.{Description}
 use Rattle.writer.specs.declared.Written.{Written}
-use Rattle.syntax.specs.Message.{Loc, Aim, Msg}
-use Rattle.description.specs.Encoding.{encodeMsg}
-use Rattle.description.specs.Describe.{msgOf}
+use Rattle.rfc8990.specs.Message.{Loc, Aim, Msg}
+use Rattle.rfc8990.specs.Encoding.{encodeMsg}
+use Rattle.description.specs.Meaning.{msgOf}
 use Rattle.description.specs.Judge.{okDescribed}
 
 -- bytes handed over: 19 where the output is shorter than they are

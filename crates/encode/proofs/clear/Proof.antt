@@ -5,7 +5,7 @@ use mathlib.Core.Path.{_≡_, refl}
 use native.Mathlib.Omega.{arith}
 use lib.ListN.{length, take, replicate}
 use borrow.Author.Needs.{needs}
-use Rattle.encode.proofs.Copies.{clear-turn, clear-done}
+use Rattle.cbor.proofs.Copies.{clear-turn, clear-done}
 use Rattle.encode.proofs.clear.Statement.{statement}
 use Rattle.encode.proofs.clear.Tie as tie
 

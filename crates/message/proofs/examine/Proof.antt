@@ -1,7 +1,7 @@
 -- `message::examine` meets its contract.
 -- Assumes nothing.
 use mathlib.Core.Logic.{⊎-elim}
-use Rattle.message.specs.Read.{examined}
+use Rattle.message.specs.Examined.{examined}
 use Rattle.base.specs.Pick.{pick}
 use borrow.Author.Tests.{lt-ltb, le-ltb, eq-eqb, ne-eqb}
 use borrow.Author.Needs.{needs}

@@ -1,6 +1,6 @@
 -- `message::judge` meets its contract.
 -- Assumes nothing.
-use Rattle.message.specs.Read.{judgedShape}
+use Rattle.message.specs.Examined.{judgedShape}
 use Rattle.base.specs.Pick.{pick}
 use borrow.Author.Tests.{eq-eqb, ne-eqb}
 use borrow.Author.Needs.{needs}

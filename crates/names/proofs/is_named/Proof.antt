@@ -13,7 +13,7 @@ use Rattle.names.proofs.is_named.Tie as tie
 use Rattle.names.proofs.is_named.Reads as reads
 use Rattle.names.proofs.is_named.Lts as lts
 use Rattle.cbor.proofs.token.token_at.Reads as token-at-reads
-use Rattle.names.proofs.are_same.Reads as are-same-reads
+use Rattle.base.proofs.bytes.are_same.Reads as are-same-reads
 
 abbrev Inv-loop : tie.InvT-loop
 Inv-loop s name at₀ left₀ at left = namedFrom s name left at ≡ namedFrom s name left₀ at₀

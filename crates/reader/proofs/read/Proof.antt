@@ -2,8 +2,8 @@
 -- Assumes nothing.
 use mathlib.Core.Path.{sym}
 use mathlib.Core.Logic.{inl, inr}
-use Rattle.exact.specs.Rows.{Row}
-use Rattle.exact.proofs.Refused.{row-given}
+use Rattle.rfc8990.specs.Refusals.{Row}
+use Rattle.reader.proofs.Refused.{row-given}
 use Rattle.reader.proofs.Answers.{read-whole, read-over, read-refused}
 use borrow.Author.Needs.{needs}
 use Rattle.reader.proofs.read.Statement.{statement}

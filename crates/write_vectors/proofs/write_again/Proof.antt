@@ -8,8 +8,8 @@ use Rattle.write_vectors.proofs.write_again.Statement.{statement}
 use Rattle.write_vectors.proofs.write_again.Tie as tie
 use Rattle.write_vectors.proofs.write_again.Reads as reads
 use Rattle.write_vectors.proofs.write_again.Lts as lts
-use Rattle.describe.proofs.description_of.Reads as description-of-reads
-use Rattle.describe.proofs.rows.fill.Reads as fill-reads
+use Rattle.forms.proofs.describe.description_of.Reads as description-of-reads
+use Rattle.forms.proofs.rows.fill.Reads as fill-reads
 use Rattle.write_vectors.proofs.print_bytes.Reads as print-bytes-reads
 use Rattle.write_vectors.proofs.print_written.Reads as print-written-reads
 use Rattle.writer.proofs.write.Reads as write-reads

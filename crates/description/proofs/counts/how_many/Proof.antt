@@ -1,7 +1,7 @@
 -- `description::counts::how_many` meets its contract.
 -- Assumes nothing.
-use Rattle.description.specs.Encoding.{howMany}
-use Rattle.description.specs.Describe.{extraOf}
+use Rattle.rfc8990.specs.Encoding.{howMany}
+use Rattle.description.specs.Meaning.{extraOf}
 use borrow.Author.Needs.{needs}
 use Rattle.description.proofs.counts.how_many.Statement.{statement}
 use Rattle.description.proofs.counts.how_many.Tie as tie

@@ -1,8 +1,8 @@
 -- `description::counts::target_items` meets its contract.
 -- Assumes nothing.
 use mathlib.Core.Path.{refl, sym}
-use Rattle.description.specs.Encoding.{targetItems}
-use Rattle.description.specs.Describe.{targetsOf}
+use Rattle.rfc8990.specs.Encoding.{targetItems}
+use Rattle.description.specs.Meaning.{targetsOf}
 use Rattle.description.proofs.Items.{length-locs}
 use Rattle.description.proofs.counts.target_items.Statement.{statement}
 use Rattle.description.proofs.counts.target_items.Tie as tie

@@ -5,7 +5,7 @@ use Prim.Native.Nat.{_≤_, _-_, _/_}
 use mathlib.Core.Path.{_≡_, sym, _∙_}
 use lib.ListN.{length}
 use borrow.Author.Tests.{not-true, not-false}
-use Rattle.description.specs.Describe.{locatorRow}
+use Rattle.description.specs.Meaning.{locatorRow}
 use Rattle.description.specs.Judge.{allFrom, okRow, okRows}
 use Rattle.description.proofs.Judging.{all-step, all-stop, all-end, each-start, each-bad}
 use Rattle.description.proofs.judge.ok_rows.Statement.{statement}

@@ -1,7 +1,7 @@
 -- `description::rows::entry_of` meets its contract.
 -- Assumes nothing.
 use mathlib.Core.Path.{refl}
-use Rattle.description.specs.Describe.{entryOf}
+use Rattle.description.specs.Meaning.{entryOf}
 use borrow.Author.Needs.{needs}
 use Rattle.description.proofs.rows.entry_of.Statement.{statement}
 use Rattle.description.proofs.rows.entry_of.Tie as tie

@@ -1,6 +1,6 @@
 -- `encode::kinds::put_end` meets its contract.
 -- Assumes nothing.
-use Rattle.description.specs.Describe.{endOf}
+use Rattle.description.specs.Meaning.{endOf}
 use borrow.Author.Needs.{needs}
 use Rattle.encode.proofs.kinds.put_end.Statement.{statement}
 use Rattle.encode.proofs.kinds.put_end.Tie as tie

@@ -1,6 +1,6 @@
 -- `encode::kinds::put_exchange` meets its contract.
 -- Assumes nothing.
-use Rattle.description.specs.Encoding.{exchange}
+use Rattle.rfc8990.specs.Encoding.{exchange}
 use Rattle.encode.proofs.Puts.{then}
 use borrow.Author.Needs.{needs}
 use Rattle.encode.proofs.kinds.put_exchange.Statement.{statement}

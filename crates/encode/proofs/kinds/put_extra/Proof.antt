@@ -1,7 +1,7 @@
 -- `encode::kinds::put_extra` meets its contract.
 -- Assumes nothing.
-use Rattle.description.specs.Encoding.{maybeObj}
-use Rattle.description.specs.Describe.{extraOf}
+use Rattle.rfc8990.specs.Encoding.{maybeObj}
+use Rattle.description.specs.Meaning.{extraOf}
 use Rattle.encode.proofs.Puts.{still}
 use borrow.Author.Needs.{needs}
 use Rattle.encode.proofs.kinds.put_extra.Statement.{statement}

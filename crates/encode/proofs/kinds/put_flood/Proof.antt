@@ -1,6 +1,6 @@
 -- `encode::kinds::put_flood` meets its contract.
 -- Assumes nothing.
-use Rattle.description.specs.Encoding.{encodeMsg}
+use Rattle.rfc8990.specs.Encoding.{encodeMsg}
 use Rattle.encode.proofs.Puts.{then}
 use Rattle.description.proofs.Items.{length-pairs}
 use borrow.Author.Needs.{needs}

@@ -1,7 +1,7 @@
 -- `encode::kinds::put_invalid` meets its contract.
 -- Assumes nothing.
 use Rattle.options.specs.Text.{held}
-use Rattle.description.specs.Encoding.{encodeMsg}
+use Rattle.rfc8990.specs.Encoding.{encodeMsg}
 use Rattle.encode.proofs.Puts.{then}
 use Rattle.description.proofs.Items.{more-le}
 use native.Mathlib.Omega.{arith}

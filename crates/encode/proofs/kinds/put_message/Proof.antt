@@ -1,7 +1,7 @@
 -- `encode::kinds::put_message` meets its contract.
 -- Assumes nothing.
-use Rattle.description.specs.Encoding.{encodeMsg}
-use Rattle.description.specs.Describe.{msgOf}
+use Rattle.rfc8990.specs.Encoding.{encodeMsg}
+use Rattle.description.specs.Meaning.{msgOf}
 use borrow.Author.Needs.{needs}
 use Rattle.encode.proofs.kinds.put_message.Statement.{statement}
 use Rattle.encode.proofs.kinds.put_message.Tie as tie

@@ -1,6 +1,6 @@
 -- `encode::kinds::put_preamble` meets its contract.
 -- Assumes nothing.
-use Rattle.description.specs.Encoding.{preamble}
+use Rattle.rfc8990.specs.Encoding.{preamble}
 use Rattle.encode.proofs.Puts.{then}
 use borrow.Author.Needs.{needs}
 use Rattle.encode.proofs.kinds.put_preamble.Statement.{statement}

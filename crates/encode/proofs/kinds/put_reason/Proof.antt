@@ -1,6 +1,6 @@
 -- `encode::kinds::put_reason` meets its contract.
 -- Assumes nothing.
-use Rattle.description.specs.Encoding.{encodeEnding, encodeMsg}
+use Rattle.rfc8990.specs.Encoding.{encodeEnding, encodeMsg}
 use Rattle.encode.proofs.Puts.{then}
 use borrow.Author.Needs.{needs}
 use Rattle.encode.proofs.kinds.put_reason.Statement.{statement}

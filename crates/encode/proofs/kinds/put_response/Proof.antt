@@ -1,8 +1,8 @@
 -- `encode::kinds::put_response` meets its contract.
 -- Assumes nothing.
-use Rattle.description.specs.Encoding.{encodeMsg}
+use Rattle.rfc8990.specs.Encoding.{encodeMsg}
 use Rattle.encode.proofs.Puts.{then}
-use Rattle.encode.proofs.Rows.{targets-few, extra-few, targets-many, extra-many}
+use Rattle.encode.proofs.PutRows.{targets-few, extra-few, targets-many, extra-many}
 use native.Mathlib.Omega.{arith}
 use borrow.Author.Needs.{needs}
 use Rattle.encode.proofs.kinds.put_response.Statement.{statement}

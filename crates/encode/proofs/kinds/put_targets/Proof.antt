@@ -1,7 +1,7 @@
 -- `encode::kinds::put_targets` meets its contract.
 -- Assumes nothing.
-use Rattle.description.specs.Encoding.{encodeTargets}
-use Rattle.description.specs.Describe.{targetsOf}
+use Rattle.rfc8990.specs.Encoding.{encodeTargets}
+use Rattle.description.specs.Meaning.{targetsOf}
 use Rattle.encode.proofs.Puts.{then}
 use Rattle.description.proofs.Items.{length-locs}
 use borrow.Author.Needs.{needs}

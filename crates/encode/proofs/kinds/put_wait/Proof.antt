@@ -1,6 +1,6 @@
 -- `encode::kinds::put_wait` meets its contract.
 -- Assumes nothing.
-use Rattle.description.specs.Encoding.{encodeMsg}
+use Rattle.rfc8990.specs.Encoding.{encodeMsg}
 use Rattle.encode.proofs.Puts.{then}
 use borrow.Author.Needs.{needs}
 use Rattle.encode.proofs.kinds.put_wait.Statement.{statement}

@@ -1,6 +1,6 @@
 -- `encode::locator::put_fixed` meets its contract.
 -- Assumes nothing.
-use Rattle.description.specs.Encoding.{fixed}
+use Rattle.rfc8990.specs.Encoding.{fixed}
 use Rattle.encode.proofs.Puts.{then}
 use borrow.Author.Needs.{needs}
 use Rattle.encode.proofs.locator.put_fixed.Statement.{statement}

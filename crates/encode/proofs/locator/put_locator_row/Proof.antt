@@ -1,7 +1,7 @@
 -- `encode::locator::put_locator_row` meets its contract.
 -- Assumes nothing.
-use Rattle.description.specs.Encoding.{encodeLoc}
-use Rattle.description.specs.Describe.{locatorRowLoc}
+use Rattle.rfc8990.specs.Encoding.{encodeLoc}
+use Rattle.description.specs.Meaning.{locatorRowLoc}
 use Rattle.base.specs.Pick.{pick}
 use borrow.Author.Tests.{eq-eqb, ne-eqb}
 use Rattle.encode.proofs.Puts.{then}

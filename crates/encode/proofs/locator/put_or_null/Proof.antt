@@ -1,7 +1,7 @@
 -- `encode::locator::put_or_null` meets its contract.
 -- Assumes nothing.
-use Rattle.syntax.specs.Message.{orNull}
-use Rattle.description.specs.Encoding.{numberOrNull}
+use Rattle.rfc8990.specs.Message.{orNull}
+use Rattle.rfc8990.specs.Encoding.{numberOrNull}
 use Rattle.base.specs.Pick.{pick}
 use borrow.Author.Tests.{eq-eqb, ne-eqb}
 use borrow.Author.Needs.{needs}

@@ -1,6 +1,6 @@
 -- `encode::locator::put_reached` meets its contract.
 -- Assumes nothing.
-use Rattle.description.specs.Encoding.{reached}
+use Rattle.rfc8990.specs.Encoding.{reached}
 use Rattle.encode.proofs.Puts.{then}
 use borrow.Author.Needs.{needs}
 use Rattle.encode.proofs.locator.put_reached.Statement.{statement}

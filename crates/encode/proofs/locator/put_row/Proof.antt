@@ -1,6 +1,6 @@
 -- `encode::locator::put_row` meets its contract.
 -- Assumes nothing.
-use Rattle.description.specs.Describe.{rowLoc}
+use Rattle.description.specs.Meaning.{rowLoc}
 use borrow.Author.Needs.{needs}
 use Rattle.encode.proofs.locator.put_row.Statement.{statement}
 use Rattle.encode.proofs.locator.put_row.Tie as tie

@@ -5,9 +5,9 @@ use Prim.Native.Nat.{_≤_, _-_, _/_}
 use mathlib.Core.Path.{_≡_, refl}
 use lib.ListN.{length}
 use Rattle.encode.specs.Put.{Wrote}
-use Rattle.description.specs.Encoding.{encodeLoc}
-use Rattle.description.specs.Describe.{locatorRow, rowLoc, locsOf}
-use Rattle.encode.proofs.Rows.{firstRows, rows-none, rows-turn, rows-done}
+use Rattle.rfc8990.specs.Encoding.{encodeLoc}
+use Rattle.description.specs.Meaning.{locatorRow, rowLoc, locsOf}
+use Rattle.encode.proofs.PutRows.{firstRows, rows-none, rows-turn, rows-done}
 use borrow.Author.Needs.{needs}
 use Rattle.encode.proofs.locator.put_rows.Statement.{statement}
 use Rattle.encode.proofs.locator.put_rows.Tie as tie

@@ -1,8 +1,8 @@
 -- `encode::objective::put_entry` meets its contract.
 -- Assumes nothing.
 use Rattle.options.specs.Text.{held}
-use Rattle.description.specs.Encoding.{encodeObj}
-use Rattle.description.specs.Describe.{objOf}
+use Rattle.rfc8990.specs.Encoding.{encodeObj}
+use Rattle.description.specs.Meaning.{objOf}
 use Rattle.encode.proofs.Puts.{then}
 use native.Mathlib.Omega.{arith}
 use Rattle.description.proofs.Items.{more-le}

@@ -1,7 +1,7 @@
 -- `encode::pair::put_locator_row_or_empty` meets its contract.
 -- Assumes nothing.
-use Rattle.description.specs.Encoding.{locOrEmpty}
-use Rattle.description.specs.Describe.{locOrNone}
+use Rattle.rfc8990.specs.Encoding.{locOrEmpty}
+use Rattle.description.specs.Meaning.{locOrNone}
 use Rattle.base.specs.Pick.{pick}
 use borrow.Author.Tests.{eq-eqb, ne-eqb}
 use borrow.Author.Needs.{needs}

@@ -1,7 +1,7 @@
 -- `encode::pair::put_pair` meets its contract.
 -- Assumes nothing.
-use Rattle.description.specs.Encoding.{encodePair}
-use Rattle.description.specs.Describe.{rowPair}
+use Rattle.rfc8990.specs.Encoding.{encodePair}
+use Rattle.description.specs.Meaning.{rowPair}
 use Rattle.encode.proofs.Puts.{then}
 use borrow.Author.Needs.{needs}
 use Rattle.encode.proofs.pair.put_pair.Statement.{statement}

@@ -1,6 +1,6 @@
 -- `encode::put::part_string` meets its contract.
 -- Assumes nothing.
-use Rattle.description.specs.Encoding.{string}
+use Rattle.rfc8990.specs.Encoding.{string}
 use Rattle.encode.proofs.Puts.{then}
 use borrow.Author.Needs.{needs}
 use Rattle.encode.proofs.put.part_string.Statement.{statement}

@@ -6,7 +6,7 @@ use Rattle.grasp.proofs.reading.grasp_read.Statement.{statement}
 use Rattle.grasp.proofs.reading.grasp_read.Tie as tie
 use Rattle.grasp.proofs.reading.grasp_read.Reads as reads
 use Rattle.grasp.proofs.reading.grasp_read.Lts as lts
-use Rattle.blocks.proofs.block.fill.Reads as fill-reads
+use Rattle.forms.proofs.block.fill.Reads as fill-reads
 use Rattle.reader.proofs.read.Reads as read-reads
 
 read-requires : tie.Need-read-requires

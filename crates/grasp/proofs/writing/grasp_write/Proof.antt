@@ -6,7 +6,7 @@ use Rattle.grasp.proofs.writing.grasp_write.Statement.{statement}
 use Rattle.grasp.proofs.writing.grasp_write.Tie as tie
 use Rattle.grasp.proofs.writing.grasp_write.Reads as reads
 use Rattle.grasp.proofs.writing.grasp_write.Lts as lts
-use Rattle.blocks.proofs.told.told_by.Reads as told-by-reads
+use Rattle.forms.proofs.described.told_by.Reads as told-by-reads
 use Rattle.writer.proofs.write.Reads as write-reads
 
 told-by-requires : tie.Need-told-by-requires

@@ -1,6 +1,6 @@
 -- `message::shape::by_kind` meets its contract.
 -- Assumes nothing.
-use Rattle.message.specs.Read.{byKind}
+use Rattle.message.specs.Examined.{byKind}
 use Rattle.base.specs.Pick.{pick}
 use borrow.Author.Tests.{eq-eqb, ne-eqb}
 use borrow.Author.Needs.{needs}

@@ -10,7 +10,7 @@ use Rattle.node.proofs.call.is_bad_arrival.Statement.{statement}
 use Rattle.node.proofs.call.is_bad_arrival.Tie as tie
 use Rattle.node.proofs.call.is_bad_arrival.Reads as reads
 use Rattle.node.proofs.call.is_bad_arrival.Lts as lts
-use Rattle.node.proofs.links.is_up.Reads as is-up-reads
+use Rattle.node.proofs.mask.is_up.Reads as is-up-reads
 
 cast-if1 : tie.Need-cast-if1
 cast-if1 c = search needs

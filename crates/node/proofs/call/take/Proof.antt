@@ -14,7 +14,7 @@ use Rattle.node.proofs.call.take.Statement.{statement}
 use Rattle.node.proofs.call.take.Tie as tie
 use Rattle.node.proofs.call.take.Reads as reads
 use Rattle.node.proofs.call.take.Lts as lts
-use Rattle.node.proofs.call.quiet.Reads as quiet-reads
+use Rattle.node.proofs.quiet.Reads as quiet-reads
 use Rattle.node.proofs.spread.judge.Reads as judge-reads
 use Rattle.node_state.proofs.table.free_dead.Reads as free-dead-reads
 

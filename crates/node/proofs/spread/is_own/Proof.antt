@@ -3,14 +3,14 @@
 use mathlib.Core.Path.{ap, _∙_}
 use mathlib.Core.List.{List}
 use Prim.Native.Nat.{ℕ}
-use Rattle.names.specs.Names.{sameBytes}
+use Rattle.base.specs.Bytes.{sameBytes}
 use Rattle.node.proofs.Sends.{part-held}
 use borrow.Author.Needs.{needs}
 use Rattle.node.proofs.spread.is_own.Statement.{statement}
 use Rattle.node.proofs.spread.is_own.Tie as tie
 use Rattle.node.proofs.spread.is_own.Reads as reads
 use Rattle.node.proofs.spread.is_own.Lts as lts
-use Rattle.names.proofs.are_same.Reads as are-same-reads
+use Rattle.base.proofs.bytes.are_same.Reads as are-same-reads
 
 add-to : tie.Need-add-to
 add-to c = search needs

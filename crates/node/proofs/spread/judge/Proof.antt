@@ -8,13 +8,13 @@ use Rattle.node.proofs.Spreads.{role-spreading}
 use Rattle.node.proofs.Outcomes.{own-outcome, answer-outcome, duplicate-outcome, later-outcome, names-apart}
 use Rattle.node_state.specs.Table.{isKnown}
 use Rattle.node_state.proofs.Masks.{up-below}
-use Rattle.node_state.proofs.Rows.{of-sized}
+use Rattle.node_state.proofs.TableRows.{of-sized}
 use borrow.Author.Needs.{needs}
 use Rattle.node.proofs.spread.judge.Statement.{statement}
 use Rattle.node.proofs.spread.judge.Tie as tie
 use Rattle.node.proofs.spread.judge.Reads as reads
 use Rattle.node.proofs.spread.judge.Lts as lts
-use Rattle.node.proofs.call.quiet.Reads as quiet-reads
+use Rattle.node.proofs.quiet.Reads as quiet-reads
 use Rattle.node.proofs.spread.answer.Reads as answer-reads
 use Rattle.node.proofs.spread.is_named.Reads as is-named-reads
 use Rattle.node.proofs.spread.is_own.Reads as is-own-reads

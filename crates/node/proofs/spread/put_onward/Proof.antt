@@ -1,6 +1,6 @@
 -- `node::spread::put_onward` meets its contract.
 -- Assumes nothing.
-use Rattle.roundtrip.specs.Lower.{onward}
+use Rattle.writer.specs.Lower.{onward}
 use Rattle.node.proofs.Sends.{onward-given}
 use Rattle.node.proofs.Outcomes.{sent-length, sent-never}
 use borrow.Author.Needs.{needs}
@@ -8,7 +8,7 @@ use Rattle.node.proofs.spread.put_onward.Statement.{statement}
 use Rattle.node.proofs.spread.put_onward.Tie as tie
 use Rattle.node.proofs.spread.put_onward.Reads as reads
 use Rattle.node.proofs.spread.put_onward.Lts as lts
-use Rattle.writer.proofs.lower.Reads as lower-reads
+use Rattle.writer.proofs.relay.lower.Reads as lower-reads
 
 lower-requires : tie.Need-lower-requires
 lower-requires c κs = search needs

@@ -12,7 +12,7 @@ use Rattle.node.proofs.spread.put_response.Statement.{statement}
 use Rattle.node.proofs.spread.put_response.Tie as tie
 use Rattle.node.proofs.spread.put_response.Reads as reads
 use Rattle.node.proofs.spread.put_response.Lts as lts
-use Rattle.writer.proofs.answer.Reads as answer-reads
+use Rattle.writer.proofs.answer.answer.Reads as answer-reads
 
 add-to : tie.Need-add-to
 add-to c = search needs

@@ -11,8 +11,8 @@ use Rattle.node.proofs.spread.relay_or_end.Statement.{statement}
 use Rattle.node.proofs.spread.relay_or_end.Tie as tie
 use Rattle.node.proofs.spread.relay_or_end.Reads as reads
 use Rattle.node.proofs.spread.relay_or_end.Lts as lts
-use Rattle.node.proofs.call.quiet.Reads as quiet-reads
-use Rattle.node.proofs.links.others.Reads as others-reads
+use Rattle.node.proofs.quiet.Reads as quiet-reads
+use Rattle.node.proofs.mask.others.Reads as others-reads
 use Rattle.node.proofs.spread.put_onward.Reads as put-onward-reads
 use Rattle.node.proofs.spread.relayed.Reads as relayed-reads
 use Rattle.node_state.proofs.table.fill_lowest.Reads as fill-lowest-reads

@@ -1,7 +1,7 @@
 -- `node_state::table::fill_lowest` meets its contract.
 -- Assumes nothing.
 use mathlib.Core.Path.{sym}
-use Rattle.node_state.proofs.Rows.{of-other, fills-row, fills-none}
+use Rattle.node_state.proofs.TableRows.{of-other, fills-row, fills-none}
 use borrow.Author.Needs.{needs}
 use Rattle.node_state.proofs.table.fill_lowest.Statement.{statement}
 use Rattle.node_state.proofs.table.fill_lowest.Tie as tie

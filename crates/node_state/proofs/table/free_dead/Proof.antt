@@ -6,7 +6,7 @@ use Prim.Native.Nat.{_-_, _≤_}
 use native.Mathlib.Omega.{arith}
 use lib.ListN.{length}
 use Rattle.node_state.specs.Table.{freeRows, freed}
-use Rattle.node_state.proofs.Rows.{of-sized, of-other, pass-length, pass-dead, pass-live, length-free}
+use Rattle.node_state.proofs.TableRows.{of-sized, of-other, pass-length, pass-dead, pass-live, length-free}
 use Rattle.node_state.proofs.table.free_dead.Statement.{statement}
 use Rattle.node_state.proofs.table.free_dead.Tie as tie
 use Rattle.node_state.proofs.table.free_dead.Reads as reads

@@ -5,7 +5,7 @@ use Prim.Native.Nat.{_-_, _≤_}
 use native.Mathlib.Omega.{arith}
 use borrow.Author.Tests.{eq-eqb, ne-eqb}
 use Rattle.node_state.specs.Table.{rowBad, firstFrom, tableBad}
-use Rattle.node_state.proofs.Rows.{scan-next, some-here, some-end}
+use Rattle.node_state.proofs.TableRows.{scan-next, some-here, some-end}
 use Rattle.node_state.proofs.table.is_bad.Statement.{statement}
 use Rattle.node_state.proofs.table.is_bad.Tie as tie
 use Rattle.node_state.proofs.table.is_bad.Reads as reads

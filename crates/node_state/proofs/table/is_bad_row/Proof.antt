@@ -2,7 +2,7 @@
 -- Assumes nothing.
 use mathlib.Core.Path.{refl, sym, _∙_}
 use Rattle.node_state.specs.Table.{rowBad, rowUsed, cell}
-use Rattle.node_state.proofs.Rows.{later-bad}
+use Rattle.node_state.proofs.TableRows.{later-bad}
 use borrow.Author.Needs.{needs}
 use Rattle.node_state.proofs.table.is_bad_row.Statement.{statement}
 use Rattle.node_state.proofs.table.is_bad_row.Tie as tie

@@ -2,7 +2,7 @@
 -- Assumes nothing.
 use mathlib.Core.Path.{refl, sym}
 use Rattle.node_state.specs.Table.{cell, rowDead}
-use Rattle.node_state.proofs.Rows.{cell-first, later-lives}
+use Rattle.node_state.proofs.TableRows.{cell-first, later-lives}
 use borrow.Author.Needs.{needs}
 use Rattle.node_state.proofs.table.is_dead.Statement.{statement}
 use Rattle.node_state.proofs.table.is_dead.Tie as tie

@@ -3,7 +3,7 @@
 use mathlib.Core.Path.{refl}
 use borrow.Author.Tests.{eq-eqb, ne-eqb}
 use Rattle.node_state.specs.Table.{cell, rowFree}
-use Rattle.node_state.proofs.Rows.{cell-first}
+use Rattle.node_state.proofs.TableRows.{cell-first}
 use borrow.Author.Needs.{needs}
 use Rattle.node_state.proofs.table.is_free.Statement.{statement}
 use Rattle.node_state.proofs.table.is_free.Tie as tie

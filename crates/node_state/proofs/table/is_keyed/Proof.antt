@@ -4,7 +4,7 @@ use mathlib.Core.Path.{refl, sym}
 use borrow.Author.Tests.{lt-leb, le-leb, lt-ltb, le-ltb, eq-eqb, ne-eqb}
 use Rattle.base.specs.Pick.{pick}
 use Rattle.node_state.specs.Table.{cell, rowKeyed, initiatorFits}
-use Rattle.node_state.proofs.Rows.{cell-first}
+use Rattle.node_state.proofs.TableRows.{cell-first}
 use borrow.Author.Needs.{needs}
 use Rattle.node_state.proofs.table.is_keyed.Statement.{statement}
 use Rattle.node_state.proofs.table.is_keyed.Tie as tie

@@ -4,7 +4,7 @@ use mathlib.Core.Path.{_≡_, refl, sym, _∙_}
 use Prim.Native.Nat.{_-_, _≤_}
 use native.Mathlib.Omega.{arith}
 use Rattle.node_state.specs.Table.{rowMatches, firstFrom, isKnown}
-use Rattle.node_state.proofs.Rows.{of-sized, of-other, scan-next, some-here, some-end}
+use Rattle.node_state.proofs.TableRows.{of-sized, of-other, scan-next, some-here, some-end}
 use Rattle.node_state.proofs.table.knows.Statement.{statement}
 use Rattle.node_state.proofs.table.knows.Tie as tie
 use Rattle.node_state.proofs.table.knows.Reads as reads

@@ -4,7 +4,7 @@ use mathlib.Core.Path.{_≡_, refl, sym, _∙_}
 use Prim.Native.Nat.{_-_, _≤_}
 use native.Mathlib.Omega.{arith}
 use Rattle.node_state.specs.Table.{rowFree, firstFrom, lowestFree}
-use Rattle.node_state.proofs.Rows.{scan-here, scan-next, scan-end}
+use Rattle.node_state.proofs.TableRows.{scan-here, scan-next, scan-end}
 use Rattle.node_state.proofs.table.lowest_free.Statement.{statement}
 use Rattle.node_state.proofs.table.lowest_free.Tie as tie
 use Rattle.node_state.proofs.table.lowest_free.Reads as reads

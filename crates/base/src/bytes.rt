@@ -1,0 +1,20 @@
+// Bytes compared.
+ghost use mathlib.Core.Path.{_≡_};
+ghost use Rattle.base.specs.Bytes.{sameBytes};
+
+// Whether two slices have the same bytes.
+pub fn are_same(a: &[u8], b: &[u8]) -> bool
+    ensures { λ r. ⌜ r ≡ sameBytes (now (a .entry)) (now (b .entry)) ⌝ }
+{
+    if a.len() != b.len() {
+        return false;
+    }
+    let mut i = 0;
+    while i < a.len() {
+        if a[i] != b[i] {
+            return false;
+        }
+        i += 1;
+    }
+    true
+}

@@ -1,3 +1,0 @@
--- `Describe`: the description of a message that was read. `Rows`: its list.
-pub mod Describe
-pub mod Rows

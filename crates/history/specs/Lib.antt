@@ -1,1 +1,0 @@
--- Demand 3 is stated in `node`, as `Demand3` of its specs.

@@ -1,0 +1,2 @@
+-- `Line`: what the program prints.
+pub mod Line

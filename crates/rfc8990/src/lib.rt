@@ -1,0 +1,1 @@
+// What RFC 8990 and the rules say of messages; it has no code of its own.

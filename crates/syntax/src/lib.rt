@@ -1,1 +1,0 @@
-// GRASP messages as data; it has no code of its own.

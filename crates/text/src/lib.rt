@@ -1,0 +1,2 @@
+// What is printed: numbers in decimal, and lines.
+pub mod line;
