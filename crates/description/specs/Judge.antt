@@ -10,15 +10,15 @@ use Rattle.base.specs.Pick.{pick}
 use Rattle.cbor.specs.declared.item.ItemRead.{ItemRead}
 use Rattle.cbor.specs.Item.{firstItem, framedBy}
 use Rattle.options.specs.declared.Span.{Span}
-use Rattle.description.specs.declared.rows.Entry.{Entry}
+use Rattle.description.specs.declared.rows.ObjectiveRow.{ObjectiveRow}
 use Rattle.description.specs.declared.rows.LocatorRow.{LocatorRow}
-use Rattle.description.specs.declared.Extra.{Extra}
-use Rattle.description.specs.declared.Extra.the-variants as X
+use Rattle.description.specs.declared.GivenExtra.{GivenExtra}
+use Rattle.description.specs.declared.GivenExtra.the-variants as X
 use Rattle.options.specs.declared.Outcome.{Outcome}
 use Rattle.options.specs.declared.Outcome.the-variants as E
 use Rattle.description.specs.declared.Description.{Description}
 use Rattle.description.specs.declared.Description.the-variants as D
-use Rattle.description.specs.Meaning.{locatorRow, pairRow, entryRow, entryOf, locatorRowAt, entryAt}
+use Rattle.description.specs.Meaning.{locatorRow, pairRow, objectiveRow, objectiveRowOf, locatorRowAt, objectiveRowAt}
 
 -- what was read of n bytes is one item and nothing else
 unfoldable pub alone : ℕ → ItemRead → Bool
@@ -41,8 +41,8 @@ unfoldable pub okItem : List ℕ → Span → Bool
 okItem source v = pick (inside source v) (okValue (held source v)) false
 
 -- an objective's name and value
-unfoldable pub okEntry : List ℕ → Entry → Bool
-okEntry source o = pick (inside source (o .name)) (okItem source (o .value)) false
+unfoldable pub okObjectiveRow : List ℕ → ObjectiveRow → Bool
+okObjectiveRow source o = pick (inside source (o .name)) (okItem source (o .value)) false
 
 -- one of the four locators, and its address or text
 unfoldable pub okLocatorRow : List ℕ → LocatorRow → Bool
@@ -78,7 +78,7 @@ okRows source list = okEach locatorRow (okRow source list) list
 unfoldable pub okPair : List ℕ → List ℕ → ℕ → Bool
 okPair source list i =
     pick (eqb (getD list (pairRow * i + 4) 0) 0)
-    (pick (okEntry source (entryAt list (pairRow * i))) (okNoneOr source (locatorRowAt list (pairRow * i + entryRow))) false)
+    (pick (okObjectiveRow source (objectiveRowAt list (pairRow * i))) (okNoneOr source (locatorRowAt list (pairRow * i + objectiveRow))) false)
     false
 
 -- a list of pairs
@@ -86,9 +86,9 @@ unfoldable pub okPairs : List ℕ → List ℕ → Bool
 okPairs source list = okEach pairRow (okPair source list) list
 
 -- an objective that may be left out
-unfoldable pub okExtra : List ℕ → Extra → Bool
+unfoldable pub okExtra : List ℕ → GivenExtra → Bool
 okExtra source X.Without = true
-okExtra source (X.With o) = okEntry source (entryOf o)
+okExtra source (X.With o) = okObjectiveRow source (objectiveRowOf o)
 
 -- how a negotiation ends
 unfoldable pub okOutcome : List ℕ → Outcome → Bool
@@ -97,11 +97,11 @@ okOutcome source E.Decline = true
 okOutcome source (E.Reason t) = inside source t
 
 -- a Discovery's initiator and objective
-unfoldable pub okDiscovery : List ℕ → Span → Entry → Bool
-okDiscovery source i o = pick (inside source i) (okEntry source o) false
+unfoldable pub okDiscovery : List ℕ → Span → ObjectiveRow → Bool
+okDiscovery source i o = pick (inside source i) (okObjectiveRow source o) false
 
 -- a Response's initiator, rows and objective, which may be left out
-unfoldable pub okResponse : List ℕ → List ℕ → Span → Extra → Bool
+unfoldable pub okResponse : List ℕ → List ℕ → Span → GivenExtra → Bool
 okResponse source list i o = pick (inside source i) (pick (okRows source list) (okExtra source o) false) false
 
 -- a Flood's initiator and rows
@@ -111,14 +111,14 @@ okFlood source list i = pick (inside source i) (okPairs source list) false
 -- what the description holds
 unfoldable pub okParts : List ℕ → List ℕ → Description → Bool
 okParts source list D.Noop = true
-okParts source list (D.Discovery s i o) = okDiscovery source i (entryOf o)
+okParts source list (D.Discovery s i o) = okDiscovery source i (objectiveRowOf o)
 okParts source list (D.Response s i t d o) = okResponse source list i o
-okParts source list (D.RequestNegotiation s o) = okEntry source (entryOf o)
-okParts source list (D.RequestSynchronization s o) = okEntry source (entryOf o)
-okParts source list (D.Negotiate s o) = okEntry source (entryOf o)
+okParts source list (D.RequestNegotiation s o) = okObjectiveRow source (objectiveRowOf o)
+okParts source list (D.RequestSynchronization s o) = okObjectiveRow source (objectiveRowOf o)
+okParts source list (D.Negotiate s o) = okObjectiveRow source (objectiveRowOf o)
 okParts source list (D.End s e) = okOutcome source e
 okParts source list (D.Wait s t) = true
-okParts source list (D.Synch s o) = okEntry source (entryOf o)
+okParts source list (D.Synch s o) = okObjectiveRow source (objectiveRowOf o)
 okParts source list (D.Flood s i t) = okFlood source list i
 okParts source list (D.Invalid s v) = okItem source v
 

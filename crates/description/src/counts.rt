@@ -4,7 +4,7 @@ ghost use mathlib.Core.List.{[]};
 ghost use Rattle.options.specs.Text.{held};
 ghost use Rattle.rfc8990.specs.Encoding.{targetItems, howMany, oneMore};
 ghost use Rattle.description.specs.Meaning.{targetsOf, extraOf};
-use crate::Extra;
+use crate::GivenExtra;
 use crate::rows::LOCATOR_ROW;
 use crate::spans;
 use options::Span;
@@ -20,12 +20,12 @@ pub fn target_items(list: &[u64], divert: bool) -> u64
 }
 
 // 1 for an objective that is there, else 0. That doesn't depend on the source, so `[]` stands for it.
-pub fn how_many(extra: Extra) -> u64
+pub fn how_many(extra: GivenExtra) -> u64
     ensures { λ r. ⌜ r ≡ howMany (extraOf [] extra) ⌝ }
 {
     match extra {
-        Extra::Without => 0,
-        Extra::With(_) => 1,
+        GivenExtra::Without => 0,
+        GivenExtra::With(_) => 1,
     }
 }
 

@@ -3,16 +3,16 @@ ghost use mathlib.Core.Path.{_≡_};
 ghost use Prim.Native.Nat.{_+_, _*_, _≤_};
 ghost use lib.ListN.{length};
 ghost use Rattle.options.specs.Text.{held};
-ghost use Rattle.description.specs.Meaning.{locatorRow, pairRow, entryOf};
-ghost use Rattle.description.specs.Judge.{whole, inside, okValue, okItem, okEntry, okLocatorRow, blankLocatorRow, okNoneOr, okRow, okRows, okPair, okPairs, okExtra, okOutcome, okDiscovery, okResponse, okFlood, okParts, hasList, okList, okDescribed};
+ghost use Rattle.description.specs.Meaning.{locatorRow, pairRow, objectiveRowOf};
+ghost use Rattle.description.specs.Judge.{whole, inside, okValue, okItem, okObjectiveRow, okLocatorRow, blankLocatorRow, okNoneOr, okRow, okRows, okPair, okPairs, okExtra, okOutcome, okDiscovery, okResponse, okFlood, okParts, hasList, okList, okDescribed};
 use crate::Description;
-use crate::Extra;
-use crate::Goal;
+use crate::GivenExtra;
+use crate::GivenObjective;
 use crate::rows;
-use crate::rows::ENTRY_ROW;
-use crate::rows::Entry;
 use crate::rows::LOCATOR_ROW;
 use crate::rows::LocatorRow;
+use crate::rows::OBJECTIVE_ROW;
+use crate::rows::ObjectiveRow;
 use crate::rows::PAIR_ROW;
 use crate::spans;
 use cbor::item;
@@ -72,27 +72,27 @@ fn ok_parts(source: &[u8], list: &[u64], m: Description) -> bool
             extra,
             ..
         } => ok_response(source, list, initiator, extra),
-        Description::RequestNegotiation { objective, .. } => ok_goal(source, objective),
-        Description::RequestSynchronization { objective, .. } => ok_goal(source, objective),
-        Description::Negotiate { objective, .. } => ok_goal(source, objective),
+        Description::RequestNegotiation { objective, .. } => ok_given(source, objective),
+        Description::RequestSynchronization { objective, .. } => ok_given(source, objective),
+        Description::Negotiate { objective, .. } => ok_given(source, objective),
         Description::End { outcome, .. } => ok_outcome(source, outcome),
         Description::Wait { .. } => true,
-        Description::Synch { objective, .. } => ok_goal(source, objective),
+        Description::Synch { objective, .. } => ok_given(source, objective),
         Description::Flood { initiator, .. } => ok_flood(source, list, initiator),
         Description::Invalid { item, .. } => ok_item(source, item),
     }
 }
 
-fn ok_discovery(source: &[u8], initiator: Span, o: Goal) -> bool
-    ensures { λ r. ⌜ r ≡ okDiscovery (now (source .entry)) initiator (entryOf o) ⌝ }
+fn ok_discovery(source: &[u8], initiator: Span, o: GivenObjective) -> bool
+    ensures { λ r. ⌜ r ≡ okDiscovery (now (source .entry)) initiator (objectiveRowOf o) ⌝ }
 {
     if is_inside(source, initiator) {
-        return ok_goal(source, o);
+        return ok_given(source, o);
     }
     false
 }
 
-fn ok_response(source: &[u8], list: &[u64], initiator: Span, extra: Extra) -> bool
+fn ok_response(source: &[u8], list: &[u64], initiator: Span, extra: GivenExtra) -> bool
     ensures { λ r. ⌜ r ≡ okResponse (now (source .entry)) (now (list .entry)) initiator extra ⌝ }
 {
     if is_inside(source, initiator) {
@@ -104,12 +104,12 @@ fn ok_response(source: &[u8], list: &[u64], initiator: Span, extra: Extra) -> bo
     false
 }
 
-fn ok_extra(source: &[u8], extra: Extra) -> bool
+fn ok_extra(source: &[u8], extra: GivenExtra) -> bool
     ensures { λ r. ⌜ r ≡ okExtra (now (source .entry)) extra ⌝ }
 {
     match extra {
-        Extra::Without => true,
-        Extra::With(o) => ok_goal(source, o),
+        GivenExtra::Without => true,
+        GivenExtra::With(o) => ok_given(source, o),
     }
 }
 
@@ -181,9 +181,9 @@ fn ok_pair(source: &[u8], list: &[u64], i: usize) -> bool
     if list[PAIR_ROW * i + 4] != 0 {
         return false;
     }
-    let o = rows::entry_at(list, PAIR_ROW * i);
-    let p = rows::locator_row_at(list, PAIR_ROW * i + ENTRY_ROW);
-    if ok_entry(source, o) {
+    let o = rows::objective_row_at(list, PAIR_ROW * i);
+    let p = rows::locator_row_at(list, PAIR_ROW * i + OBJECTIVE_ROW);
+    if ok_objective_row(source, o) {
         return ok_none_or(source, p);
     }
     false
@@ -228,15 +228,15 @@ fn ok_locator_row(source: &[u8], p: LocatorRow) -> bool
     is_inside(source, p.content)
 }
 
-fn ok_goal(source: &[u8], o: Goal) -> bool
-    ensures { λ r. ⌜ r ≡ okEntry (now (source .entry)) (entryOf o) ⌝ }
+fn ok_given(source: &[u8], o: GivenObjective) -> bool
+    ensures { λ r. ⌜ r ≡ okObjectiveRow (now (source .entry)) (objectiveRowOf o) ⌝ }
 {
-    let entry = rows::entry_of(o);
-    ok_entry(source, entry)
+    let entry = rows::objective_row_of(o);
+    ok_objective_row(source, entry)
 }
 
-fn ok_entry(source: &[u8], o: Entry) -> bool
-    ensures { λ r. ⌜ r ≡ okEntry (now (source .entry)) o ⌝ }
+fn ok_objective_row(source: &[u8], o: ObjectiveRow) -> bool
+    ensures { λ r. ⌜ r ≡ okObjectiveRow (now (source .entry)) o ⌝ }
 {
     if is_inside(source, o.name) {
         return ok_item(source, o.value);

@@ -9,7 +9,7 @@ pub mod rows;
 pub mod spans;
 
 // An objective: its name and value are bytes of the source, and a value of 0 bytes is none.
-pub struct Goal {
+pub struct GivenObjective {
     pub name: Span,
     pub flags: u8,
     pub count: u8,
@@ -17,9 +17,9 @@ pub struct Goal {
 }
 
 // An objective that may be left out.
-pub enum Extra {
+pub enum GivenExtra {
     Without,
-    With(Goal),
+    With(GivenObjective),
 }
 
 // A message to be written. Spans are bytes of the source. The locators of a Response, or of its divert, and the pairs of a Flood are the rows of
@@ -31,26 +31,26 @@ pub enum Description {
     Discovery {
         session: u32,
         initiator: Span,
-        objective: Goal,
+        objective: GivenObjective,
     },
     Response {
         session: u32,
         initiator: Span,
         ttl: u32,
         divert: bool,
-        extra: Extra,
+        extra: GivenExtra,
     },
     RequestNegotiation {
         session: u32,
-        objective: Goal,
+        objective: GivenObjective,
     },
     RequestSynchronization {
         session: u32,
-        objective: Goal,
+        objective: GivenObjective,
     },
     Negotiate {
         session: u32,
-        objective: Goal,
+        objective: GivenObjective,
     },
     End {
         session: u32,
@@ -62,7 +62,7 @@ pub enum Description {
     },
     Synch {
         session: u32,
-        objective: Goal,
+        objective: GivenObjective,
     },
     Flood {
         session: u32,

@@ -1,8 +1,8 @@
 // The rows of a list: locators of five numbers, pairs of twelve.
 ghost use mathlib.Core.Path.{_≡_};
 ghost use lib.ListN.{getD};
-ghost use Rattle.description.specs.Meaning.{entryOf, entryAt, locatorRowAt};
-use crate::Goal;
+ghost use Rattle.description.specs.Meaning.{objectiveRowOf, objectiveRowAt, locatorRowAt};
+use crate::GivenObjective;
 use options::Span;
 
 // How many numbers a locator's row has.
@@ -19,22 +19,22 @@ pub struct LocatorRow {
 // How many numbers a pair's row has, and how many of them stand before its locator.
 pub const PAIR_ROW: usize = 12;
 
-pub const ENTRY_ROW: usize = 7;
+pub const OBJECTIVE_ROW: usize = 7;
 
 // An objective as a row has it: numbers are written as they are, and the reader judges them.
-pub struct Entry {
+pub struct ObjectiveRow {
     pub name: Span,
     pub flags: u64,
     pub count: u64,
     pub value: Span,
 }
 
-pub fn entry_of(o: Goal) -> Entry
-    ensures { λ r. ⌜ r ≡ entryOf o ⌝ }
+pub fn objective_row_of(o: GivenObjective) -> ObjectiveRow
+    ensures { λ r. ⌜ r ≡ objectiveRowOf o ⌝ }
 {
     let name = o.name;
     let value = o.value;
-    Entry {
+    ObjectiveRow {
         name,
         flags: o.flags as u64,
         count: o.count as u64,
@@ -68,11 +68,11 @@ pub fn locator_row_at(list: &[u64], k: usize) -> LocatorRow
 }
 
 // The objective of the seven numbers from place k on; the fifth is passed over, and a number past the list's end is 0.
-pub fn entry_at(list: &[u64], k: usize) -> Entry
-    ensures { λ r. ⌜ r ≡ entryAt (now (list .entry)) k ⌝ }
+pub fn objective_row_at(list: &[u64], k: usize) -> ObjectiveRow
+    ensures { λ r. ⌜ r ≡ objectiveRowAt (now (list .entry)) k ⌝ }
 {
     if list.len() <= k {
-        return Entry {
+        return ObjectiveRow {
             name: Span { at: 0, len: 0 },
             flags: 0,
             count: 0,
@@ -85,7 +85,7 @@ pub fn entry_at(list: &[u64], k: usize) -> Entry
     let count = number(list, k + 3);
     let value_at = number(list, k + 5) as usize;
     let value_len = number(list, k + 6) as usize;
-    Entry {
+    ObjectiveRow {
         name: Span { at, len },
         flags,
         count,

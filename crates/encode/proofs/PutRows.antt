@@ -10,8 +10,8 @@ use native.Mathlib.Omega.{arith}
 use lib.ListN.{length}
 use Rattle.encode.specs.Put.{Wrote}
 use Rattle.rfc8990.specs.Encoding.{targetItems, howMany}
-use Rattle.description.specs.declared.Extra.{Extra}
-use Rattle.description.specs.declared.Extra.the-variants as X
+use Rattle.description.specs.declared.GivenExtra.{GivenExtra}
+use Rattle.description.specs.declared.GivenExtra.the-variants as X
 use Rattle.description.specs.Meaning.{listOf, targetsOf, extraOf}
 use Rattle.description.proofs.Items.{length-locs}
 use Rattle.encode.proofs.Puts.{then, still}
@@ -46,7 +46,7 @@ unfolding targetItems targetsOf
 targets-many source list true = refl
 targets-many source list false = length-locs [] list ∙ sym (length-locs source list)
 
-pub extra-many : (source : List ℕ) (m : Extra) → howMany (extraOf [] m) ≡ howMany (extraOf source m)
+pub extra-many : (source : List ℕ) (m : GivenExtra) → howMany (extraOf [] m) ≡ howMany (extraOf source m)
 unfolding howMany extraOf
 extra-many source X.Without = refl
 extra-many source (X.With o) = refl
@@ -57,7 +57,7 @@ unfolding targetItems targetsOf
 targets-few source list true t e = omega arith
 targets-few source list false t e = omega (arith, length-locs source list)
 
-pub extra-few : (source : List ℕ) (m : Extra) (t : ℕ) → t ≡ howMany (extraOf source m) → t ≤ 1
+pub extra-few : (source : List ℕ) (m : GivenExtra) (t : ℕ) → t ≡ howMany (extraOf source m) → t ≤ 1
 unfolding howMany extraOf
 extra-few source X.Without t e = omega arith
 extra-few source (X.With o) t e = omega arith

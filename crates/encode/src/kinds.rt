@@ -4,14 +4,14 @@ ghost use Rattle.encode.specs.Put.{Wrote};
 ghost use Rattle.rfc8990.specs.Message.{Msg};
 ghost use Rattle.rfc8990.specs.Message as Syntax;
 ghost use Rattle.rfc8990.specs.Encoding.{preamble, exchange, encodeMsg, encodeObj, encodeTargets, maybeObj};
-ghost use Rattle.description.specs.Meaning.{entryOf, objOf, targetsOf, pairsOf, extraOf, endOf, msgOf};
+ghost use Rattle.description.specs.Meaning.{objectiveRowOf, objOf, targetsOf, pairsOf, extraOf, endOf, msgOf};
 use crate::locator;
 use crate::objective;
 use crate::pair;
 use crate::put;
 use description::Description;
-use description::Extra;
-use description::Goal;
+use description::GivenExtra;
+use description::GivenObjective;
 use description::counts;
 use description::rows;
 use description::rows::LOCATOR_ROW;
@@ -76,11 +76,11 @@ pub(crate) fn put_noop(out: &mut [u8]) -> usize
     put::head(out, a, 0, 0)
 }
 
-pub(crate) fn put_goal(out: &mut [u8], at: usize, source: &[u8], o: Goal) -> usize
-    ensures { λ r. ⌜ Wrote (now (out .entry)) (now (out .exit)) at (encodeObj (objOf (now (source .entry)) (entryOf o))) r ⌝ }
+pub(crate) fn put_given(out: &mut [u8], at: usize, source: &[u8], o: GivenObjective) -> usize
+    ensures { λ r. ⌜ Wrote (now (out .entry)) (now (out .exit)) at (encodeObj (objOf (now (source .entry)) (objectiveRowOf o))) r ⌝ }
 {
-    let entry = rows::entry_of(o);
-    objective::put_entry(out, at, source, entry)
+    let entry = rows::objective_row_of(o);
+    objective::put_objective_row(out, at, source, entry)
 }
 
 pub(crate) fn put_discovery(
@@ -88,13 +88,13 @@ pub(crate) fn put_discovery(
     source: &[u8],
     session: u32,
     initiator: Span,
-    o: Goal,
+    o: GivenObjective,
 ) -> usize
-    ensures { λ r. ⌜ Wrote (now (out .entry)) (now (out .exit)) 0 (encodeMsg (Msg.discovery session (held (now (source .entry)) initiator) (objOf (now (source .entry)) (entryOf o)))) r ⌝ }
+    ensures { λ r. ⌜ Wrote (now (out .entry)) (now (out .exit)) 0 (encodeMsg (Msg.discovery session (held (now (source .entry)) initiator) (objOf (now (source .entry)) (objectiveRowOf o)))) r ⌝ }
 {
     let a = put_preamble(out, 4, 1, session);
     let b = put::part_string(out, a, 2, source, initiator);
-    put_goal(out, b, source, o)
+    put_given(out, b, source, o)
 }
 
 pub(crate) fn put_response(
@@ -105,7 +105,7 @@ pub(crate) fn put_response(
     initiator: Span,
     ttl: u32,
     divert: bool,
-    extra: Extra,
+    extra: GivenExtra,
 ) -> usize
     ensures { λ r. ⌜ Wrote (now (out .entry)) (now (out .exit)) 0 (encodeMsg (Msg.response session (held (now (source .entry)) initiator) ttl (targetsOf (now (source .entry)) (now (list .entry)) divert) (extraOf (now (source .entry)) extra))) r ⌝ }
 {
@@ -136,21 +136,27 @@ pub(crate) fn put_targets(
     locator::put_rows(out, at, source, list)
 }
 
-pub(crate) fn put_extra(out: &mut [u8], at: usize, source: &[u8], extra: Extra) -> usize
+pub(crate) fn put_extra(out: &mut [u8], at: usize, source: &[u8], extra: GivenExtra) -> usize
     ensures { λ r. ⌜ Wrote (now (out .entry)) (now (out .exit)) at (maybeObj (extraOf (now (source .entry)) extra)) r ⌝ }
 {
     match extra {
-        Extra::Without => at,
-        Extra::With(o) => put_goal(out, at, source, o),
+        GivenExtra::Without => at,
+        GivenExtra::With(o) => put_given(out, at, source, o),
     }
 }
 
 // Kinds 3, 4, 5 and 8.
-pub(crate) fn put_exchange(out: &mut [u8], source: &[u8], kind: u64, session: u32, o: Goal) -> usize
-    ensures { λ r. ⌜ Wrote (now (out .entry)) (now (out .exit)) 0 (exchange kind session (objOf (now (source .entry)) (entryOf o))) r ⌝ }
+pub(crate) fn put_exchange(
+    out: &mut [u8],
+    source: &[u8],
+    kind: u64,
+    session: u32,
+    o: GivenObjective,
+) -> usize
+    ensures { λ r. ⌜ Wrote (now (out .entry)) (now (out .exit)) 0 (exchange kind session (objOf (now (source .entry)) (objectiveRowOf o))) r ⌝ }
 {
     let a = put_preamble(out, 3, kind, session);
-    put_goal(out, a, source, o)
+    put_given(out, a, source, o)
 }
 
 pub(crate) fn put_end(out: &mut [u8], source: &[u8], session: u32, outcome: Outcome) -> usize
@@ -164,7 +170,7 @@ pub(crate) fn put_end(out: &mut [u8], source: &[u8], session: u32, outcome: Outc
 }
 
 pub(crate) fn put_accept(out: &mut [u8], session: u32) -> usize
-    ensures { λ r. ⌜ Wrote (now (out .entry)) (now (out .exit)) 0 (encodeMsg (Msg.end session Syntax.Ending.accept)) r ⌝ }
+    ensures { λ r. ⌜ Wrote (now (out .entry)) (now (out .exit)) 0 (encodeMsg (Msg.end session Syntax.Outc.accept)) r ⌝ }
 {
     let a = put_preamble(out, 3, 6, session);
     let b = put::head(out, a, 4, 1);
@@ -172,7 +178,7 @@ pub(crate) fn put_accept(out: &mut [u8], session: u32) -> usize
 }
 
 pub(crate) fn put_decline(out: &mut [u8], session: u32) -> usize
-    ensures { λ r. ⌜ Wrote (now (out .entry)) (now (out .exit)) 0 (encodeMsg (Msg.end session Syntax.Ending.decline)) r ⌝ }
+    ensures { λ r. ⌜ Wrote (now (out .entry)) (now (out .exit)) 0 (encodeMsg (Msg.end session Syntax.Outc.decline)) r ⌝ }
 {
     let a = put_preamble(out, 3, 6, session);
     let b = put::head(out, a, 4, 1);
@@ -180,7 +186,7 @@ pub(crate) fn put_decline(out: &mut [u8], session: u32) -> usize
 }
 
 pub(crate) fn put_reason(out: &mut [u8], source: &[u8], session: u32, text: Span) -> usize
-    ensures { λ r. ⌜ Wrote (now (out .entry)) (now (out .exit)) 0 (encodeMsg (Msg.end session (Syntax.Ending.reason (held (now (source .entry)) text)))) r ⌝ }
+    ensures { λ r. ⌜ Wrote (now (out .entry)) (now (out .exit)) 0 (encodeMsg (Msg.end session (Syntax.Outc.reason (held (now (source .entry)) text)))) r ⌝ }
 {
     let a = put_preamble(out, 3, 6, session);
     let b = put::head(out, a, 4, 2);

@@ -5,10 +5,10 @@ ghost use Rattle.rfc8990.specs.Encoding.{encodeObj};
 ghost use Rattle.description.specs.Meaning.{objOf};
 use crate::put;
 use description::counts;
-use description::rows::Entry;
+use description::rows::ObjectiveRow;
 use options::Span;
 
-pub(crate) fn put_entry(out: &mut [u8], at: usize, source: &[u8], o: Entry) -> usize
+pub(crate) fn put_objective_row(out: &mut [u8], at: usize, source: &[u8], o: ObjectiveRow) -> usize
     ensures { λ r. ⌜ Wrote (now (out .entry)) (now (out .exit)) at (encodeObj (objOf (now (source .entry)) o)) r ⌝ }
 {
     let more = counts::one_more(source, o.value);

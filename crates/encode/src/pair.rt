@@ -9,8 +9,8 @@ use crate::locator;
 use crate::objective;
 use crate::put;
 use description::rows;
-use description::rows::ENTRY_ROW;
 use description::rows::LocatorRow;
+use description::rows::OBJECTIVE_ROW;
 use description::rows::PAIR_ROW;
 
 // The pairs of the list.
@@ -31,10 +31,10 @@ pub(crate) fn put_pair(out: &mut [u8], at: usize, source: &[u8], list: &[u64], i
     requires { ⌜ pairRow * i + pairRow ≤ length (now list) ⌝ }
     ensures { λ r. ⌜ Wrote (now (out .entry)) (now (out .exit)) at (encodePair (rowPair (now (source .entry)) (now (list .entry)) i)) r ⌝ }
 {
-    let o = rows::entry_at(list, PAIR_ROW * i);
-    let p = rows::locator_row_at(list, PAIR_ROW * i + ENTRY_ROW);
+    let o = rows::objective_row_at(list, PAIR_ROW * i);
+    let p = rows::locator_row_at(list, PAIR_ROW * i + OBJECTIVE_ROW);
     let a = put::head(out, at, 4, 2);
-    let b = objective::put_entry(out, a, source, o);
+    let b = objective::put_objective_row(out, a, source, o);
     put_locator_row_or_empty(out, b, source, p)
 }
 

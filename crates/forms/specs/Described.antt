@@ -9,16 +9,16 @@ use Rattle.base.specs.Bits.{hasBit, maskWith}
 use Rattle.options.specs.declared.Span.{Span}
 use Rattle.options.specs.Text.{spanOf}
 use Rattle.message.specs.Opening.{mostNumber}
-use Rattle.description.specs.declared.Goal.{Goal}
-use Rattle.description.specs.declared.Extra.{Extra}
+use Rattle.description.specs.declared.GivenObjective.{GivenObjective}
+use Rattle.description.specs.declared.GivenExtra.{GivenExtra}
 use Rattle.options.specs.declared.Outcome.{Outcome}
 use Rattle.description.specs.declared.Description.{Description}
 use Rattle.description.specs.declared.Description.the-variants as D
 use Rattle.description.specs.Meaning.{locatorRow, pairRow}
 use Rattle.description.specs.Judge.{allFrom}
 use Rattle.forms.specs.declared.described.Narrow.{Narrow}
-use Rattle.forms.specs.declared.described.Told.{Told}
-use Rattle.forms.specs.declared.described.Told.the-variants.{Nothing, Says}
+use Rattle.forms.specs.declared.described.Described.{Described}
+use Rattle.forms.specs.declared.described.Described.the-variants.{Nothing, As}
 use Rattle.forms.specs.Block.{mostPlaces}
 
 -- ---- the places that a description has; the place of a count's head (10) and that of the first locator or pair (14) are the reader's alone
@@ -75,65 +75,65 @@ unfoldable pub isBlank : List ℕ → Bool
 isBlank f = allFit f (maskWith (sessionPlaces ++ initiatorPlaces ++ ttlPlace ++ 13 ∷ 14 ∷ 15 ∷ outcomePlace ++ itemPlaces))
 
 -- the objective of a block
-unfoldable pub toldGoal : List ℕ → Narrow → Goal
-toldGoal f n = record { name = spanOf (getD f 6 0) (getD f 7 0); flags = n .flags; count = n .count; value = spanOf (getD f 11 0) (getD f 12 0) }
+unfoldable pub givenObjective : List ℕ → Narrow → GivenObjective
+givenObjective f n = record { name = spanOf (getD f 6 0) (getD f 7 0); flags = n .flags; count = n .count; value = spanOf (getD f 11 0) (getD f 12 0) }
 
 -- kinds 1, 3, 4, 5 and 8
-unfoldable pub toldObjective : ℕ → Narrow → Span → Goal → Told
-toldObjective kind n initiator o =
-    pick (eqb kind 1) (Says (D.Discovery (n .session) initiator o))
-    (pick (eqb kind 3) (Says (D.RequestNegotiation (n .session) o))
-    (pick (eqb kind 4) (Says (D.RequestSynchronization (n .session) o))
-    (pick (eqb kind 5) (Says (D.Negotiate (n .session) o))
-    (pick (eqb kind 8) (Says (D.Synch (n .session) o)) Nothing))))
+unfoldable pub describedObjective : ℕ → Narrow → Span → GivenObjective → Described
+describedObjective kind n initiator o =
+    pick (eqb kind 1) (As (D.Discovery (n .session) initiator o))
+    (pick (eqb kind 3) (As (D.RequestNegotiation (n .session) o))
+    (pick (eqb kind 4) (As (D.RequestSynchronization (n .session) o))
+    (pick (eqb kind 5) (As (D.Negotiate (n .session) o))
+    (pick (eqb kind 8) (As (D.Synch (n .session) o)) Nothing))))
 
 -- a Response with locators (1) or a divert (2)
-unfoldable pub toldTargets : ℕ → Narrow → Span → Extra → Told
-toldTargets sort n initiator extra =
-    pick (eqb sort 1) (Says (D.Response (n .session) initiator (n .ttl) false extra))
-    (pick (eqb sort 2) (Says (D.Response (n .session) initiator (n .ttl) true extra)) Nothing)
+unfoldable pub describedTargets : ℕ → Narrow → Span → GivenExtra → Described
+describedTargets sort n initiator extra =
+    pick (eqb sort 1) (As (D.Response (n .session) initiator (n .ttl) false extra))
+    (pick (eqb sort 2) (As (D.Response (n .session) initiator (n .ttl) true extra)) Nothing)
 
 -- a Response, with an objective or without; as many locators are said as the list has rows
-unfoldable pub toldResponse : List ℕ → ℕ → Narrow → Told
-toldResponse f numbers n =
+unfoldable pub describedResponse : List ℕ → ℕ → Narrow → Described
+describedResponse f numbers n =
     let initiator = spanOf (getD f 2 0) (getD f 3 0) in
     unless (eqb (getD f 15 0) (numbers / locatorRow)) Nothing
-    (pick (eqb (getD f 5 0) 0) (unless (isBlank f) Nothing (toldTargets (getD f 13 0) n initiator Extra.Without))
-    (unless (eqb (getD f 5 0) 1) Nothing (toldTargets (getD f 13 0) n initiator (Extra.With (toldGoal f n)))))
+    (pick (eqb (getD f 5 0) 0) (unless (isBlank f) Nothing (describedTargets (getD f 13 0) n initiator GivenExtra.Without))
+    (unless (eqb (getD f 5 0) 1) Nothing (describedTargets (getD f 13 0) n initiator (GivenExtra.With (givenObjective f n)))))
 
 -- an End: accept (1), decline (2), decline with a reason (3)
-unfoldable pub toldEnd : List ℕ → Narrow → Told
-toldEnd f n =
-    pick (eqb (getD f 16 0) 3) (Says (D.End (n .session) (Outcome.Reason (spanOf (getD f 17 0) (getD f 18 0)))))
+unfoldable pub describedEnd : List ℕ → Narrow → Described
+describedEnd f n =
+    pick (eqb (getD f 16 0) 3) (As (D.End (n .session) (Outcome.Reason (spanOf (getD f 17 0) (getD f 18 0)))))
     (unless (eqb (getD f 17 0) 0) Nothing
     (unless (eqb (getD f 18 0) 0) Nothing
-    (pick (eqb (getD f 16 0) 1) (Says (D.End (n .session) Outcome.Accept))
-    (pick (eqb (getD f 16 0) 2) (Says (D.End (n .session) Outcome.Decline)) Nothing))))
+    (pick (eqb (getD f 16 0) 1) (As (D.End (n .session) Outcome.Accept))
+    (pick (eqb (getD f 16 0) 2) (As (D.End (n .session) Outcome.Decline)) Nothing))))
 
 -- a Flood: pairs (3), as many as the list has rows
-unfoldable pub toldFlood : List ℕ → ℕ → Narrow → Told
-toldFlood f numbers n =
+unfoldable pub describedFlood : List ℕ → ℕ → Narrow → Described
+describedFlood f numbers n =
     unless (eqb (getD f 13 0) 3) Nothing
     (unless (eqb (getD f 15 0) (numbers / pairRow)) Nothing
-    (Says (D.Flood (n .session) (spanOf (getD f 2 0) (getD f 3 0)) (n .ttl))))
+    (As (D.Flood (n .session) (spanOf (getD f 2 0) (getD f 3 0)) (n .ttl))))
 
 -- by the kind, once every place fits it
-unfoldable pub toldKind : List ℕ → ℕ → Narrow → Told
-toldKind f numbers n =
-    pick (eqb (getD f 0 0) 0) (Says D.Noop)
-    (pick (eqb (getD f 0 0) 2) (toldResponse f numbers n)
-    (pick (eqb (getD f 0 0) 6) (toldEnd f n)
-    (pick (eqb (getD f 0 0) 7) (Says (D.Wait (n .session) (n .ttl)))
-    (pick (eqb (getD f 0 0) 9) (toldFlood f numbers n)
-    (pick (eqb (getD f 0 0) 99) (Says (D.Invalid (n .session) (spanOf (getD f 17 0) (getD f 18 0))))
-    (unless (eqb (getD f 5 0) 1) Nothing (toldObjective (getD f 0 0) n (spanOf (getD f 2 0) (getD f 3 0)) (toldGoal f n))))))))
+unfoldable pub describedKind : List ℕ → ℕ → Narrow → Described
+describedKind f numbers n =
+    pick (eqb (getD f 0 0) 0) (As D.Noop)
+    (pick (eqb (getD f 0 0) 2) (describedResponse f numbers n)
+    (pick (eqb (getD f 0 0) 6) (describedEnd f n)
+    (pick (eqb (getD f 0 0) 7) (As (D.Wait (n .session) (n .ttl)))
+    (pick (eqb (getD f 0 0) 9) (describedFlood f numbers n)
+    (pick (eqb (getD f 0 0) 99) (As (D.Invalid (n .session) (spanOf (getD f 17 0) (getD f 18 0))))
+    (unless (eqb (getD f 5 0) 1) Nothing (describedObjective (getD f 0 0) n (spanOf (getD f 2 0) (getD f 3 0)) (givenObjective f n))))))))
 
 -- what a block says beside a list of so many numbers: nothing where a place that the kind lacks isn't 0, or a number is too wide
-unfoldable pub toldBy : List ℕ → ℕ → Told
-toldBy f numbers =
+unfoldable pub describedBy : List ℕ → ℕ → Described
+describedBy f numbers =
     unless (allFit f (allowedIn (getD f 0 0))) Nothing
     (pick (ltb mostNumber (getD f 1 0)) Nothing
     (pick (ltb mostNumber (getD f 4 0)) Nothing
     (pick (ltb 255 (getD f 8 0)) Nothing
     (pick (ltb 255 (getD f 9 0)) Nothing
-    (toldKind f numbers (record { session = getD f 1 0; ttl = getD f 4 0; flags = getD f 8 0; count = getD f 9 0 }))))))
+    (describedKind f numbers (record { session = getD f 1 0; ttl = getD f 4 0; flags = getD f 8 0; count = getD f 9 0 }))))))

@@ -2,10 +2,10 @@
 ghost use mathlib.Core.Path.{_≡_};
 ghost use Rattle.message.specs.Shape.{exchangeOf};
 ghost use Rattle.message.specs.declared.Message.{Message};
-ghost use Rattle.forms.specs.Describe.{goalOf, saidExtra, isDivert, descriptionOf};
+ghost use Rattle.forms.specs.Describe.{givenOf, givenExtra, isDivert, descriptionOf};
 use description::Description;
-use description::Extra;
-use description::Goal;
+use description::GivenExtra;
+use description::GivenObjective;
 use message::Message;
 use message::Targets;
 use options::Span;
@@ -24,7 +24,7 @@ pub fn description_of(m: Message) -> Description
         } => Description::Discovery {
             session,
             initiator,
-            objective: goal_of(objective),
+            objective: given_of(objective),
         },
         Message::Response {
             session,
@@ -75,7 +75,7 @@ fn response_of(
 fn exchange(kind: u8, session: u32, o: Objective) -> Description
     ensures { λ r. ⌜ r ≡ descriptionOf (exchangeOf kind session o) ⌝ }
 {
-    let objective = goal_of(o);
+    let objective = given_of(o);
     if kind == 3 {
         return Description::RequestNegotiation { session, objective };
     }
@@ -88,12 +88,12 @@ fn exchange(kind: u8, session: u32, o: Objective) -> Description
     Description::Synch { session, objective }
 }
 
-fn goal_of(o: Objective) -> Goal
-    ensures { λ r. ⌜ r ≡ goalOf o ⌝ }
+fn given_of(o: Objective) -> GivenObjective
+    ensures { λ r. ⌜ r ≡ givenOf o ⌝ }
 {
     let name = o.name;
     let value = o.value;
-    Goal {
+    GivenObjective {
         name,
         flags: o.flags,
         count: o.count,
@@ -101,12 +101,12 @@ fn goal_of(o: Objective) -> Goal
     }
 }
 
-fn extra_of(extra: message::Extra) -> Extra
-    ensures { λ r. ⌜ r ≡ saidExtra extra ⌝ }
+fn extra_of(extra: message::Extra) -> GivenExtra
+    ensures { λ r. ⌜ r ≡ givenExtra extra ⌝ }
 {
     match extra {
-        message::Extra::Without => Extra::Without,
-        message::Extra::With(objective) => Extra::With(goal_of(objective)),
+        message::Extra::Without => GivenExtra::Without,
+        message::Extra::With(objective) => GivenExtra::With(given_of(objective)),
     }
 }
 

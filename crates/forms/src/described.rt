@@ -2,19 +2,19 @@
 ghost use mathlib.Core.Path.{_≡_};
 ghost use Prim.Native.Nat.{_<_};
 ghost use Rattle.options.specs.Text.{spanOf};
-ghost use Rattle.forms.specs.Described.{allowedIn, fieldFits, allFit, isBlank, toldGoal, toldTargets, toldResponse, toldEnd, toldFlood, toldObjective, toldKind, toldBy};
+ghost use Rattle.forms.specs.Described.{allowedIn, fieldFits, allFit, isBlank, givenObjective, describedTargets, describedResponse, describedEnd, describedFlood, describedObjective, describedKind, describedBy};
 use description::Description;
-use description::Extra;
-use description::Goal;
+use description::GivenExtra;
+use description::GivenObjective;
 use description::rows::LOCATOR_ROW;
 use description::rows::PAIR_ROW;
 use options::Outcome;
 use options::Span;
 
 // What a block says: nothing that could be written, or a description.
-pub enum Told {
+pub enum Described {
     Nothing,
-    Says(Description),
+    As(Description),
 }
 
 // The numbers of a block that a message has in 32 or 8 bits.
@@ -26,27 +26,27 @@ pub struct Narrow {
 }
 
 // What a block says beside a list of so many numbers.
-pub fn told_by(fields: &[u64; 19], numbers: usize) -> Told
-    ensures { λ r. ⌜ r ≡ toldBy (now (fields .entry)) numbers ⌝ }
+pub fn described_by(fields: &[u64; 19], numbers: usize) -> Described
+    ensures { λ r. ⌜ r ≡ describedBy (now (fields .entry)) numbers ⌝ }
 {
     let session = fields[1];
     let ttl = fields[4];
     let flags = fields[8];
     let count = fields[9];
     if !all_fit(fields, allowed(fields[0])) {
-        return Told::Nothing;
+        return Described::Nothing;
     }
     if 4_294_967_295 < session {
-        return Told::Nothing;
+        return Described::Nothing;
     }
     if 4_294_967_295 < ttl {
-        return Told::Nothing;
+        return Described::Nothing;
     }
     if 255 < flags {
-        return Told::Nothing;
+        return Described::Nothing;
     }
     if 255 < count {
-        return Told::Nothing;
+        return Described::Nothing;
     }
     let narrow = Narrow {
         session: session as u32,
@@ -57,84 +57,99 @@ pub fn told_by(fields: &[u64; 19], numbers: usize) -> Told
     by_kind(fields, numbers, narrow)
 }
 
-fn by_kind(fields: &[u64; 19], numbers: usize, n: Narrow) -> Told
-    ensures { λ r. ⌜ r ≡ toldKind (now (fields .entry)) numbers n ⌝ }
+fn by_kind(fields: &[u64; 19], numbers: usize, n: Narrow) -> Described
+    ensures { λ r. ⌜ r ≡ describedKind (now (fields .entry)) numbers n ⌝ }
 {
     let kind = fields[0];
     if kind == 0 {
-        return Told::Says(Description::Noop);
+        return Described::As(Description::Noop);
     }
     if kind == 2 {
-        return told_response(fields, numbers, n);
+        return described_response(fields, numbers, n);
     }
     if kind == 6 {
-        return told_end(fields, n);
+        return described_end(fields, n);
     }
     if kind == 7 {
-        return Told::Says(Description::Wait {
+        return Described::As(Description::Wait {
             session: n.session,
             time: n.ttl,
         });
     }
     if kind == 9 {
-        return told_flood(fields, numbers, n);
+        return described_flood(fields, numbers, n);
     }
     if kind == 99 {
-        return Told::Says(Description::Invalid {
+        return Described::As(Description::Invalid {
             session: n.session,
             item: span(fields[17], fields[18]),
         });
     }
     if fields[5] != 1 {
-        return Told::Nothing;
+        return Described::Nothing;
     }
-    told_objective(kind, n, span(fields[2], fields[3]), goal(fields, n))
+    described_objective(
+        kind,
+        n,
+        span(fields[2], fields[3]),
+        given_objective(fields, n),
+    )
 }
 
 // Kinds 1, 3, 4, 5 and 8, which have an objective.
-fn told_objective(kind: u64, n: Narrow, initiator: Span, objective: Goal) -> Told
-    ensures { λ r. ⌜ r ≡ toldObjective kind n initiator objective ⌝ }
+fn described_objective(
+    kind: u64,
+    n: Narrow,
+    initiator: Span,
+    objective: GivenObjective,
+) -> Described
+    ensures { λ r. ⌜ r ≡ describedObjective kind n initiator objective ⌝ }
 {
     let session = n.session;
     if kind == 1 {
-        return Told::Says(Description::Discovery {
+        return Described::As(Description::Discovery {
             session,
             initiator,
             objective,
         });
     }
     if kind == 3 {
-        return Told::Says(Description::RequestNegotiation { session, objective });
+        return Described::As(Description::RequestNegotiation { session, objective });
     }
     if kind == 4 {
-        return Told::Says(Description::RequestSynchronization { session, objective });
+        return Described::As(Description::RequestSynchronization { session, objective });
     }
     if kind == 5 {
-        return Told::Says(Description::Negotiate { session, objective });
+        return Described::As(Description::Negotiate { session, objective });
     }
     if kind == 8 {
-        return Told::Says(Description::Synch { session, objective });
+        return Described::As(Description::Synch { session, objective });
     }
-    Told::Nothing
+    Described::Nothing
 }
 
-fn told_response(fields: &[u64; 19], numbers: usize, n: Narrow) -> Told
-    ensures { λ r. ⌜ r ≡ toldResponse (now (fields .entry)) numbers n ⌝ }
+fn described_response(fields: &[u64; 19], numbers: usize, n: Narrow) -> Described
+    ensures { λ r. ⌜ r ≡ describedResponse (now (fields .entry)) numbers n ⌝ }
 {
     if fields[15] != (numbers / LOCATOR_ROW) as u64 {
-        return Told::Nothing;
+        return Described::Nothing;
     }
     let initiator = span(fields[2], fields[3]);
     if fields[5] == 0 {
         if !is_blank(fields) {
-            return Told::Nothing;
+            return Described::Nothing;
         }
-        return response(fields[13], n, initiator, Extra::Without);
+        return response(fields[13], n, initiator, GivenExtra::Without);
     }
     if fields[5] != 1 {
-        return Told::Nothing;
+        return Described::Nothing;
     }
-    response(fields[13], n, initiator, Extra::With(goal(fields, n)))
+    response(
+        fields[13],
+        n,
+        initiator,
+        GivenExtra::With(given_objective(fields, n)),
+    )
 }
 
 // The places that may hold other numbers than 0, as the bits of a mask, by the kind.
@@ -194,13 +209,13 @@ fn is_blank(fields: &[u64; 19]) -> bool
     all_fit(fields, 0x0007_e01f)
 }
 
-fn response(sort: u64, n: Narrow, initiator: Span, extra: Extra) -> Told
-    ensures { λ r. ⌜ r ≡ toldTargets sort n initiator extra ⌝ }
+fn response(sort: u64, n: Narrow, initiator: Span, extra: GivenExtra) -> Described
+    ensures { λ r. ⌜ r ≡ describedTargets sort n initiator extra ⌝ }
 {
     let session = n.session;
     let ttl = n.ttl;
     if sort == 1 {
-        return Told::Says(Description::Response {
+        return Described::As(Description::Response {
             session,
             initiator,
             ttl,
@@ -209,7 +224,7 @@ fn response(sort: u64, n: Narrow, initiator: Span, extra: Extra) -> Told
         });
     }
     if sort == 2 {
-        return Told::Says(Description::Response {
+        return Described::As(Description::Response {
             session,
             initiator,
             ttl,
@@ -217,61 +232,61 @@ fn response(sort: u64, n: Narrow, initiator: Span, extra: Extra) -> Told
             extra,
         });
     }
-    Told::Nothing
+    Described::Nothing
 }
 
-fn told_end(fields: &[u64; 19], n: Narrow) -> Told
-    ensures { λ r. ⌜ r ≡ toldEnd (now (fields .entry)) n ⌝ }
+fn described_end(fields: &[u64; 19], n: Narrow) -> Described
+    ensures { λ r. ⌜ r ≡ describedEnd (now (fields .entry)) n ⌝ }
 {
     let session = n.session;
     let reason = span(fields[17], fields[18]);
     if fields[16] == 3 {
-        return Told::Says(Description::End {
+        return Described::As(Description::End {
             session,
             outcome: Outcome::Reason(reason),
         });
     }
     if fields[17] != 0 {
-        return Told::Nothing;
+        return Described::Nothing;
     }
     if fields[18] != 0 {
-        return Told::Nothing;
+        return Described::Nothing;
     }
     if fields[16] == 1 {
-        return Told::Says(Description::End {
+        return Described::As(Description::End {
             session,
             outcome: Outcome::Accept,
         });
     }
     if fields[16] == 2 {
-        return Told::Says(Description::End {
+        return Described::As(Description::End {
             session,
             outcome: Outcome::Decline,
         });
     }
-    Told::Nothing
+    Described::Nothing
 }
 
-fn told_flood(fields: &[u64; 19], numbers: usize, n: Narrow) -> Told
-    ensures { λ r. ⌜ r ≡ toldFlood (now (fields .entry)) numbers n ⌝ }
+fn described_flood(fields: &[u64; 19], numbers: usize, n: Narrow) -> Described
+    ensures { λ r. ⌜ r ≡ describedFlood (now (fields .entry)) numbers n ⌝ }
 {
     if fields[13] != 3 {
-        return Told::Nothing;
+        return Described::Nothing;
     }
     if fields[15] != (numbers / PAIR_ROW) as u64 {
-        return Told::Nothing;
+        return Described::Nothing;
     }
-    Told::Says(Description::Flood {
+    Described::As(Description::Flood {
         session: n.session,
         initiator: span(fields[2], fields[3]),
         ttl: n.ttl,
     })
 }
 
-fn goal(fields: &[u64; 19], n: Narrow) -> Goal
-    ensures { λ r. ⌜ r ≡ toldGoal (now (fields .entry)) n ⌝ }
+fn given_objective(fields: &[u64; 19], n: Narrow) -> GivenObjective
+    ensures { λ r. ⌜ r ≡ givenObjective (now (fields .entry)) n ⌝ }
 {
-    Goal {
+    GivenObjective {
         name: span(fields[6], fields[7]),
         flags: n.flags,
         count: n.count,

@@ -4,14 +4,14 @@ use Prim.Native.Nat.{ℕ}
 use mathlib.Core.Path.{_≡_, refl}
 use mathlib.Core.List.{List}
 use Rattle.node_state.specs.declared.Record.{Record}
-use Rattle.node_state.specs.declared.Kept.{Kept}
+use Rattle.node_state.specs.declared.RecordAnswer.{RecordAnswer}
 use Rattle.node.specs.Call.{Call}
 use Rattle.host.specs.Records.{nodeOf, numbersAfter}
 use Rattle.host.specs.Call.{leftOf, callLeft}
 use Rattle.grasp.specs.Call.{hostOf, hostCall}
 
 pub host-left : (address numbers bytes : List ℕ) (c : Call) (answer : List ℕ) (r : Record) → r ≡ nodeOf address numbers
-    → (k : Kept) (table out after : List ℕ) → leftOf (k .refusal) (k .node) table out after ≡ callLeft r bytes c answer
+    → (k : RecordAnswer) (table out after : List ℕ) → leftOf (k .refusal) (k .node) table out after ≡ callLeft r bytes c answer
     → (n : ℕ) (numbers′ : List ℕ) → n ≡ k .refusal → numbers′ ≡ numbersAfter k numbers
     → hostOf n numbers′ table out after ≡ hostCall address numbers bytes c answer
 unfolding hostCall

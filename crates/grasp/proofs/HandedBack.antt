@@ -11,7 +11,7 @@ use Rattle.base.specs.BigEndian.{Bytes}
 use Rattle.base.specs.Pick.{pick}
 use Rattle.base.proofs.Picks.{pick-case, both}
 use Rattle.node_state.specs.declared.Record.{Record}
-use Rattle.node_state.specs.declared.Kept.{Kept}
+use Rattle.node_state.specs.declared.RecordAnswer.{RecordAnswer}
 use Rattle.node_state.specs.Record.{recordBad, fresh, linked, setLinks}
 use Rattle.node.specs.Call.{Call, nodeCall}
 use Rattle.negotiation.specs.declared.Stepped.{Stepped}
@@ -36,7 +36,7 @@ fresh-back address port ttl interfaces mask f p l none =
     kept-back address f (fresh address port ttl interfaces mask)
     (λ e. (
       fresh-record-fits address port ttl interfaces mask p l,
-      both (λ (k : Kept). k .refusal ≡ 0 → k .node .address ≡ address) _ (λ e. absurd (omega arith)) (λ _. refl) e,
+      both (λ (k : RecordAnswer). k .refusal ≡ 0 → k .node .address ≡ address) _ (λ e. absurd (omega arith)) (λ _. refl) e,
     ))
     (λ ne. absurd (ne none))
 
@@ -55,10 +55,10 @@ links-back address f mask =
     r : Record
     r = nodeOf address f
 
-    Addressed : Kept → Type 0
+    Addressed : RecordAnswer → Type 0
     Addressed k = k .refusal ≡ 0 → k .node .address ≡ address
 
-    Left : Kept → Type 0
+    Left : RecordAnswer → Type 0
     Left k = (k .refusal ≡ 0 → ⊥) → k .node ≡ r
 
 -- The numbers and the bytes that a node call leaves say the record and hold the table that it leaves.

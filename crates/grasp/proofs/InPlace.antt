@@ -35,11 +35,11 @@ use denote.Triple.Statement.{Contract, Triple}
 use denote.Triple.Walked.{says, Stay, Stays, fitsOf, AllGo, Ending, walkOf, ends-at, walk-meets}
 use denote.Exit.{Kept as Keeps, left}
 use Rattle.node_state.specs.declared.Record.{Record}
-use Rattle.node_state.specs.declared.Kept.{Kept}
+use Rattle.node_state.specs.declared.RecordAnswer.{RecordAnswer}
 use Rattle.node_state.proofs.Record as T
 use Rattle.node_state.proofs.Record.Laws as T′
-use Rattle.node_state.proofs.Kept as S
-use Rattle.node_state.proofs.Kept.Laws as S′
+use Rattle.node_state.proofs.RecordAnswer as S
+use Rattle.node_state.proofs.RecordAnswer.Laws as S′
 
 -- the parameters after the record
 abbrev pub others : {n : ℕ} → List (Slot n) → List (Slot n)
@@ -68,10 +68,10 @@ abbrev pub vals : Record → List Val
 vals = LL.vals T.the-type T′.the-laws
 
 -- what owning an answer tells of its two fields
-pub kept : (r : Kept) (v : Val) → Is S.the-row r (v ∷ []) → Is T.the-row (r .node) (vals (r .node))
+pub kept : (r : RecordAnswer) (v : Val) → Is S.the-row r (v ∷ []) → Is T.the-row (r .node) (vals (r .node))
 kept r v is = LL.owed S.the-type S′.the-laws r (v ∷ []) is .1 .0
 
-pub small : (r : Kept) (v : Val) → Is S.the-row r (v ∷ []) → r .refusal < 2 ^ 8
+pub small : (r : RecordAnswer) (v : Val) → Is S.the-row r (v ∷ []) → r .refusal < 2 ^ 8
 small r v is = LL.owed S.the-type S′.the-laws r (v ∷ []) is .0 .1
 
 -- ---- the borrow of the record, opened and closed
@@ -91,11 +91,11 @@ module _ {M : Type 1} {𝓤 : URA M} {H : Heap 𝓤} {A : Atoms 𝓤} {K : Type 
   closed t z h is b o = step (λ s. owned t T.the-row (Is T.the-row) ((LL.makes T.the-type T′.the-plain) 𝓤 H A) h (vals h) is $ move t (1 ∷ 0 ∷ []) $ closes t z T.the-row h (vals h) b o $ s)
 
   -- what the step says: its answer, the tokens, and what it left behind the references
-  pub answered : K → Soaks G → (toks : SProp 𝓤) (v : Val) {X : Type 0} (left : X → Fml) (Said : Kept → X → Type 0)
-      → ((r : Kept) (ws : X) → Said r ws → Is S.the-row r (v ∷ []) → Seq K W (‵ (S.the-row .own r (v ∷ [])) ∷ raw toks ∷ ‵ (left ws) ∷ Γ) G)
-      → Seq K W (raw (H .⇛ (ex 𝓤 (λ (r : Kept). sep 𝓤 (sep 𝓤 toks (sem 𝓤 H A (S.the-row .own r (v ∷ [])))) (ex 𝓤 (λ (ws : X). sep 𝓤 (sem 𝓤 H A (fsep ftrue (left ws))) (fact 𝓤 (Said r ws))))))) ∷ Γ) G
+  pub answered : K → Soaks G → (toks : SProp 𝓤) (v : Val) {X : Type 0} (left : X → Fml) (Said : RecordAnswer → X → Type 0)
+      → ((r : RecordAnswer) (ws : X) → Said r ws → Is S.the-row r (v ∷ []) → Seq K W (‵ (S.the-row .own r (v ∷ [])) ∷ raw toks ∷ ‵ (left ws) ∷ Γ) G)
+      → Seq K W (raw (H .⇛ (ex 𝓤 (λ (r : RecordAnswer). sep 𝓤 (sep 𝓤 toks (sem 𝓤 H A (S.the-row .own r (v ∷ [])))) (ex 𝓤 (λ (ws : X). sep 𝓤 (sem 𝓤 H A (fsep ftrue (left ws))) (fact 𝓤 (Said r ws))))))) ∷ Γ) G
   answered t z toks v {X} left Said k =
-      use1 W (later (some (λ (r : Kept). (raw toks ⊛ ‵ (S.the-row .own r (v ∷ []))) ⊛ some (λ (ws : X). ‵ (fsep ftrue (left ws)) ⊛ raw (fact 𝓤 (Said r ws)))))) (id⊢ 𝓤 _) $ await t z $ pick t (λ r.
+      use1 W (later (some (λ (r : RecordAnswer). (raw toks ⊛ ‵ (S.the-row .own r (v ∷ []))) ⊛ some (λ (ws : X). ‵ (fsep ftrue (left ws)) ⊛ raw (fact 𝓤 (Said r ws)))))) (id⊢ 𝓤 _) $ await t z $ pick t (λ r.
       split t $ move t (1 ∷ []) $ pick t (λ ws. split t $ move t (1 ∷ []) $ heard t (Said r ws) (λ e. fsplit t $ drop t $ move t (1 ∷ []) $ split t $ move t (1 ∷ []) $
       peeks t S.the-row (Is S.the-row) (shows 𝓤 H A S.the-row) r (v ∷ []) (λ is. k r ws e is))))
 

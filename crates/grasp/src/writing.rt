@@ -2,7 +2,7 @@
 ghost use mathlib.Core.Path.{_≡_};
 ghost use Rattle.grasp.specs.Writing.{writeNumber, writeBytes, writeLength};
 use forms::described;
-use forms::described::Told;
+use forms::described::Described;
 use writer::Written;
 
 // 0 with the length and the encoding at the front of `out`, or the number of the refusal with both as they were.
@@ -18,10 +18,10 @@ pub extern "C" fn grasp_write(
     ensures { λ r. ⌜ now (out .exit) ≡ writeBytes (now (source .entry)) (now (list .entry)) (now (fields .entry)) (now (out .entry)) ⌝ }
     ensures { λ r. ⌜ now (length .exit) ≡ writeLength (now (source .entry)) (now (list .entry)) (now (fields .entry)) (now (out .entry)) (now (length .entry)) ⌝ }
 {
-    let told = told::told_by(fields, list.len());
-    match told {
-        Told::Nothing => 18,
-        Told::Says(description) => {
+    let described = described::described_by(fields, list.len());
+    match described {
+        Described::Nothing => 18,
+        Described::As(description) => {
             let written = writer::write(source, list, description, out);
             match written {
                 Written::Refused(number) => number,

@@ -10,12 +10,12 @@ use borrow.Author.Tests.{eq-eqb, ne-eqb, eqb-true, eqb-false}
 use Rattle.base.specs.Pick.{pick}
 use Rattle.base.proofs.Picks.{pick-case}
 use Rattle.node_state.specs.declared.Record.{Record}
-use Rattle.node.specs.declared.Called.{Called}
+use Rattle.node.specs.declared.CallAnswer.{CallAnswer}
 use Rattle.node_state.proofs.TableRows.{table-sized}
 use Rattle.node.specs.Passed.{Passed}
 use Rattle.node.proofs.Outcomes.{passed}
 use Rattle.node.specs.Call.{Call, After, afterOf, bar, refuse, quiet, answered, relayed, nodeCall}
-use Rattle.host.specs.declared.call.Answer as A
+use Rattle.host.specs.declared.call.CallNumbers as A
 use Rattle.host.specs.Table.{tableBytes, loaded, saved}
 use Rattle.host.specs.Call.{answerFrom, tableIn, answerNumbers, replyNumbers, leftOf, callLeft}
 use Rattle.host.proofs.Fits.{call-goes}
@@ -43,7 +43,7 @@ pub table-in : (bytes : List ℕ) → length bytes ≡ tableBytes → tableIn by
 unfolding tableIn pick
 table-in bytes sized = rw (eq-eqb (length bytes) tableBytes sized) refl
 
-module _ (r : Record) (bytes : List ℕ) (c : Call) (answer : List ℕ) (b : Called) (t out : List ℕ) (a : A.Answer) (is : a ≡ answerFrom b) where
+module _ (r : Record) (bytes : List ℕ) (c : Call) (answer : List ℕ) (b : CallAnswer) (t out : List ℕ) (a : A.CallNumbers) (is : a ≡ answerFrom b) where
   left-refused : afterOf b t out ≡ nodeCall r (tableIn bytes) c → (a .refusal ≡ 0 → ⊥) → leftOf (a .refusal) r bytes out answer ≡ callLeft r bytes c answer
   unfolding callLeft pick
   left-refused e ne =
@@ -55,7 +55,7 @@ module _ (r : Record) (bytes : List ℕ) (c : Call) (answer : List ℕ) (b : Cal
   unfolding tableIn pick
   other-length ne e =
       left-refused (rw (ne-eqb (length bytes) tableBytes ne) e)
-      (λ none. omega (arith, table-sized (c .clock) (0 ∷ []) (call-passed r (0 ∷ []) c (ap (λ (z : After). answerFrom (z .called) .refusal) (sym e) ∙ ap (λ (z : A.Answer). z .refusal) (sym is) ∙ none) .table)))
+      (λ none. omega (arith, table-sized (c .clock) (0 ∷ []) (call-passed r (0 ∷ []) c (ap (λ (z : After). answerFrom (z .called) .refusal) (sym e) ∙ ap (λ (z : A.CallNumbers). z .refusal) (sym is) ∙ none) .table)))
 
   module _ (numbers : List ℕ) (sized : length bytes ≡ tableBytes) (numbers-are : numbers ≡ loaded bytes) (e : afterOf b t out ≡ nodeCall r numbers c) where
     in-bytes : afterOf b t out ≡ nodeCall r (tableIn bytes) c

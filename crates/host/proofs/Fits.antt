@@ -18,7 +18,7 @@ use Rattle.message.specs.Opening.{mostNumber}
 use Rattle.reader.specs.declared.Reading.{Reading}
 use Rattle.reader.specs.Read.{readOf}
 use Rattle.node_state.specs.declared.Record.{Record}
-use Rattle.node_state.specs.declared.Kept.{Kept}
+use Rattle.node_state.specs.declared.RecordAnswer.{RecordAnswer}
 use Rattle.node_state.specs.declared.key.Key.{Key}
 use Rattle.node_state.specs.Record.{linksBad, recordBad, blank, clocked, tallied, others}
 use Rattle.node_state.specs.Table.{tableNumbers, putRow, freeRows, freed, lowestFree}
@@ -135,7 +135,7 @@ module _ (r : Record) (t : List ℕ) (c : Call) where
 pub blank-fits : RecordFits blank
 blank-fits = record { port = omega arith; ttl = omega arith; interfaces = omega arith; links = omega arith }
 
-abbrev pub KeptFits : Kept → Type 0
+abbrev pub KeptFits : RecordAnswer → Type 0
 KeptFits k = RecordFits (k .node)
 
 -- clock and tally have any width here

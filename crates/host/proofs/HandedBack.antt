@@ -27,13 +27,13 @@ use Rattle.negotiation.specs.Step.{step}
 use Rattle.negotiation.specs.Allowed.{Allowed}
 use Rattle.negotiation.proofs.Accepted.{moved-exactly, session-most, count-most}
 use Rattle.node_state.specs.declared.Record.{Record}
-use Rattle.node_state.specs.declared.Kept.{Kept}
+use Rattle.node_state.specs.declared.RecordAnswer.{RecordAnswer}
 use Rattle.node_state.specs.Record.{linksBad, recordBad, keeps, fresh, linked, setLinks, clocked, tallied}
 use Rattle.node_state.specs.Table.{freed}
 use Rattle.node_state.proofs.Masks.{links-fit, fit-small, record-links}
 use Rattle.node.specs.declared.Reply.{Reply}
 use Rattle.node.specs.declared.Reply.the-variants.{Refused, Given}
-use Rattle.node.specs.declared.Called.{Called}
+use Rattle.node.specs.declared.CallAnswer.{CallAnswer}
 use Rattle.node.specs.Role.{keyIn}
 use Rattle.node.specs.Call.{Call, After, nodeCall}
 use Rattle.node.proofs.Spreads.{role-spreading}
@@ -47,7 +47,7 @@ use Rattle.host.proofs.Calls.{call-still, call-passed, table-in}
 use Rattle.host.proofs.Fits.{put-fits, free-fits, key-fits, call-leaves, blank-fits, KeptFits, counted-fits, node-fits, node-address, loaded-fits}
 
 -- the record of an answer
-answer-node : (b : Called) → answerFrom b .node ≡ b .node
+answer-node : (b : CallAnswer) → answerFrom b .node ≡ b .node
 unfolding answerFrom replyNumbers
 answer-node b = go (b .reply) (b .node)
   where
@@ -120,7 +120,7 @@ step-fits s message sender next fits moved = let (m, read, allowed) = moved-exac
     go read (Allowed.end n some) f = tt
 
 -- The numbers that are put are those of the record that is kept.
-pub kept-back : (address f : List ℕ) (k : Kept) → (k .refusal ≡ 0 → RecordFits (k .node) × (k .node .address ≡ address)) → ((k .refusal ≡ 0 → ⊥) → k .node ≡ nodeOf address f)
+pub kept-back : (address f : List ℕ) (k : RecordAnswer) → (k .refusal ≡ 0 → RecordFits (k .node) × (k .node .address ≡ address)) → ((k .refusal ≡ 0 → ⊥) → k .node ≡ nodeOf address f)
     → nodeOf address (numbersAfter k f) ≡ k .node
 unfolding numbersAfter
 kept-back address f k given refused =

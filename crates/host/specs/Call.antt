@@ -10,9 +10,9 @@ use Rattle.node.specs.declared.Verdict.{Verdict}
 use Rattle.node.specs.declared.Verdict.the-variants.{Own, Answer, Duplicate, Last, Nowhere, NoRow, Relay, Noop, Hand}
 use Rattle.node.specs.declared.Reply.{Reply}
 use Rattle.node.specs.declared.Reply.the-variants.{Refused, Given}
-use Rattle.node.specs.declared.Called.{Called}
+use Rattle.node.specs.declared.CallAnswer.{CallAnswer}
 use Rattle.node.specs.Call.{Call, nodeCall}
-use Rattle.host.specs.declared.call.Answer as A
+use Rattle.host.specs.declared.call.CallNumbers as A
 use Rattle.host.specs.Table.{tableBytes, loaded, saved}
 
 -- the verdicts in the rules' order, from 1
@@ -33,12 +33,12 @@ upNumber true = 1
 upNumber false = 0
 
 -- a reply beside a record
-unfoldable pub replyNumbers : Reply → Record → A.Answer
+unfoldable pub replyNumbers : Reply → Record → A.CallNumbers
 replyNumbers (Refused number) r = record { refusal = number; verdict = 0; «handed_up» = 0; mask = 0; length = 0; node = r }
 replyNumbers (Given v up mask len) r = record { refusal = 0; verdict = verdictNumber v; «handed_up» = upNumber up; mask = mask; length = len; node = r }
 
 -- a call's answer
-unfoldable pub answerFrom : Called → A.Answer
+unfoldable pub answerFrom : CallAnswer → A.CallNumbers
 answerFrom b = replyNumbers (b .reply) (b .node)
 
 -- the table that the bytes hold; of another length, one that is refused with 15 in its turn
@@ -46,7 +46,7 @@ unfoldable pub tableIn : List ℕ → List ℕ
 tableIn bytes = pick (eqb (length bytes) tableBytes) (loaded bytes) (0 ∷ [])
 
 -- the answer's four numbers
-unfoldable pub answerNumbers : A.Answer → List ℕ
+unfoldable pub answerNumbers : A.CallNumbers → List ℕ
 answerNumbers a = a .verdict ∷ a .«handed_up» ∷ a .mask ∷ a .length ∷ []
 
 -- what a call leaves: the number of the refusal, the record, the table, the output, and the answer

@@ -5,7 +5,7 @@ use lib.ListN.{getD}
 use lib.Dec.{leb, eqb}
 use Rattle.base.specs.Pick.{pick}
 use Rattle.node_state.specs.declared.Record.{Record}
-use Rattle.node_state.specs.declared.Kept.{Kept}
+use Rattle.node_state.specs.declared.RecordAnswer.{RecordAnswer}
 use Rattle.node_state.specs.Record.{keeps, blank, fresh}
 
 -- the record that the numbers say; where one is too wide for a record, a blank one, which is refused by 12
@@ -30,11 +30,11 @@ unfoldable pub nodeNumbers : Record → List ℕ
 nodeNumbers r = r .port ∷ r .ttl ∷ r .interfaces ∷ r .links ∷ r .clock ∷ r .tally ∷ []
 
 -- a refusal leaves the numbers as they were
-unfoldable pub numbersAfter : Kept → List ℕ → List ℕ
+unfoldable pub numbersAfter : RecordAnswer → List ℕ → List ℕ
 numbersAfter k f = pick (eqb (k .refusal) 0) (nodeNumbers (k .node)) f
 
 -- a fresh record in the place of another; a refusal leaves that one
-unfoldable pub freshOver : Record → List ℕ → ℕ → ℕ → ℕ → ℕ → Kept
+unfoldable pub freshOver : Record → List ℕ → ℕ → ℕ → ℕ → ℕ → RecordAnswer
 freshOver r address port ttl interfaces links =
     let k = fresh address port ttl interfaces links in
     pick (eqb (k .refusal) 0) k (keeps (k .refusal) r)

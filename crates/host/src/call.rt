@@ -3,16 +3,16 @@ ghost use mathlib.Core.Path.{_≡_};
 ghost use Rattle.node.specs.Call.{callOf};
 ghost use Rattle.host.specs.Call.{verdictNumber, upNumber, answerFrom, leftOf, callLeft};
 use crate::table;
-use node::Called;
+use node::CallAnswer;
 use node::Reply;
 use node::Verdict;
 use node::call;
-use node_state::Kept;
 use node_state::Record;
+use node_state::RecordAnswer;
 
 // A node call's answer: the number of the refusal, 0 for none; the verdict's number (the header names them), whether the message is handed up, the mask
 // of the interfaces to send on, how many bytes to send, all 0 for a refusal; and the record.
-pub struct Answer {
+pub struct CallNumbers {
     pub refusal: u8,
     pub verdict: u8,
     pub handed_up: u8,
@@ -31,7 +31,7 @@ pub fn call_into(
     message: &[u8],
     out: &mut [u8],
     answer: &mut [u64; 4],
-) -> Kept
+) -> RecordAnswer
     ensures { λ r. ⌜ leftOf (r .refusal) (r .node) (now (bytes .exit)) (now (out .exit)) (now (answer .exit)) ≡ callLeft node (now (bytes .entry)) (callOf clock interface (now (names .entry)) (now (message .entry)) (now (out .entry))) (now (answer .entry)) ⌝ }
 {
     if bytes.len() != 2048 {
@@ -39,7 +39,7 @@ pub fn call_into(
         let called = call::node_call(node, &mut none, clock, interface, names, message, out);
         let a = answer_from(called);
         let refusal = a.refusal;
-        return Kept { refusal, node };
+        return RecordAnswer { refusal, node };
     }
     let mut numbers = [0u64; 256];
     table::load(bytes, &mut numbers);
@@ -47,7 +47,7 @@ pub fn call_into(
     let a = answer_from(called);
     let refusal = a.refusal;
     if refusal != 0 {
-        return Kept { refusal, node };
+        return RecordAnswer { refusal, node };
     }
     table::save(&numbers, bytes);
     *answer = [
@@ -57,20 +57,20 @@ pub fn call_into(
         a.length,
     ];
     let next = a.node;
-    Kept {
+    RecordAnswer {
         refusal: 0,
         node: next,
     }
 }
 
 // An answer as numbers.
-fn answer_from(called: Called) -> Answer
+fn answer_from(called: CallAnswer) -> CallNumbers
     ensures { λ r. ⌜ r ≡ answerFrom called ⌝ }
 {
     let reply = called.reply;
     let node = called.node;
     match reply {
-        Reply::Refused(number) => Answer {
+        Reply::Refused(number) => CallNumbers {
             refusal: number,
             verdict: 0,
             handed_up: 0,
@@ -83,7 +83,7 @@ fn answer_from(called: Called) -> Answer
             handed_up,
             mask,
             length,
-        } => Answer {
+        } => CallNumbers {
             refusal: 0,
             verdict: verdict_number(verdict),
             handed_up: up_number(handed_up),

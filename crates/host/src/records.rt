@@ -2,11 +2,11 @@
 ghost use mathlib.Core.Path.{_≡_};
 ghost use Rattle.node_state.specs.Record.{blank};
 ghost use Rattle.host.specs.Records.{nodeOf, nodeNumbers, numbersAfter, freshOver};
-use node_state::Kept;
 use node_state::Record;
+use node_state::RecordAnswer;
 
 // The number of the refusal; the numbers of the record that is kept, or as they were.
-pub fn put(kept: Kept, numbers: &mut [u64; 6]) -> u8
+pub fn put(kept: RecordAnswer, numbers: &mut [u64; 6]) -> u8
     ensures { λ r. ⌜ r ≡ kept .refusal ⌝ }
     ensures { λ r. ⌜ now (numbers .exit) ≡ numbersAfter kept (now (numbers .entry)) ⌝ }
 {
@@ -85,13 +85,13 @@ pub fn fresh_over(
     ttl: u32,
     interfaces: u64,
     links: u64,
-) -> Kept
+) -> RecordAnswer
     ensures { λ r. ⌜ r ≡ freshOver node (now (address .entry)) port ttl interfaces links ⌝ }
 {
     let kept = Record::fresh(*address, port, ttl, interfaces, links);
     let refusal = kept.refusal;
     if refusal != 0 {
-        return Kept { refusal, node };
+        return RecordAnswer { refusal, node };
     }
     kept
 }

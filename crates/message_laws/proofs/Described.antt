@@ -23,7 +23,7 @@ use Rattle.options.specs.declared.pair.Tag.{Tag}
 use Rattle.options.specs.declared.pair.Pair as P
 use Rattle.options.specs.Text.{spanOf}
 use Rattle.options.specs.Locator.{nullProtocol, nullPort}
-use Rattle.rfc8990.specs.Message.{Loc, orNull, Obj, Pair, Aim, Ending, Msg}
+use Rattle.rfc8990.specs.Message.{Loc, orNull, Obj, Pair, Tgts, Outc, Msg}
 use Rattle.rfc8990.specs.Cddl.{uint, LocatorItems, PairItems, Value}
 use Rattle.message_laws.specs.Stands.{Stands, ArrayHead, Before, Addressed, TagIs, ValueIs, ObjectiveIs, PairIs}
 use Rattle.message_laws.proofs.Bridge.{stands-once}
@@ -33,7 +33,7 @@ use Rattle.message.specs.declared.Extra.{Extra}
 use Rattle.options.specs.declared.Outcome.{Outcome}
 use Rattle.message.specs.declared.Message.{Message}
 use Rattle.message.specs.declared.Message.the-variants as M
-use Rattle.message_laws.specs.Describes.{KindIs, NumberIs, InitiatorIs, AimIs, ExtraIs, OutcomeIs, Describes}
+use Rattle.message_laws.specs.Describes.{KindIs, NumberIs, InitiatorIs, TargetsIs, ExtraIs, OutcomeIs, Describes}
 
 -- ---- from one start
 -- items end at one place
@@ -186,12 +186,12 @@ pairs-count PairItems.empty = refl
 pairs-count (PairItems.more i is) = ap suc (pairs-count is)
 
 -- locators or a divert
-aim-once : {s : List ℕ} {p p′ e e′ : ℕ} {t t′ : Targets} {aim : Aim} → p ≡ p′ → AimIs s p e t aim → AimIs s p′ e′ t′ aim → t ≡ t′
-aim-once q (AimIs.locators {series} at i) (AimIs.locators {series = series′} at′ i′) =
+tgts-once : {s : List ℕ} {p p′ e e′ : ℕ} {t t′ : Targets} {tgts : Tgts} → p ≡ p′ → TargetsIs s p e t tgts → TargetsIs s p′ e′ t′ tgts → t ≡ t′
+tgts-once q (TargetsIs.locators {series} at i) (TargetsIs.locators {series = series′} at′ i′) =
     let place : series .at ≡ series′ .at = at ∙ q ∙ sym at′ in
     let many = locators-count (i .are) ∙ sym (locators-count (i′ .are)) in
     ap Targets.Locators (series-ext series series′ place (i .many ∙ many ∙ sym (i′ .many)))
-aim-once q (AimIs.divert {series} head lead i) (AimIs.divert {series = series′} head′ lead′ i′) =
+tgts-once q (TargetsIs.divert {series} head lead i) (TargetsIs.divert {series = series′} head′ lead′ i′) =
     let place = ends-once (head-once q head head′) lead lead′ in
     let many = locators-count (i .are) ∙ sym (locators-count (i′ .are)) in
     ap Targets.Divert (series-ext series series′ place (i .many ∙ many ∙ sym (i′ .many)))
@@ -202,7 +202,7 @@ extra-once (ExtraIs.without e) (ExtraIs.without e′) = refl
 extra-once (ExtraIs.with-one i) (ExtraIs.with-one i′) = ap Extra.With (objective-ended i i′)
 
 -- how a negotiation ends
-outcome-once : {s : List ℕ} {r r′ : Outcome} {e : Ending} → OutcomeIs s r e → OutcomeIs s r′ e → r ≡ r′
+outcome-once : {s : List ℕ} {r r′ : Outcome} {e : Outc} → OutcomeIs s r e → OutcomeIs s r′ e → r ≡ r′
 outcome-once OutcomeIs.accept OutcomeIs.accept = refl
 outcome-once OutcomeIs.decline OutcomeIs.decline = refl
 outcome-once (OutcomeIs.reason h) (OutcomeIs.reason h′) = ap Outcome.Reason (h ∙ sym h′)
@@ -216,7 +216,7 @@ described-once (Describes.discovery {session} k n i o) (Describes.discovery k′
     ap₂ (M.Discovery session) initiator (objective-once after o o′)
 described-once (Describes.response {session} {ttl} k n i t a x) (Describes.response k′ n′ i′ t′ a′ x′) =
     let (after, initiator) = initiator-once (number-once (kind-once k k′) n n′) i i′ in
-    let targets = aim-once (number-once after t t′) a a′ in
+    let targets = tgts-once (number-once after t t′) a a′ in
     let extra = extra-once x x′ in
     cc
 described-once (Describes.request-negotiation {session} _ _ o) (Describes.request-negotiation _ _ o′) = ap (M.RequestNegotiation session) (objective-ended o o′)

@@ -5,8 +5,8 @@ use mathlib.Core.List.{List, _∷_}
 use mathlib.Core.Option.{Option, some}
 use Prim.Native.Nat.{ℕ}
 use Rattle.cbor.specs.Tree.{Item, Items}
-use Rattle.rfc8990.specs.Message.{Loc, Obj, Aim, Ending, Msg}
-use Rattle.rfc8990.specs.Cddl.{uint, joined, Number, Initiator, LocatorItem, LocatorItems, ObjectiveItem, OptionalItems, AimItems, EndingItem, MessageItem, Value}
+use Rattle.rfc8990.specs.Message.{Loc, Obj, Tgts, Outc, Msg}
+use Rattle.rfc8990.specs.Cddl.{uint, joined, Number, Initiator, LocatorItem, LocatorItems, ObjectiveItem, OptionalItems, TgtsItems, OutcItem, MessageItem, Value}
 use Rattle.message_laws.proofs.One.{objective-one, locator-one, locators-one, pairs-one}
 
 -- ---- parts
@@ -16,10 +16,10 @@ number-one (Number.number _) (Number.number _) = refl
 initiator-one : {x : Item} {c c′ : List ℕ} → Initiator x c → Initiator x c′ → c ≡ c′
 initiator-one (Initiator.initiator _) (Initiator.initiator _) = refl
 
-ending-one : {x : Item} {e e′ : Ending} → EndingItem x e → EndingItem x e′ → e ≡ e′
-ending-one EndingItem.accept EndingItem.accept = refl
-ending-one EndingItem.decline EndingItem.decline = refl
-ending-one EndingItem.reason EndingItem.reason = refl
+outc-one : {x : Item} {e e′ : Outc} → OutcItem x e → OutcItem x e′ → e ≡ e′
+outc-one OutcItem.accept OutcItem.accept = refl
+outc-one OutcItem.decline OutcItem.decline = refl
+outc-one OutcItem.reason OutcItem.reason = refl
 
 optional-one : {xs : Items} {o o′ : Option (Obj Value)} → OptionalItems xs o → OptionalItems xs o′ → o ≡ o′
 optional-one OptionalItems.without OptionalItems.without = refl
@@ -70,13 +70,13 @@ same-divert : {w k w′ k′ : ℕ} {xs ys xs′ ys′ : Items} → Items.more (
 same-divert e = (cc, cc)
 
 -- items are locators or a divert in one way
-aim-one : {xs xs′ : Items} {a a′ : Aim} {o o′ : Option (Obj Value)} → AimItems xs a o → AimItems xs′ a′ o′ → xs ≡ xs′ → (a ≡ a′) × (o ≡ o′)
-aim-one (AimItems.locators is i) (AimItems.locators is′ i′) e = let (same, rest) = aimed-one is i is′ i′ e in (ap Aim.locators same, rest)
-aim-one (AimItems.locators {ys = ys} is i) (AimItems.divert is′ i′) e = absurd (not-mixed ys is e)
-aim-one (AimItems.divert is i) (AimItems.locators {ys = ys} is′ i′) e = absurd (not-mixed ys is′ (sym e))
-aim-one (AimItems.divert is i) (AimItems.divert is′ i′) e =
+tgts-one : {xs xs′ : Items} {a a′ : Tgts} {o o′ : Option (Obj Value)} → TgtsItems xs a o → TgtsItems xs′ a′ o′ → xs ≡ xs′ → (a ≡ a′) × (o ≡ o′)
+tgts-one (TgtsItems.locators is i) (TgtsItems.locators is′ i′) e = let (same, rest) = aimed-one is i is′ i′ e in (ap Tgts.locators same, rest)
+tgts-one (TgtsItems.locators {ys = ys} is i) (TgtsItems.divert is′ i′) e = absurd (not-mixed ys is e)
+tgts-one (TgtsItems.divert is i) (TgtsItems.locators {ys = ys} is′ i′) e = absurd (not-mixed ys is′ (sym e))
+tgts-one (TgtsItems.divert is i) (TgtsItems.divert is′ i′) e =
     let (same, rest) = same-divert e in
-    (ap Aim.divert (locators-one is (over LocatorItems (sym same) is′)), optional-one i (over OptionalItems (sym rest) i′))
+    (ap Tgts.divert (locators-one is (over LocatorItems (sym same) is′)), optional-one i (over OptionalItems (sym rest) i′))
 
 -- ---- messages
 -- an item is one message at most
@@ -84,12 +84,12 @@ pub message-one : {x : Item} {m m′ : Msg Value} → MessageItem x m → Messag
 message-one MessageItem.noop MessageItem.noop = refl
 message-one (MessageItem.discovery i j o) (MessageItem.discovery i′ j′ o′) = rw (number-one i i′, initiator-one j j′, objective-one o o′)
 message-one (MessageItem.response i j t is) (MessageItem.response i′ j′ t′ is′) =
-    let (aim, extra) = aim-one is is′ refl in
-    rw (number-one i i′, initiator-one j j′, number-one t t′, aim, extra)
+    let (tgts, extra) = tgts-one is is′ refl in
+    rw (number-one i i′, initiator-one j j′, number-one t t′, tgts, extra)
 message-one (MessageItem.request-negotiation i o) (MessageItem.request-negotiation i′ o′) = rw (number-one i i′, objective-one o o′)
 message-one (MessageItem.request-synchronization i o) (MessageItem.request-synchronization i′ o′) = rw (number-one i i′, objective-one o o′)
 message-one (MessageItem.negotiate i o) (MessageItem.negotiate i′ o′) = rw (number-one i i′, objective-one o o′)
-message-one (MessageItem.end i o) (MessageItem.end i′ o′) = rw (number-one i i′, ending-one o o′)
+message-one (MessageItem.end i o) (MessageItem.end i′ o′) = rw (number-one i i′, outc-one o o′)
 message-one (MessageItem.wait i t) (MessageItem.wait i′ t′) = rw (number-one i i′, number-one t t′)
 message-one (MessageItem.synch i o) (MessageItem.synch i′ o′) = rw (number-one i i′, objective-one o o′)
 message-one (MessageItem.flood i j t is) (MessageItem.flood i′ j′ t′ is′) = rw (number-one i i′, initiator-one j j′, number-one t t′, pairs-one is is′)

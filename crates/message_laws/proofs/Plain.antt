@@ -16,9 +16,9 @@ use Rattle.cbor.specs.Token.{tokenAt, sizeAt, itemsIn, upTo}
 use Rattle.cbor.specs.Tree.{Item, Items, count, depth}
 use Rattle.cbor.proofs.Tokens.{token-is, is-array}
 use Rattle.options.specs.Text.{contentIn, contentOf}
-use Rattle.rfc8990.specs.Message.{Ending, Msg}
-use Rattle.rfc8990.specs.Cddl.{uint, list, Number, EndingItem, MessageItem}
-use Rattle.rfc8990.specs.Limits.{Utf8, textsOf, namesOf, endingTexts}
+use Rattle.rfc8990.specs.Message.{Outc, Msg}
+use Rattle.rfc8990.specs.Cddl.{uint, list, Number, OutcItem, MessageItem}
+use Rattle.rfc8990.specs.Limits.{Utf8, textsOf, namesOf, outcTexts}
 use Rattle.message_laws.specs.Stands.{Stands, StandAll, ValueIs, Before}
 use Rattle.message_laws.proofs.Bridge.{token-heading, advances, join, none as no-items, last, only, stands-within}
 use Rattle.message_laws.proofs.Pieces.{array-at, array-items, number-here, number-is}
@@ -107,16 +107,16 @@ invalid-with-complete {s} {at} {e} {y = y} a i d =
 -- ---- 6, End
 module _ {s : List ℕ} {at p session : ℕ} (k : Kinded s 6 3 at) (i : NumberHere s at p session) where
   -- the session and the option are the message
-  ended : {e bad : ℕ} {x : Item} {outcome : Outcome} {ending : Ending} → Stands s p e x → EndingItem x ending → (e ≡ length s → OutcomeIs s outcome ending)
-      → bad ≡ 0 ↔ Every Utf8 (endingTexts ending) → ShapeOk s (S.Good (M.End session outcome) e bad 0)
+  ended : {e bad : ℕ} {x : Item} {outcome : Outcome} {outc : Outc} → Stands s p e x → OutcItem x outc → (e ≡ length s → OutcomeIs s outcome outc)
+      → bad ≡ 0 ↔ Every Utf8 (outcTexts outc) → ShapeOk s (S.Good (M.End session outcome) e bad 0)
   unfolding count textsOf namesOf
-  ended {e} {x = x} {ending = ending} stands is described texts =
-      built k e _ (Msg.end session ending) refl (join (i .is .stands) (last stands)) (λ w v. MessageItem.end (Number.number (i .low)) is)
+  ended {e} {x = x} {outc = outc} stands is described texts =
+      built k e _ (Msg.end session outc) refl (join (i .is .stands) (last stands)) (λ w v. MessageItem.end (Number.number (i .low)) is)
       (λ full. Describes.end (described full)) texts (clean tt)
 
   -- what is read is an accept or a decline
   option-sound : ShapeOk s (optionAt s session p)
-  unfolding optionAt count endingTexts
+  unfolding optionAt count outcTexts
   option-sound =
       let o = tokenAt s p in
       let x = tokenAt s (o .next) in
@@ -133,8 +133,8 @@ module _ {s : List ℕ} {at p session : ℕ} (k : Kinded s 6 3 at) (i : NumberHe
       = λ v e. subst (λ (v : ℕ). Stands s (o .next) (x .next) (uint (number .width) v)) e (number .stands) in
       pick-case (ShapeOk s) _
       (λ one. pick-case (ShapeOk s) _
-      (λ e. ended (array-at h array (eqb-true (o .arg) 1 one) (last (lead 101 (eqb-true (upTo 102 x) 101 e)))) EndingItem.accept (λ _. OutcomeIs.accept) (clean tt))
-      (λ e. ended (array-at h array (eqb-true (o .arg) 1 one) (last (lead 102 (omega (arith, eqb-false (upTo 102 x) 101 e))))) EndingItem.decline (λ _. OutcomeIs.decline) (clean tt)))
+      (λ e. ended (array-at h array (eqb-true (o .arg) 1 one) (last (lead 101 (eqb-true (upTo 102 x) 101 e)))) OutcItem.accept (λ _. OutcomeIs.accept) (clean tt))
+      (λ e. ended (array-at h array (eqb-true (o .arg) 1 one) (last (lead 102 (omega (arith, eqb-false (upTo 102 x) 101 e))))) OutcItem.decline (λ _. OutcomeIs.decline) (clean tt)))
       (λ _. past-case _
       (λ e. held-case _
       (λ two. held-case _
@@ -143,7 +143,7 @@ module _ {s : List ℕ} {at p session : ℕ} (k : Kinded s 6 3 at) (i : NumberHe
       let string = string-at (k .bytes) true (eqb-true (t .major) 3 text) in
       let here : t .at ≡ x .next = token-is s (x .next) t refl .here in
       let place : t .at ≢ 0 = λ z. omega (arith, advances (number .stands)) in
-      ended (array-at h array (eqb-true (o .arg) 2 two) (join (lead 102 (omega (arith, eqb-false (upTo 102 x) 101 e))) (last (string .stands)))) EndingItem.reason
+      ended (array-at h array (eqb-true (o .arg) 2 two) (join (lead 102 (omega (arith, eqb-false (upTo 102 x) 101 e))) (last (string .stands)))) OutcItem.reason
       (λ full. OutcomeIs.reason (subst (λ (q : ℕ). Before q (contentIn s t) (contentOf t)) full (string .held))) (single (bad-text (contentIn s t) (t .at) place)))))))))
 
 -- what is read is an End
@@ -177,18 +177,18 @@ led {s} {p} {xs = xs} a hi =
     }
 
 -- an accept or a decline is read
-option-complete : {s : List ℕ} {p e : ℕ} {x : Item} {ending : Ending} (session : ℕ) → StandAll s p e (list (x ∷ [])) → EndingItem x ending → Reads (optionAt s session p)
+option-complete : {s : List ℕ} {p e : ℕ} {x : Item} {outc : Outc} (session : ℕ) → StandAll s p e (list (x ∷ [])) → OutcItem x outc → Reads (optionAt s session p)
 unfolding optionAt count
-option-complete session a EndingItem.accept =
+option-complete session a OutcItem.accept =
     let l = led a (lit≤ tt) in
     skipped _ (ne-eqb _ _ (l .filled))
     (skipped _ (ap (λ (n : ℕ). ltb n 101) (l .lead)) (skipped _ (ap (λ (n : ℕ). ltb 102 n) (l .lead)) (taken _ (eq-eqb _ _ (l .arg)) (taken _ (eq-eqb _ _ (l .lead)) Reads.reads))))
-option-complete session a EndingItem.decline =
+option-complete session a OutcItem.decline =
     let l = led a (lit≤ tt) in
     skipped _ (ne-eqb _ _ (l .filled))
     (skipped _ (ap (λ (n : ℕ). ltb n 101) (l .lead))
     (skipped _ (ap (λ (n : ℕ). ltb 102 n) (l .lead)) (taken _ (eq-eqb _ _ (l .arg)) (skipped _ (ap (λ (n : ℕ). eqb n 101) (l .lead)) Reads.reads))))
-option-complete session a EndingItem.reason =
+option-complete session a OutcItem.reason =
     let l = led a (lit≤ tt) in
     let (text, long, rest) = string-passed (l .rest) in
     skipped _ (ne-eqb _ _ (l .filled))
@@ -197,7 +197,7 @@ option-complete session a EndingItem.reason =
     (skipped _ (ap (λ (n : ℕ). eqb n 1) (l .arg)) (skipped _ (ap (λ (n : ℕ). eqb n 101) (l .lead)) (taken _ (eq-eqb _ _ (l .arg)) (taken _ (eq-eqb _ _ text) Reads.reads))))))
 
 -- an End is read
-pub end-complete : {s : List ℕ} {at e session : ℕ} {x y : Item} {ending : Ending} → StandAll s at e (list (x ∷ y ∷ [])) → Number x session → EndingItem y ending
+pub end-complete : {s : List ℕ} {at e session : ℕ} {x y : Item} {outc : Outc} → StandAll s at e (list (x ∷ y ∷ [])) → Number x session → OutcItem y outc
     → Reads (endAt s 3 at)
 unfolding endAt
 end-complete a i j = let (e, b) = number-passed a i in taken _ refl (skipped _ e (option-complete _ b j))

@@ -20,9 +20,9 @@ use Rattle.cbor.proofs.Tokens.{is-array}
 use Rattle.options.specs.declared.objective.ObjectiveRead.{ObjectiveRead}
 use Rattle.options.specs.Text.{firstOf}
 use Rattle.options.specs.Objective.{objectiveAt}
-use Rattle.rfc8990.specs.Message.{Loc, Obj, Aim, Msg}
-use Rattle.rfc8990.specs.Cddl.{uint, joined, Number, Initiator, LocatorItems, OptionalItems, AimItems, MessageItem, Value}
-use Rattle.rfc8990.specs.Limits.{Utf8, Short, locTexts, optionalNames, aimTexts, textsOf, namesOf}
+use Rattle.rfc8990.specs.Message.{Loc, Obj, Tgts, Msg}
+use Rattle.rfc8990.specs.Cddl.{uint, joined, Number, Initiator, LocatorItems, OptionalItems, TgtsItems, MessageItem, Value}
+use Rattle.rfc8990.specs.Limits.{Utf8, Short, locTexts, optionalNames, tgtsTexts, textsOf, namesOf}
 use Rattle.message_laws.specs.Stands.{Stands, StandAll, ArrayHead, ObjectiveIs}
 use Rattle.message_laws.proofs.Objective.{objective-sound}
 use Rattle.message_laws.proofs.Bridge.{token-heading, join, none as no-items, last, split, none-end, stands-within}
@@ -36,7 +36,7 @@ use Rattle.message.specs.declared.shape.Shape.the-variants as S
 use Rattle.message.specs.Opening.{objectiveLevels}
 use Rattle.message.specs.Sequence.{locatorsFrom}
 use Rattle.message.specs.Response.{responseOf, restOf, restAt, divertOf, divertAt, locatedOf, locatedAt, targetsAt, responseBy, responseAt}
-use Rattle.message_laws.specs.Describes.{AimIs, ExtraIs, Describes}
+use Rattle.message_laws.specs.Describes.{TargetsIs, ExtraIs, Describes}
 use Rattle.message_laws.proofs.Noted.{clean, single, none-noted, first-noted, then-noted, more-noted}
 use Rattle.message_laws.proofs.Whole.{partLevels, IfGood, ShapeOk, past-case, held-case, Reads, taken, skipped, Kinded, built}
 use Rattle.message_laws.proofs.Heads.{uint-passed, array-passed}
@@ -109,12 +109,12 @@ module _ {s : List ℕ} {opening : Opening} {targets : Targets} {left p bad : �
 
 module _ {s : List ℕ} {n at next : ℕ} (k : Kinded s 2 n at) {opening : Opening} (h : OpeningHere s at next opening) where
   -- the opening and what follows it are the message
-  responded : {e e′ bad long : ℕ} {xs : Items} {aim : Aim} {obj : Option (Obj Value)} {targets : Targets} {extra : Extra} → n ≡ 4 + count xs → StandAll s next e xs → AimItems xs aim obj
-      → AimIs s next e′ targets aim → (e ≡ length s → ExtraIs s e′ extra obj) → bad ≡ 0 ↔ Every Utf8 (aimTexts aim ++ optionalNames obj) → long ≡ 0 ↔ Every Short (optionalNames obj)
+  responded : {e e′ bad long : ℕ} {xs : Items} {tgts : Tgts} {obj : Option (Obj Value)} {targets : Targets} {extra : Extra} → n ≡ 4 + count xs → StandAll s next e xs → TgtsItems xs tgts obj
+      → TargetsIs s next e′ targets tgts → (e ≡ length s → ExtraIs s e′ extra obj) → bad ≡ 0 ↔ Every Utf8 (tgtsTexts tgts ++ optionalNames obj) → long ≡ 0 ↔ Every Short (optionalNames obj)
       → ShapeOk s (S.Good (responseOf opening targets extra) e bad long)
   unfolding count textsOf namesOf
-  responded {aim = aim} {obj} counted stand are pointed followed texts names =
-      built k _ _ (Msg.response _ (h .initiator .content) _ aim obj) (counted ∙ omega arith)
+  responded {tgts = tgts} {obj} counted stand are pointed followed texts names =
+      built k _ _ (Msg.response _ (h .initiator .content) _ tgts obj) (counted ∙ omega arith)
       (join (h .session .is .stands) (join (h .initiator .is .stands) (join (h .ttl .is .stands) stand)))
       (λ w v. MessageItem.response (Number.number (h .session .low)) (Initiator.initiator (h .initiator .size)) (Number.number (h .ttl .low)) are)
       (λ full. Describes.response (k .is) (h .session .is) (h .initiator .is) (h .ttl .is) pointed (followed full)) texts names
@@ -123,13 +123,13 @@ module _ {s : List ℕ} {n at next : ℕ} (k : Kinded s 2 n at) {opening : Openi
   located-finish : {many p′ left bad end bad′ long : ℕ} {extra : Extra} {xs : Items} {ls : List Loc} → n ≡ 4 + (count xs + left) → many ≡ count xs → (count xs ≡ 0 → ⊥)
       → LocatorItems xs ls → StandAll s next p′ xs → bad ≡ 0 ↔ Every Utf8 (flatMap locTexts ls) → RestHere s p′ left bad end bad′ long extra
       → ShapeOk s (S.Good (responseOf opening (Targets.Locators (record { at = next; many = many })) extra) end bad′ long)
-  unfolding count aimTexts
+  unfolding count tgtsTexts
   located-finish counted many filled LocatorItems.empty stand texts r = absurd (filled refl)
   located-finish counted many filled (LocatorItems.more {x} {l} {xs} {ls} i is) stand texts r =
       let all = Items.more x xs in
       responded (counted ∙ ap (λ (c : ℕ). 4 + c) (ap (λ (c : ℕ). count all + c) (r .counted) ∙ sym (count-joined all (r .items)))) (join-all stand (r .stand))
-      (AimItems.locators (LocatorItems.more i is) (r .are))
-      (AimIs.locators refl (record { items = all; stand = stand; many = many; are = LocatorItems.more i is }))
+      (TgtsItems.locators (LocatorItems.more i is) (r .are))
+      (TargetsIs.locators refl (record { items = all; stand = stand; many = many; are = LocatorItems.more i is }))
       (r .is) (then-noted Utf8 (flatMap locTexts (l ∷ ls)) (optionalNames (r .obj)) texts (r .texts)) (r .names)
 
   -- what the loop answers
@@ -151,11 +151,11 @@ module _ {s : List ℕ} {n at next : ℕ} (k : Kinded s 2 n at) {opening : Openi
   divert-finish : {many from p′ q left bad end bad′ long v : ℕ} {extra : Extra} {xs : Items} {ls : List Loc} → n ≡ 5 + left → many ≡ count xs → (count xs ≡ 0 → ⊥)
       → LocatorItems xs ls → StandAll s from p′ xs → ArrayHead s next q (suc many) → Stands s q from (uint v 100) → bad ≡ 0 ↔ Every Utf8 (flatMap locTexts ls)
       → RestHere s p′ left bad end bad′ long extra → ShapeOk s (S.Good (responseOf opening (Targets.Divert (record { at = from; many = many })) extra) end bad′ long)
-  unfolding count aimTexts
+  unfolding count tgtsTexts
   divert-finish counted many filled LocatorItems.empty stand head lead texts r = absurd (filled refl)
   divert-finish counted many filled (LocatorItems.more {x} {l} {xs} {ls} i is) stand head lead texts r =
-      responded (counted ∙ omega (arith, r .counted)) (join (head-array head (ap suc many) (join lead stand)) (r .stand)) (AimItems.divert (LocatorItems.more i is) (r .are))
-      (AimIs.divert head lead (record { items = Items.more x xs; stand = stand; many = many; are = LocatorItems.more i is }))
+      responded (counted ∙ omega (arith, r .counted)) (join (head-array head (ap suc many) (join lead stand)) (r .stand)) (TgtsItems.divert (LocatorItems.more i is) (r .are))
+      (TargetsIs.divert head lead (record { items = Items.more x xs; stand = stand; many = many; are = LocatorItems.more i is }))
       (r .is) (then-noted Utf8 (flatMap locTexts (l ∷ ls)) (optionalNames (r .obj)) texts (r .texts)) (r .names)
 
   -- what the loop answers in a divert
@@ -241,10 +241,10 @@ unfolding count
 filled (LocatorItems.more i is) = omega arith
 
 -- what follows the ttl has items
-some-items : {xs : Items} {aim : Aim} {obj : Option (Obj Value)} → AimItems xs aim obj → 1 ≤ count xs
+some-items : {xs : Items} {tgts : Tgts} {obj : Option (Obj Value)} → TgtsItems xs tgts obj → 1 ≤ count xs
 unfolding count
-some-items (AimItems.locators {xs} {ys} is o) = omega (arith, count-joined xs ys, filled is)
-some-items (AimItems.divert is o) = omega arith
+some-items (TgtsItems.locators {xs} {ys} is o) = omega (arith, count-joined xs ys, filled is)
+some-items (TgtsItems.divert is o) = omega arith
 
 -- the first locator is led by more than 100
 first-led : {s : List ℕ} {p e : ℕ} {xs : Items} {l : Loc} {ls : List Loc} (ys : Items) → StandAll s p e (joined xs ys) → LocatorItems xs (l ∷ ls)
@@ -289,14 +289,14 @@ module _ (s : List ℕ) (opening : Opening) where
       (subst (λ (r : LocatorsRead). Reads (divertOf s opening left (tokenAt s p .arg - 1) from r)) (sym all) (taken _ refl (rest-complete bad _ (t .rest) o d counted)))
 
   -- what follows the ttl is read
-  targets-complete : {p e parts : ℕ} {xs : Items} {aim : Aim} {obj : Option (Obj Value)} → StandAll s p e xs → depths xs ≤ partLevels → parts ≡ count xs → AimItems xs aim obj
+  targets-complete : {p e parts : ℕ} {xs : Items} {tgts : Tgts} {obj : Option (Obj Value)} → StandAll s p e xs → depths xs ≤ partLevels → parts ≡ count xs → TgtsItems xs tgts obj
       → Reads (targetsAt s opening parts p)
   unfolding targetsAt depth count
-  targets-complete {p} a d counted (AimItems.locators {ys = ys} is o) =
+  targets-complete {p} a d counted (TgtsItems.locators {ys = ys} is o) =
       let x = tokenAt s (tokenAt s p .next) in
       let located = located-complete a d counted is o in
       both Reads _ located (skipped _ (ne-eqb (upTo 100 x) 100 (λ z. omega (arith, above 100 x (omega (arith, first-led ys a is))))) located)
-  targets-complete {p} a d counted (AimItems.divert {xs = xs} is o) =
+  targets-complete {p} a d counted (TgtsItems.divert {xs = xs} is o) =
       let t = array-passed a in
       let (number, hundred, rest) = uint-passed (t .items) in
       skipped _ (ne-eqb (itemsIn (tokenAt s p)) 0 (array-items (tokenAt s p) (count xs) (t .major) (t .arg)))
@@ -304,8 +304,8 @@ module _ (s : List ℕ) (opening : Opening) where
       (divert-complete a (omega arith) (omega arith) is o))
 
 -- a Response is read
-pub response-complete : {s : List ℕ} {n at e session ttl : ℕ} {x y z : Item} {xs : Items} {from : List ℕ} {aim : Aim} {obj : Option (Obj Value)}
-    → StandAll s at e (Items.more x (Items.more y (Items.more z xs))) → Number x session → Initiator y from → Number z ttl → AimItems xs aim obj
+pub response-complete : {s : List ℕ} {n at e session ttl : ℕ} {x y z : Item} {xs : Items} {from : List ℕ} {tgts : Tgts} {obj : Option (Obj Value)}
+    → StandAll s at e (Items.more x (Items.more y (Items.more z xs))) → Number x session → Initiator y from → Number z ttl → TgtsItems xs tgts obj
     → depths xs ≤ partLevels → n ≡ 4 + count xs → Reads (responseAt s n at)
 unfolding responseAt responseBy
 response-complete {s} {n} {at} a i j k is d counted =

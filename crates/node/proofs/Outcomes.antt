@@ -23,7 +23,7 @@ use Rattle.base.specs.Bytes.{sameBytes}
 use Rattle.names.specs.Names.{isNamed}
 use Rattle.writer.specs.declared.Written.{Written}
 use Rattle.node_state.specs.declared.Record.{Record}
-use Rattle.node.specs.declared.Called.{Called}
+use Rattle.node.specs.declared.CallAnswer.{CallAnswer}
 use Rattle.node.specs.declared.Reply.the-variants.{Refused, Given}
 use Rattle.node.specs.declared.Verdict.{Verdict}
 use Rattle.node.specs.declared.Verdict.the-variants.{Own, Answer, Duplicate, Last, Nowhere, NoRow, Relay, Noop, Hand}
@@ -79,20 +79,20 @@ found-room t row e room =
     elim (ℕ-discrete (length t) 256) [ yes sized ↦ sized | no other ↦ let none : row ≡ 64 = e ∙ of-other t (lowestFree t) 64 other in absurd (omega arith) ]
 
 module _ (r : Record) (t : List ℕ) (c : Call) (s : Spread) where
-  pub own-outcome : (b : Called) → b ≡ replies (Given Own false 0 0) r → sameBytes (held (c .message) (s .initiator)) (r .address) ≡ true
+  pub own-outcome : (b : CallAnswer) → b ≡ replies (Given Own false 0 0) r → sameBytes (held (c .message) (s .initiator)) (r .address) ≡ true
       → afterOf b t (c .output) ≡ carriedOut r t c s (verdictOn r t c s)
   unfolding verdictOn carriedOut quiet pick
   own-outcome b e own = rw (own, e) refl
 
   module _ (not-own : sameBytes (held (c .message) (s .initiator)) (r .address) ≡ false) where
-    pub answer-outcome : (b : Called) (out : List ℕ) → b ≡ replies (Given Answer false (2 ^ c .interface) (length (response r (c .message) s))) r
+    pub answer-outcome : (b : CallAnswer) (out : List ℕ) → b ≡ replies (Given Answer false (2 ^ c .interface) (length (response r (c .message) s))) r
         → out ≡ written (response r (c .message) s) (c .output) → (not (s .flood) && isNamed (c .names) (held (c .message) (s .objective .name))) ≡ true
         → afterOf b t out ≡ carriedOut r t c s (verdictOn r t c s)
     unfolding verdictOn carriedOut answered pick
     answer-outcome b out e f ours = rw (not-own, ours, e, f) refl
 
     module _ (not-named : (not (s .flood) && isNamed (c .names) (held (c .message) (s .objective .name))) ≡ false) where
-      pub duplicate-outcome : (b : Called) → b ≡ replies (Given Duplicate false 0 0) r → isKnown (keyIn (c .message) s) t ≡ true
+      pub duplicate-outcome : (b : CallAnswer) → b ≡ replies (Given Duplicate false 0 0) r → isKnown (keyIn (c .message) s) t ≡ true
           → afterOf b t (c .output) ≡ carriedOut r t c s (verdictOn r t c s)
       unfolding verdictOn carriedOut quiet pick
       duplicate-outcome b e known = rw (not-own, not-named, known, e) refl
@@ -101,19 +101,19 @@ module _ (r : Record) (t : List ℕ) (c : Call) (s : Spread) where
       unfolding verdictOn pick
       later-outcome a unknown e = rw (not-own, not-named, unknown) e
 
-  pub last-outcome : (b : Called) → b ≡ replies (Given Last (s .flood) 0 0) r → s .objective .count ≤ 1 → afterOf b t (c .output) ≡ carriedOut r t c s (laterVerdict r t c s)
+  pub last-outcome : (b : CallAnswer) → b ≡ replies (Given Last (s .flood) 0 0) r → s .objective .count ≤ 1 → afterOf b t (c .output) ≡ carriedOut r t c s (laterVerdict r t c s)
   unfolding laterVerdict carriedOut quiet pick
   last-outcome b e few = rw (le-leb (s .objective .count) 1 few, e) refl
 
   module _ (counts : 1 < s .objective .count) where
-    pub nowhere-outcome : (b : Called) → b ≡ replies (Given Nowhere (s .flood) 0 0) r → others r (c .interface) ≡ 0
+    pub nowhere-outcome : (b : CallAnswer) → b ≡ replies (Given Nowhere (s .flood) 0 0) r → others r (c .interface) ≡ 0
         → afterOf b t (c .output) ≡ carriedOut r t c s (laterVerdict r t c s)
     unfolding laterVerdict carriedOut quiet pick
     nowhere-outcome b e none = rw (lt-leb (s .objective .count) 1 counts, eq-eqb (others r (c .interface)) 0 none, e) refl
 
     module _ (some : others r (c .interface) ≡ 0 → ⊥) where
       module _ (k : Key) (row : ℕ) (t′ : List ℕ) (found : (row ≡ whereSized t (lowestFree t) 64) × (t′ ≡ whereSized t (filled t k (r .clock)) t)) where
-        pub norow-outcome : length t ≡ 256 → (b : Called) → b ≡ replies (Given NoRow (s .flood) 0 0) r → 64 ≤ row
+        pub norow-outcome : length t ≡ 256 → (b : CallAnswer) → b ≡ replies (Given NoRow (s .flood) 0 0) r → 64 ≤ row
             → afterOf b t′ (c .output) ≡ carriedOut r t c s (laterVerdict r t c s)
         unfolding laterVerdict carriedOut quiet filled pick
         norow-outcome sized b e full =
@@ -121,7 +121,7 @@ module _ (r : Record) (t : List ℕ) (c : Call) (s : Spread) where
             let none : 64 ≤ lowestFree t = rw lowest at full in
             rw (lt-leb (s .objective .count) 1 counts, ne-eqb (others r (c .interface)) 0 some, left, le-leb 64 (lowestFree t) none, le-ltb (lowestFree t) 64 none, e) refl
 
-        pub relay-outcome : k ≡ keyIn (c .message) s → (b : Called) (out : List ℕ)
+        pub relay-outcome : k ≡ keyIn (c .message) s → (b : CallAnswer) (out : List ℕ)
             → b ≡ replies (Given Relay (s .flood) (others r (c .interface)) (length (onward (c .message) (s .objective)))) (tallied r (ones (others r (c .interface))))
             → out ≡ written (onward (c .message) (s .objective)) (c .output) → row < 64 → afterOf b t′ out ≡ carriedOut r t c s (laterVerdict r t c s)
         unfolding laterVerdict carriedOut relayed filled pick
@@ -176,13 +176,13 @@ pub passed-freed : {r : Record} {t t′ : List ℕ} {clock i room : ℕ} → Pas
 passed-freed {t = t} {clock = clock} p e = e ∙ of-sized t (freed clock t) t (table-sized clock t (p .table))
 
 module _ (r : Record) (t : List ℕ) (c : Call) where
-  pub barred-outcome : (n : ℕ) (b : Called) → n ≡ bar r t c → (n ≡ 0 → ⊥) → b ≡ replies (Refused n) r
+  pub barred-outcome : (n : ℕ) (b : CallAnswer) → n ≡ bar r t c → (n ≡ 0 → ⊥) → b ≡ replies (Refused n) r
       → afterOf b t (c .output) ≡ nodeCall r t c
   unfolding nodeCall refuse pick
   barred-outcome n b is some e = rw (← is, ne-eqb n 0 some, e) refl
 
   module _ (n : ℕ) (is : n ≡ bar r t c) (none : n ≡ 0) where
-    pub refused-outcome : (number : ℕ) (b : Called) → b ≡ replies (Refused number) r → readOf (c .message) ≡ Reading.Refused number → afterOf b t (c .output) ≡ nodeCall r t c
+    pub refused-outcome : (number : ℕ) (b : CallAnswer) → b ≡ replies (Refused number) r → readOf (c .message) ≡ Reading.Refused number → afterOf b t (c .output) ≡ nodeCall r t c
     unfolding nodeCall received refuse pick
     refused-outcome number b e read = rw (← is, none, read, e) refl
 

@@ -20,7 +20,7 @@ use Rattle.node.specs.declared.Verdict.{Verdict}
 use Rattle.node.specs.declared.Verdict.the-variants.{Own, Answer, Duplicate, Last, Nowhere, NoRow, Relay, Noop, Hand}
 use Rattle.node.specs.declared.Reply.{Reply}
 use Rattle.node.specs.declared.Reply.the-variants.{Refused, Given}
-use Rattle.node.specs.declared.Called.{Called}
+use Rattle.node.specs.declared.CallAnswer.{CallAnswer}
 use Rattle.node.specs.declared.role.Spread.{Spread}
 use Rattle.node.specs.declared.role.Role.{Role}
 use Rattle.node_state.specs.Record.{recordBad, arrivalBad, others, clocked, tallied}
@@ -41,12 +41,12 @@ callOf clock interface names message output = record { clock = clock; interface 
 
 -- what it answers, and the table and the output after it
 pub record After : Type 0 where
-  pub called : Called
+  pub called : CallAnswer
   pub table : List ℕ
   pub output : List ℕ
 
 -- what is after a call, part by part
-abbrev pub afterOf : Called → List ℕ → List ℕ → After
+abbrev pub afterOf : CallAnswer → List ℕ → List ℕ → After
 afterOf called table output = record { called = called; table = table; output = output }
 
 -- the refusals 12 to 17 in their order, 0 for none
@@ -64,7 +64,7 @@ abbrev pub bar : Record → List ℕ → Call → ℕ
 bar r t c = barred r t (c .clock) (c .interface) (c .names) (length (c .output))
 
 -- a reply beside the record
-abbrev pub replies : Reply → Record → Called
+abbrev pub replies : Reply → Record → CallAnswer
 replies reply r = record { reply = reply; node = r }
 
 -- a refusal leaves everything as it was

@@ -8,7 +8,7 @@ ghost use Rattle.node.specs.Passed.{Passed};
 ghost use Rattle.node_state.specs.Record.{recordBad, arrivalBad, clocked};
 ghost use Rattle.node_state.specs.Table.{freed};
 ghost use Rattle.node.specs.Role.{RoleIn};
-use crate::Called;
+use crate::CallAnswer;
 use crate::Reply;
 use crate::Verdict;
 use crate::mask;
@@ -30,19 +30,19 @@ pub fn node_call(
     names: &[u8],
     message: &[u8],
     out: &mut [u8],
-) -> Called
+) -> CallAnswer
     ensures { λ r. ⌜ afterOf r (now (table .exit)) (now (out .exit)) ≡ nodeCall node (now (table .entry)) (callOf clock interface (now (names .entry)) (now (message .entry)) (now (out .entry))) ⌝ }
 {
     let refusal = barred_by(node, table, clock, interface, names, out.len());
     if refusal != 0 {
-        return Called {
+        return CallAnswer {
             reply: Reply::Refused(refusal),
             node,
         };
     }
     let read = reader::read(message);
     match read {
-        Reading::Refused(number) => Called {
+        Reading::Refused(number) => CallAnswer {
             reply: Reply::Refused(number),
             node,
         },
@@ -112,7 +112,7 @@ fn take(
     message: &[u8],
     role: Role,
     out: &mut [u8],
-) -> Called
+) -> CallAnswer
     requires passed { ⌜ Passed node (now table) clock interface (length (now out)) ⌝ }
     requires read { ⌜ RoleIn (now message) role ⌝ }
     ensures { λ r. ⌜ afterOf r (now (table .exit)) (now (out .exit)) ≡ taken (clocked node clock) (freed clock (now (table .entry))) (callOf clock interface (now (names .entry)) (now (message .entry)) (now (out .entry))) role ⌝ }

@@ -35,16 +35,16 @@ pub enum Reply {
 }
 
 // The answer of a node call and the record after it.
-pub struct Called {
+pub struct CallAnswer {
     pub reply: Reply,
     pub node: Record,
 }
 
 // A verdict that sends nothing.
-pub(crate) fn quiet(node: Record, verdict: Verdict, handed_up: bool) -> Called
+pub(crate) fn quiet(node: Record, verdict: Verdict, handed_up: bool) -> CallAnswer
     ensures { λ r. ⌜ r ≡ replies (Given verdict «handed_up» 0 0) node ⌝ }
 {
-    Called {
+    CallAnswer {
         reply: Reply::Given {
             verdict,
             handed_up,

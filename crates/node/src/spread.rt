@@ -19,7 +19,7 @@ ghost use Rattle.node.specs.Call.{callOf, afterOf, replies, laterVerdict
 ghost use Rattle.node.specs.Passed.{Ready};
 ghost use Rattle.cbor.specs.Put.{written};
 ghost use Rattle.writer.specs.Lower.{onward};
-use crate::Called;
+use crate::CallAnswer;
 use crate::Reply;
 use crate::Verdict;
 use crate::mask;
@@ -40,7 +40,7 @@ pub(crate) fn judge(
     message: &[u8],
     s: Spread,
     out: &mut [u8],
-) -> Called
+) -> CallAnswer
     requires ready { ⌜ Ready node (now table) interface (length (now out)) ⌝ }
     requires read { ⌜ RoleIn (now message) (Spreads s) ⌝ }
     ensures { λ r. ⌜ afterOf r (now (table .exit)) (now (out .exit)) ≡ carriedOut node (now (table .entry)) (callOf (node .clock) interface (now (names .entry)) (now (message .entry)) (now (out .entry))) s (verdictOn node (now (table .entry)) (callOf (node .clock) interface (now (names .entry)) (now (message .entry)) (now (out .entry))) s) ⌝ }
@@ -83,7 +83,7 @@ fn is_named(names: &[u8], message: &[u8], s: Spread) -> bool
 }
 
 // ANSWER: a Response goes back by the arriving interface.
-fn answer(node: Record, interface: u8, message: &[u8], s: Spread, out: &mut [u8]) -> Called
+fn answer(node: Record, interface: u8, message: &[u8], s: Spread, out: &mut [u8]) -> CallAnswer
     requires small { ⌜ interface < 8 ⌝ }
     requires fits { ⌜ mostBytes ≤ length (now out) ⌝ }
     requires within { ⌜ Within (now message) s ⌝ }
@@ -91,7 +91,7 @@ fn answer(node: Record, interface: u8, message: &[u8], s: Spread, out: &mut [u8]
     ensures { λ r. ⌜ now (out .exit) ≡ written (response node (now (message .entry)) s) (now (out .entry)) ⌝ }
 {
     let length = put_response(node, message, s, out);
-    Called {
+    CallAnswer {
         reply: Reply::Given {
             verdict: Verdict::Answer,
             handed_up: false,
@@ -145,7 +145,7 @@ fn relay_or_end(
     s: Spread,
     key: Key,
     out: &mut [u8],
-) -> Called
+) -> CallAnswer
     requires ready { ⌜ Ready node (now table) interface (length (now out)) ⌝ }
     requires read { ⌜ RoleIn (now message) (Spreads s) ⌝ }
     requires key { ⌜ key ≡ keyIn (now message) s ⌝ }
@@ -183,14 +183,14 @@ fn put_onward(message: &[u8], s: Spread, out: &mut [u8]) -> usize
 }
 
 // RELAY: the copies, which are the ones in the mask, are tallied.
-fn relayed(node: Record, flood: bool, mask: u8, length: usize) -> Called
+fn relayed(node: Record, flood: bool, mask: u8, length: usize) -> CallAnswer
     requires { ⌜ node .tally ≤ 2 ^ 63 ⌝ }
     ensures { λ r. ⌜ r ≡ replies (Given Relay flood mask length) (tallied node (ones mask)) ⌝ }
 {
     let copies = u8::count_ones(mask);
     let mut next = node;
     next.tally = node.tally + copies as u64;
-    Called {
+    CallAnswer {
         reply: Reply::Given {
             verdict: Verdict::Relay,
             handed_up: flood,

@@ -16,7 +16,7 @@ use Rattle.message.specs.declared.Message.{Message}
 use Rattle.reader.specs.declared.Reading.{Reading}
 use Rattle.reader.specs.Read.{readOf}
 use Rattle.node_state.specs.declared.Record.{Record}
-use Rattle.node_state.specs.declared.Kept.{Kept}
+use Rattle.node_state.specs.declared.RecordAnswer.{RecordAnswer}
 use Rattle.node.specs.declared.Verdict.{Verdict}
 use Rattle.node.specs.declared.Verdict.the-variants.{Own, Duplicate, Last, Nowhere, NoRow, Noop, Hand}
 use Rattle.node.specs.declared.role.Spread.{Spread}
@@ -101,7 +101,7 @@ pub record SameNode (r q : Record) : Type 0 where
 pub links-keep : (r : Record) (mask : ℕ) → SameNode r (setLinks r mask .node)
 unfolding setLinks linked
 links-keep r mask =
-    let P : Kept → Type 0 = λ k. SameNode r (k .node) in
+    let P : RecordAnswer → Type 0 = λ k. SameNode r (k .node) in
     let same : SameNode r r = record { interfaces = refl; clock = refl; tally = refl } in
     both P _ same (both P _ same (record { interfaces = refl; clock = refl; tally = refl }))
 

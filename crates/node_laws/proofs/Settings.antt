@@ -9,7 +9,7 @@ use lib.Dec.{leb}
 use Rattle.base.specs.Pick.{pick}
 use Rattle.base.proofs.Picks.{pick-case}
 use Rattle.node_state.specs.declared.Record.{Record}
-use Rattle.node_state.specs.declared.Kept.{Kept}
+use Rattle.node_state.specs.declared.RecordAnswer.{RecordAnswer}
 use Rattle.node_state.specs.Record.{linksBad, recordBad, begun, fresh, setLinks}
 use Rattle.node_laws.specs.Bars.{BadRecord}
 use Rattle.node_laws.specs.Settings.{FreshIs, LinksSet}
@@ -38,12 +38,12 @@ set-is r mask =
     (λ t. LinksSet.set (fails (record-test r) e) (fails (mask-test (r .interfaces) mask) t)))
 
 -- and nothing else
-fresh-once : {address : List ℕ} {port ttl interfaces mask : ℕ} {k : Kept} → FreshIs address port ttl interfaces mask k → fresh address port ttl interfaces mask ≡ k
+fresh-once : {address : List ℕ} {port ttl interfaces mask : ℕ} {k : RecordAnswer} → FreshIs address port ttl interfaces mask k → fresh address port ttl interfaces mask ≡ k
 unfolding fresh pick
 fresh-once {address} {port} {ttl} {interfaces} {mask} (FreshIs.refused b) = rw (begun-test address port ttl interfaces mask .1 b) refl
 fresh-once {address} {port} {ttl} {interfaces} {mask} (FreshIs.made good) = rw (failing (begun-test address port ttl interfaces mask) good) refl
 
-set-once : {r : Record} {mask : ℕ} {k : Kept} → LinksSet r mask k → setLinks r mask ≡ k
+set-once : {r : Record} {mask : ℕ} {k : RecordAnswer} → LinksSet r mask k → setLinks r mask ≡ k
 unfolding setLinks pick
 set-once {r} (LinksSet.bad-record b) = rw (record-test r .1 b) refl
 set-once {r} {mask} (LinksSet.bad-mask good high) = rw (failing (record-test r) good, mask-test (r .interfaces) mask .1 high) refl
@@ -52,9 +52,9 @@ set-once {r} {mask} (LinksSet.set good low) = rw (failing (record-test r) good, 
 -- for readers
 
 -- A fresh record is given, or refused, exactly as the rules say.
-pub fresh-exactly : (address : List ℕ) (port ttl interfaces mask : ℕ) (k : Kept) → fresh address port ttl interfaces mask ≡ k ↔ FreshIs address port ttl interfaces mask k
+pub fresh-exactly : (address : List ℕ) (port ttl interfaces mask : ℕ) (k : RecordAnswer) → fresh address port ttl interfaces mask ≡ k ↔ FreshIs address port ttl interfaces mask k
 fresh-exactly address port ttl interfaces mask k = (λ e. subst (FreshIs address port ttl interfaces mask) e (fresh-is address port ttl interfaces mask), fresh-once)
 
 -- Links are set, or the setting is refused, exactly as the rules say.
-pub set-exactly : (r : Record) (mask : ℕ) (k : Kept) → setLinks r mask ≡ k ↔ LinksSet r mask k
+pub set-exactly : (r : Record) (mask : ℕ) (k : RecordAnswer) → setLinks r mask ≡ k ↔ LinksSet r mask k
 set-exactly r mask k = (λ e. subst (LinksSet r mask) e (set-is r mask), set-once)

@@ -21,7 +21,7 @@ use Rattle.base.proofs.Lists.{every-imp, every-chosen, pairs-chosen}
 use Rattle.base.proofs.Pigeonhole.{pigeonhole}
 use Rattle.negotiation.proofs.Turns.{negotiation-bounded}
 use Rattle.node_state.specs.declared.Record.{Record}
-use Rattle.node_state.specs.declared.Kept.{Kept}
+use Rattle.node_state.specs.declared.RecordAnswer.{RecordAnswer}
 use Rattle.node.specs.declared.role.Spread.{Spread}
 use Rattle.node_state.specs.Record.{fresh, others, clocked, tallied, setLinks}
 use Rattle.node_state.specs.Table.{freshTable, rowLife, freed, lowestFree, isKnown}
@@ -307,7 +307,7 @@ every-pair R S f (x ∷ xs) h = (every-imp (R x) (S x) (f x) xs (h .0), every-pa
 -- a fresh record has tallied nothing
 fresh-tally : (address : List ℕ) (port ttl interfaces mask : ℕ) → fresh address port ttl interfaces mask .node .tally ≡ 0
 unfolding fresh
-fresh-tally address port ttl interfaces mask = both (λ (k : Kept). k .node .tally ≡ 0) _ refl refl
+fresh-tally address port ttl interfaces mask = both (λ (k : RecordAnswer). k .node .tally ≡ 0) _ refl refl
 
 -- for readers
 

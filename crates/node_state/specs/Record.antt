@@ -7,7 +7,7 @@ use lib.Dec.{ltb, leb, eqb}
 use Rattle.base.specs.Pick.{pick}
 use Rattle.base.specs.Bits.{hasBit}
 use Rattle.node_state.specs.declared.Record.{Record}
-use Rattle.node_state.specs.declared.Kept.{Kept}
+use Rattle.node_state.specs.declared.RecordAnswer.{RecordAnswer}
 
 -- house limit: how many interfaces a node has at most
 abbrev pub mostInterfaces : ℕ
@@ -26,7 +26,7 @@ unfoldable pub recordBad : Record → Bool
 recordBad r = linksBad (r .interfaces) (r .links) || ltb mostTally (r .tally)
 
 -- the number of a refusal beside a record
-abbrev pub keeps : ℕ → Record → Kept
+abbrev pub keeps : ℕ → Record → RecordAnswer
 keeps n r = record { refusal = n; node = r }
 
 -- a record at clock 0 with no copies tallied
@@ -39,7 +39,7 @@ abbrev pub blank : Record
 blank = begun (replicate 16 0) 0 0 0 0
 
 -- asking for a fresh record: 12, with a blank one for the record, or the record with refusal 0
-unfoldable pub fresh : List ℕ → ℕ → ℕ → ℕ → ℕ → Kept
+unfoldable pub fresh : List ℕ → ℕ → ℕ → ℕ → ℕ → RecordAnswer
 fresh address port ttl interfaces mask =
     pick (linksBad interfaces mask) (keeps 12 blank) (keeps 0 (begun address port ttl interfaces mask))
 
@@ -49,7 +49,7 @@ linked r mask =
     record { address = r .address; port = r .port; ttl = r .ttl; interfaces = r .interfaces; links = mask; clock = r .clock; tally = r .tally }
 
 -- setting links: 12, then 13
-unfoldable pub setLinks : Record → ℕ → Kept
+unfoldable pub setLinks : Record → ℕ → RecordAnswer
 setLinks r mask = pick (recordBad r) (keeps 12 r) (pick (leb (2 ^ r .interfaces) mask) (keeps 13 r) (keeps 0 (linked r mask)))
 
 -- 13 of the node call: the arriving interface isn't below the count, or isn't in the mask of links: its link is down

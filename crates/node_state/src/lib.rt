@@ -20,7 +20,7 @@ pub struct Record {
 }
 
 // The number of the refusal, 0 for none, and the record.
-pub struct Kept {
+pub struct RecordAnswer {
     pub refusal: u8,
     pub node: Record,
 }
@@ -38,11 +38,11 @@ impl Record {
     pub const MOST_TALLY: u64 = 9_223_372_036_854_775_808;
 
     // A fresh record: 12 where the interfaces aren't 1 to 8 or a link bit is at or above their number, with all zeros for the record.
-    pub fn fresh(address: [u8; 16], port: u16, ttl: u32, interfaces: u64, mask: u64) -> Kept
+    pub fn fresh(address: [u8; 16], port: u16, ttl: u32, interfaces: u64, mask: u64) -> RecordAnswer
         ensures { λ r. ⌜ r ≡ fresh address port ttl interfaces mask ⌝ }
     {
         if links::are_bad(interfaces, mask) {
-            return Kept {
+            return RecordAnswer {
                 refusal: 12,
                 node: Record {
                     address: [0; 16],
@@ -55,7 +55,7 @@ impl Record {
                 },
             };
         }
-        Kept {
+        RecordAnswer {
             refusal: 0,
             node: Record {
                 address,
@@ -70,24 +70,24 @@ impl Record {
     }
 
     // The record with other links: 12 where the record is bad, 13 where the mask has a bit at or above the count.
-    pub fn set_links(self, mask: u64) -> Kept
+    pub fn set_links(self, mask: u64) -> RecordAnswer
         ensures { λ r. ⌜ r ≡ setLinks self mask ⌝ }
     {
         if self.is_bad() {
-            return Kept {
+            return RecordAnswer {
                 refusal: 12,
                 node: self,
             };
         }
         if links::are_bad(self.interfaces as u64, mask) {
-            return Kept {
+            return RecordAnswer {
                 refusal: 13,
                 node: self,
             };
         }
         let mut node = self;
         node.links = mask as u8;
-        Kept { refusal: 0, node }
+        RecordAnswer { refusal: 0, node }
     }
 
     // 12

@@ -8,7 +8,7 @@ use mathlib.Core.Logic.{_⊎_}
 use mathlib.Core.Option.{Option, none, some}
 use lib.ListN.{length}
 use Rattle.cbor.specs.Tree.{Item, Items}
-use Rattle.rfc8990.specs.Message.{Loc, Obj, Pair, Aim, Ending, Msg}
+use Rattle.rfc8990.specs.Message.{Loc, Obj, Pair, Tgts, Outc, Msg}
 
 -- ---- items
 -- an unsigned number
@@ -109,33 +109,33 @@ joined Items.done ys = ys
 joined (Items.more x xs) ys = Items.more x (joined xs ys)
 
 -- (+locator-option // divert-option), ?objective
-pub data AimItems : Items → Aim → Option (Obj Value) → Type 0 where
+pub data TgtsItems : Items → Tgts → Option (Obj Value) → Type 0 where
   locators : {xs ys : Items} {l : Loc} {ls : List Loc} {obj : Option (Obj Value)} → LocatorItems xs (l ∷ ls) → OptionalItems ys obj
-      → AimItems (joined xs ys) (Aim.locators (l ∷ ls)) obj
+      → TgtsItems (joined xs ys) (Tgts.locators (l ∷ ls)) obj
   divert : {w k : ℕ} {xs ys : Items} {l : Loc} {ls : List Loc} {obj : Option (Obj Value)} → LocatorItems xs (l ∷ ls) → OptionalItems ys obj
-      → AimItems (Items.more (Item.array w (Items.more (uint k 100) xs)) ys) (Aim.divert (l ∷ ls)) obj
+      → TgtsItems (Items.more (Item.array w (Items.more (uint k 100) xs)) ys) (Tgts.divert (l ∷ ls)) obj
 
 -- accept-option / decline-option
-pub data EndingItem : Item → Ending → Type 0 where
-  accept : {w k : ℕ} → EndingItem (array w (uint k 101 ∷ [])) Ending.accept
-  decline : {w k : ℕ} → EndingItem (array w (uint k 102 ∷ [])) Ending.decline
-  reason : {w k t : ℕ} {content : List ℕ} → EndingItem (array w (uint k 102 ∷ text t content ∷ [])) (Ending.reason content)
+pub data OutcItem : Item → Outc → Type 0 where
+  accept : {w k : ℕ} → OutcItem (array w (uint k 101 ∷ [])) Outc.accept
+  decline : {w k : ℕ} → OutcItem (array w (uint k 102 ∷ [])) Outc.decline
+  reason : {w k t : ℕ} {content : List ℕ} → OutcItem (array w (uint k 102 ∷ text t content ∷ [])) (Outc.reason content)
 
 -- grasp-message: one case for each kind, and two for Invalid
 pub data MessageItem : Item → Msg Value → Type 0 where
   noop : {w k : ℕ} → MessageItem (array w (uint k 0 ∷ [])) Msg.noop
   discovery : {w k session : ℕ} {s i x : Item} {from : List ℕ} {obj : Obj Value} → Number s session → Initiator i from → ObjectiveItem x obj
       → MessageItem (array w (uint k 1 ∷ s ∷ i ∷ x ∷ [])) (Msg.discovery session from obj)
-  response : {w k session ttl : ℕ} {s i t : Item} {from : List ℕ} {xs : Items} {aim : Aim} {obj : Option (Obj Value)}
-      → Number s session → Initiator i from → Number t ttl → AimItems xs aim obj
-      → MessageItem (Item.array w (Items.more (uint k 2) (Items.more s (Items.more i (Items.more t xs))))) (Msg.response session from ttl aim obj)
+  response : {w k session ttl : ℕ} {s i t : Item} {from : List ℕ} {xs : Items} {tgts : Tgts} {obj : Option (Obj Value)}
+      → Number s session → Initiator i from → Number t ttl → TgtsItems xs tgts obj
+      → MessageItem (Item.array w (Items.more (uint k 2) (Items.more s (Items.more i (Items.more t xs))))) (Msg.response session from ttl tgts obj)
   request-negotiation : {w k session : ℕ} {s x : Item} {obj : Obj Value} → Number s session → ObjectiveItem x obj
       → MessageItem (array w (uint k 3 ∷ s ∷ x ∷ [])) (Msg.request-negotiation session obj)
   request-synchronization : {w k session : ℕ} {s x : Item} {obj : Obj Value} → Number s session → ObjectiveItem x obj
       → MessageItem (array w (uint k 4 ∷ s ∷ x ∷ [])) (Msg.request-synchronization session obj)
   negotiate : {w k session : ℕ} {s x : Item} {obj : Obj Value} → Number s session → ObjectiveItem x obj
       → MessageItem (array w (uint k 5 ∷ s ∷ x ∷ [])) (Msg.negotiate session obj)
-  end : {w k session : ℕ} {s x : Item} {e : Ending} → Number s session → EndingItem x e → MessageItem (array w (uint k 6 ∷ s ∷ x ∷ [])) (Msg.end session e)
+  end : {w k session : ℕ} {s x : Item} {e : Outc} → Number s session → OutcItem x e → MessageItem (array w (uint k 6 ∷ s ∷ x ∷ [])) (Msg.end session e)
   wait : {w k session time : ℕ} {s t : Item} → Number s session → Number t time → MessageItem (array w (uint k 7 ∷ s ∷ t ∷ [])) (Msg.wait session time)
   synch : {w k session : ℕ} {s x : Item} {obj : Obj Value} → Number s session → ObjectiveItem x obj
       → MessageItem (array w (uint k 8 ∷ s ∷ x ∷ [])) (Msg.synch session obj)

@@ -5,7 +5,7 @@ use mathlib.Core.List.{List, [], _∷_, _++_, flatMap}
 use mathlib.Core.Option.{Option, none, some}
 use lib.ListN.{length}
 use Rattle.cbor.specs.Put.{head}
-use Rattle.rfc8990.specs.Message.{Loc, Obj, Pair, Aim, Ending, Msg}
+use Rattle.rfc8990.specs.Message.{Loc, Obj, Pair, Tgts, Outc, Msg}
 
 -- a byte or text string
 unfoldable pub string : ℕ → List ℕ → List ℕ
@@ -63,20 +63,20 @@ encodePair p = head 4 2 ++ encodeObj (p .0) ++ locOrEmpty (p .1)
 
 -- ---- the messages
 -- how many items a Response's locators are, or its one divert
-unfoldable pub targetItems : Aim → ℕ
-targetItems (Aim.locators ls) = length ls
-targetItems (Aim.divert ls) = 1
+unfoldable pub targetItems : Tgts → ℕ
+targetItems (Tgts.locators ls) = length ls
+targetItems (Tgts.divert ls) = 1
 
 -- the locators one after the other, or the divert that holds them
-unfoldable pub encodeTargets : Aim → List ℕ
-encodeTargets (Aim.locators ls) = flatMap encodeLoc ls
-encodeTargets (Aim.divert ls) = head 4 (1 + length ls) ++ head 0 100 ++ flatMap encodeLoc ls
+unfoldable pub encodeTargets : Tgts → List ℕ
+encodeTargets (Tgts.locators ls) = flatMap encodeLoc ls
+encodeTargets (Tgts.divert ls) = head 4 (1 + length ls) ++ head 0 100 ++ flatMap encodeLoc ls
 
 -- accept-option, decline-option
-unfoldable pub encodeEnding : Ending → List ℕ
-encodeEnding Ending.accept = head 4 1 ++ head 0 101
-encodeEnding Ending.decline = head 4 1 ++ head 0 102
-encodeEnding (Ending.reason t) = head 4 2 ++ head 0 102 ++ string 3 t
+unfoldable pub encodeOutc : Outc → List ℕ
+encodeOutc Outc.accept = head 4 1 ++ head 0 101
+encodeOutc Outc.decline = head 4 1 ++ head 0 102
+encodeOutc (Outc.reason t) = head 4 2 ++ head 0 102 ++ string 3 t
 
 -- an array of n items, the kind and the session
 unfoldable pub preamble : ℕ → ℕ → ℕ → List ℕ
@@ -94,7 +94,7 @@ encodeMsg (Msg.response s i t x o) = preamble (4 + (targetItems x + howMany o)) 
 encodeMsg (Msg.request-negotiation s o) = exchange 3 s o
 encodeMsg (Msg.request-synchronization s o) = exchange 4 s o
 encodeMsg (Msg.negotiate s o) = exchange 5 s o
-encodeMsg (Msg.end s e) = preamble 3 6 s ++ encodeEnding e
+encodeMsg (Msg.end s e) = preamble 3 6 s ++ encodeOutc e
 encodeMsg (Msg.wait s t) = preamble 3 7 s ++ head 0 t
 encodeMsg (Msg.synch s o) = exchange 8 s o
 encodeMsg (Msg.flood s i t ps) = preamble (4 + length ps) 9 s ++ string 2 i ++ head 0 t ++ flatMap encodePair ps

@@ -5,7 +5,7 @@ use mathlib.Core.Option.{Option, none, some}
 use lib.ListN.{length}
 use Rattle.base.specs.Lists.{Every}
 pub use Rattle.utf8.specs.Utf8.{Utf8}
-use Rattle.rfc8990.specs.Message.{Loc, Obj, Pair, Aim, Ending, Msg}
+use Rattle.rfc8990.specs.Message.{Loc, Obj, Pair, Tgts, Outc, Msg}
 use Rattle.rfc8990.specs.Cddl.{Value}
 
 -- house limit: how many bytes a message has at most
@@ -46,21 +46,21 @@ optionalNames none = []
 optionalNames (some obj) = obj .name ∷ []
 
 -- the texts of a Response's locators, or its divert's
-unfoldable pub aimTexts : Aim → List (List ℕ)
-aimTexts (Aim.locators ls) = flatMap locTexts ls
-aimTexts (Aim.divert ls) = flatMap locTexts ls
+unfoldable pub tgtsTexts : Tgts → List (List ℕ)
+tgtsTexts (Tgts.locators ls) = flatMap locTexts ls
+tgtsTexts (Tgts.divert ls) = flatMap locTexts ls
 
 -- of a reason
-unfoldable pub endingTexts : Ending → List (List ℕ)
-endingTexts Ending.accept = []
-endingTexts Ending.decline = []
-endingTexts (Ending.reason t) = t ∷ []
+unfoldable pub outcTexts : Outc → List (List ℕ)
+outcTexts Outc.accept = []
+outcTexts Outc.decline = []
+outcTexts (Outc.reason t) = t ∷ []
 
 -- the names of a message's objectives, in its order
 unfoldable pub namesOf : Msg Value → List (List ℕ)
 namesOf Msg.noop = []
 namesOf (Msg.discovery session initiator obj) = obj .name ∷ []
-namesOf (Msg.response session initiator ttl aim obj) = optionalNames obj
+namesOf (Msg.response session initiator ttl tgts obj) = optionalNames obj
 namesOf (Msg.request-negotiation session obj) = obj .name ∷ []
 namesOf (Msg.request-synchronization session obj) = obj .name ∷ []
 namesOf (Msg.negotiate session obj) = obj .name ∷ []
@@ -74,11 +74,11 @@ namesOf (Msg.invalid session item) = []
 unfoldable pub textsOf : Msg Value → List (List ℕ)
 textsOf Msg.noop = []
 textsOf (Msg.discovery session initiator obj) = obj .name ∷ []
-textsOf (Msg.response session initiator ttl aim obj) = aimTexts aim ++ optionalNames obj
+textsOf (Msg.response session initiator ttl tgts obj) = tgtsTexts tgts ++ optionalNames obj
 textsOf (Msg.request-negotiation session obj) = obj .name ∷ []
 textsOf (Msg.request-synchronization session obj) = obj .name ∷ []
 textsOf (Msg.negotiate session obj) = obj .name ∷ []
-textsOf (Msg.end session e) = endingTexts e
+textsOf (Msg.end session e) = outcTexts e
 textsOf (Msg.wait session time) = []
 textsOf (Msg.synch session obj) = obj .name ∷ []
 textsOf (Msg.flood session initiator ttl ps) = flatMap pairTexts ps

@@ -29,25 +29,25 @@ abbrev pub Pair : Type 0 → Type 0
 Pair A = Obj A × Option Loc
 
 -- a Response's locators, or its divert's
-pub data Aim : Type 0 where
-  locators : List Loc → Aim
-  divert : List Loc → Aim
+pub data Tgts : Type 0 where
+  locators : List Loc → Tgts
+  divert : List Loc → Tgts
 
 -- accept-option, decline-option
-pub data Ending : Type 0 where
-  accept : Ending
-  decline : Ending
-  reason : List ℕ → Ending
+pub data Outc : Type 0 where
+  accept : Outc
+  decline : Outc
+  reason : List ℕ → Outc
 
 -- grasp-message: one case for each kind
 pub data Msg (A : Type 0) : Type 0 where
   noop : Msg A
   discovery : (session : ℕ) (initiator : List ℕ) → Obj A → Msg A
-  response : (session : ℕ) (initiator : List ℕ) (ttl : ℕ) → Aim → Option (Obj A) → Msg A
+  response : (session : ℕ) (initiator : List ℕ) (ttl : ℕ) → Tgts → Option (Obj A) → Msg A
   request-negotiation : (session : ℕ) → Obj A → Msg A
   request-synchronization : (session : ℕ) → Obj A → Msg A
   negotiate : (session : ℕ) → Obj A → Msg A
-  end : (session : ℕ) → Ending → Msg A
+  end : (session : ℕ) → Outc → Msg A
   wait : (session time : ℕ) → Msg A
   synch : (session : ℕ) → Obj A → Msg A
   flood : (session : ℕ) (initiator : List ℕ) (ttl : ℕ) → List (Pair A) → Msg A
@@ -65,7 +65,7 @@ valuedPair f p = (valuedObj f (p .0), p .1)
 unfoldable pub valued : {A B : Type 0} → (A → B) → Msg A → Msg B
 valued f Msg.noop = Msg.noop
 valued f (Msg.discovery s i o) = Msg.discovery s i (valuedObj f o)
-valued f (Msg.response s i t aim o) = Msg.response s i t aim (Option·map (valuedObj f) o)
+valued f (Msg.response s i t tgts o) = Msg.response s i t tgts (Option·map (valuedObj f) o)
 valued f (Msg.request-negotiation s o) = Msg.request-negotiation s (valuedObj f o)
 valued f (Msg.request-synchronization s o) = Msg.request-synchronization s (valuedObj f o)
 valued f (Msg.negotiate s o) = Msg.negotiate s (valuedObj f o)

@@ -2,7 +2,7 @@
 // it takes: 1 writes a description, 2 lowers a count, 3 answers, 4 reads a message and writes it again.
 use description::Description;
 use forms::described;
-use forms::described::Told;
+use forms::described::Described;
 use message::Message;
 use reader::Reading;
 use writer::Written;
@@ -95,13 +95,13 @@ fn write_in(fields: &[u64; 19], list: &mut [u64], source: &mut [u8], out: &mut [
 }
 
 fn write(source: &[u8], list: &[u64], fields: &[u64; 19], out: &mut [u8]) {
-    let told = told::told_by(fields, list.len());
-    match told {
-        Told::Nothing => {
+    let described = described::described_by(fields, list.len());
+    match described {
+        Described::Nothing => {
             print_number(b"refused ", 18);
             print_bytes(out);
         }
-        Told::Says(description) => write_described(source, list, description, out),
+        Described::As(description) => write_described(source, list, description, out),
     }
 }
 

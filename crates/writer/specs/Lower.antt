@@ -25,7 +25,7 @@ lowerObj o = withCount (o .count - 1) o
 unfoldable pub lowerMsg : {A : Type 0} → Msg A → Msg A
 lowerMsg Msg.noop = Msg.noop
 lowerMsg (Msg.discovery s i o) = Msg.discovery s i (lowerObj o)
-lowerMsg (Msg.response s i t aim o) = Msg.response s i t aim o
+lowerMsg (Msg.response s i t tgts o) = Msg.response s i t tgts o
 lowerMsg (Msg.request-negotiation s o) = Msg.request-negotiation s o
 lowerMsg (Msg.request-synchronization s o) = Msg.request-synchronization s o
 lowerMsg (Msg.negotiate s o) = Msg.negotiate s o

@@ -13,7 +13,7 @@ use Rattle.rfc8990.specs.Limits.{mostBytes}
 use Rattle.reader.specs.Read.{readOf}
 use Rattle.description.specs.declared.Description.{Description}
 use Rattle.writer.specs.declared.Written.{Written}
-use Rattle.rfc8990.specs.Message.{Loc, Aim, Msg}
+use Rattle.rfc8990.specs.Message.{Loc, Tgts, Msg}
 use Rattle.rfc8990.specs.Encoding.{encodeMsg}
 use Rattle.description.specs.Meaning.{msgOf}
 use Rattle.description.specs.Judge.{okDescribed}
@@ -81,7 +81,7 @@ lowerOut message at end count out = pick (okLower message at end count) (passOut
 
 -- ---- `answer`: a Response with one locator of kind 103, protocol 6
 abbrev pub answerMsg : {A : Type 0} → ℕ → List ℕ → ℕ → List ℕ → ℕ → Msg A
-answerMsg session initiator ttl address port = Msg.response session initiator ttl (Aim.locators (Loc.v6 address 6 port ∷ [])) none
+answerMsg session initiator ttl address port = Msg.response session initiator ttl (Tgts.locators (Loc.v6 address 6 port ∷ [])) none
 
 -- its bytes
 unfoldable pub answerOf : ℕ → List ℕ → ℕ → List ℕ → ℕ → List ℕ

@@ -13,8 +13,8 @@ use Rattle.base.specs.BigEndian.{Bytes}
 use Rattle.cbor.specs.Tree.{Item, shortest, depth, Good, count}
 use Rattle.cbor.proofs.HeadExact.{shortest-right}
 use Rattle.rfc8990.specs.Message.{Msg, valued}
-use Rattle.rfc8990.specs.Cddl.{uint, bytes, array, Value, Protocol, Port, LocatorItem, LocatorItems, Number, Initiator, OptionalItems, AimItems, MessageItem}
-use Rattle.rfc8990.specs.Limits.{locTexts, aimTexts, optionalNames, textsOf, namesOf}
+use Rattle.rfc8990.specs.Cddl.{uint, bytes, array, Value, Protocol, Port, LocatorItem, LocatorItems, Number, Initiator, OptionalItems, TgtsItems, MessageItem}
+use Rattle.rfc8990.specs.Limits.{locTexts, tgtsTexts, optionalNames, textsOf, namesOf}
 use Rattle.rfc8990.specs.Limits.{mostBytes}
 use Rattle.rfc8990.specs.Accepted.{Accepted}
 use Rattle.message_laws.specs.Describes.{Describes}
@@ -77,7 +77,7 @@ module _ (session : ℕ) (initiator : List ℕ) (ttl : ℕ) (address : List ℕ)
 
     -- the item is a message without fault, and so it is accepted
     response-accepted : (length initiator ≡ 4) ⊎ (length initiator ≡ 16) → (a : Accepted encoded) × (a .message .msg ≡ response)
-    unfolding answerOf plain valued count depth textsOf aimTexts locTexts optionalNames namesOf flatMap
+    unfolding answerOf plain valued count depth textsOf tgtsTexts locTexts optionalNames namesOf flatMap
     response-accepted sized =
         let good : Good item = (
           shortest-right 4 5 (lit< tt) (lit< tt),
@@ -85,7 +85,7 @@ module _ (session : ℕ) (initiator : List ℕ) (ttl : ℕ) (address : List ℕ)
         ) in
         let is : MessageItem item response =
         MessageItem.response (Number.number {n = session} (omega (arith, g .session-fits))) (Initiator.initiator sized) (Number.number {n = ttl} (omega (arith, g .ttl-fits)))
-        (AimItems.locators (LocatorItems.more (LocatorItem.v6 (g .address-length) Protocol.tcp (Port.port {n = port} (omega (arith, g .port-fits)))) LocatorItems.empty) OptionalItems.without) in (
+        (TgtsItems.locators (LocatorItems.more (LocatorItem.v6 (g .address-length) Protocol.tcp (Port.port {n = port} (omega (arith, g .port-fits)))) LocatorItems.empty) OptionalItems.without) in (
           record {
             message =
                 record {

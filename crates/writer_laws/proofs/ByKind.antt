@@ -9,15 +9,15 @@ use lib.Dec.{lit<}
 use lib.ListN.{length, take}
 use Rattle.cbor.specs.Item.{mostLevels, leftUnder}
 use Rattle.cbor.specs.Tree.{Item, Items, headBytes, count, encode, depth, depths}
-use Rattle.rfc8990.specs.Message.{Loc, Obj, Pair, Aim, Ending, Msg, valuedObj, valuedPair, valued}
-use Rattle.rfc8990.specs.Cddl.{uint, text, array, LocatorItems, ObjectiveItem, Value, PairItem, PairItems, EndingItem, MessageItem}
+use Rattle.rfc8990.specs.Message.{Loc, Obj, Pair, Tgts, Outc, Msg, valuedObj, valuedPair, valued}
+use Rattle.rfc8990.specs.Cddl.{uint, text, array, LocatorItems, ObjectiveItem, Value, PairItem, PairItems, OutcItem, MessageItem}
 use Rattle.message_laws.proofs.Levels.{locator-deep}
 use Rattle.message.specs.declared.Series.{Series}
 use Rattle.message.specs.declared.Targets.{Targets}
 use Rattle.message.specs.declared.Extra.{Extra}
 use Rattle.options.specs.declared.Outcome.{Outcome}
 use Rattle.message.specs.declared.Message.{Message}
-use Rattle.message_laws.specs.Describes.{SeriesIs, AimIs, ExtraIs, OutcomeIs, Describes}
+use Rattle.message_laws.specs.Describes.{SeriesIs, TargetsIs, ExtraIs, OutcomeIs, Describes}
 use Rattle.message_laws.proofs.Described.{locators-count, pairs-count}
 use Rattle.description.specs.Meaning.{locatorRow, pairRow, locatorRowLoc, locatorRowAt, rowLoc, locsOf, targetsOf, extraOf, rowPair, pairsOf, endOf, msgOf}
 use Rattle.forms.specs.Describe as D
@@ -27,7 +27,7 @@ use Rattle.writer_laws.specs.Says.{LocatorRowSays, PairSays, Rows, Extra
 use Rattle.writer_laws.proofs.Encodes.{pairs-many}
 use Rattle.writer_laws.specs.Lent.{rowsLent}
 use Rattle.writer_laws.proofs.Filled.{joined, lent, told-rows}
-use Rattle.writer_laws.proofs.Spans.{string-cuts, value-cuts, end-cuts, objective-goals}
+use Rattle.writer_laws.proofs.Spans.{string-cuts, value-cuts, end-cuts, objective-gives}
 use Rattle.writer_laws.proofs.Locators.{locator-row-shift, Locators, locators-rows}
 use Rattle.writer_laws.proofs.Pairs.{rowAt, row-shift, pairOf, InOrder, Pairs, pairs-rows}
 
@@ -93,33 +93,33 @@ module _ (s : List ℕ) where
 
   -- ---- the parts of a description
   -- a Response's locators
-  aim-lent : {p e : ℕ} {targets : Targets} {aim : Aim} (list : List ℕ) → AimIs s p e targets aim → R.endBy list (R.targetRows targets) ≤ length list
+  tgts-lent : {p e : ℕ} {targets : Targets} {tgts : Tgts} (list : List ℕ) → TargetsIs s p e targets tgts → R.endBy list (R.targetRows targets) ≤ length list
       → (ls : List Loc) × LocatorsTold (take (R.endBy list (R.targetRows targets)) (R.filledBy s list (R.targetRows targets))) ls
-      × ((l : List ℕ) → locsOf s l ≡ ls → targetsOf s l (D.isDivert targets) ≡ aim)
+      × ((l : List ℕ) → locsOf s l ≡ ls → targetsOf s l (D.isDivert targets) ≡ tgts)
   unfolding R.endBy R.filledBy R.targetRows D.isDivert targetsOf
-  aim-lent list (AimIs.locators {ls = ls} at i) room = (ls, locators-lent list i room, λ l e. ap Aim.locators e)
-  aim-lent list (AimIs.divert {ls = ls} head lead i) room = (ls, locators-lent list i room, λ l e. ap Aim.divert e)
+  tgts-lent list (TargetsIs.locators {ls = ls} at i) room = (ls, locators-lent list i room, λ l e. ap Tgts.locators e)
+  tgts-lent list (TargetsIs.divert {ls = ls} head lead i) room = (ls, locators-lent list i room, λ l e. ap Tgts.divert e)
 
   -- an objective that may be left out
-  extra-says : {p : ℕ} {extra : Extra} {obj : Option (Obj Value)} → ExtraIs s p extra obj → ExtraSays s (D.saidExtra extra) × (extraOf s (D.saidExtra extra) ≡ Option·map (valuedObj valueBytes) obj)
-  unfolding D.saidExtra extraOf
+  extra-says : {p : ℕ} {extra : Extra} {obj : Option (Obj Value)} → ExtraIs s p extra obj → ExtraSays s (D.givenExtra extra) × (extraOf s (D.givenExtra extra) ≡ Option·map (valuedObj valueBytes) obj)
+  unfolding D.givenExtra extraOf
   extra-says (ExtraIs.without e) = (tt, refl)
-  extra-says (ExtraIs.with-one o) = let goal = objective-goals o in (goal .says, ap some (goal .is))
+  extra-says (ExtraIs.with-one o) = let gives = objective-gives o in (gives .says, ap some (gives .is))
 
   -- how a negotiation ends; a reason is the end of the message
-  ending-says : {outcome : Outcome} {ending : Ending} {x : Item} (before : List ℕ) → OutcomeIs s outcome ending → EndingItem x ending → before ++ encode x ≡ s
-      → OutcomeSays s outcome × (endOf s outcome ≡ ending)
+  outc-says : {outcome : Outcome} {outc : Outc} {x : Item} (before : List ℕ) → OutcomeIs s outcome outc → OutcItem x outc → before ++ encode x ≡ s
+      → OutcomeSays s outcome × (endOf s outcome ≡ outc)
   unfolding endOf encode count
-  ending-says before OutcomeIs.accept i e = (tt, refl)
-  ending-says before OutcomeIs.decline i e = (tt, refl)
-  ending-says before (OutcomeIs.reason q) (EndingItem.reason {w} {k} {t} {content}) e =
+  outc-says before OutcomeIs.accept i e = (tt, refl)
+  outc-says before OutcomeIs.decline i e = (tt, refl)
+  outc-says before (OutcomeIs.reason q) (OutcItem.reason {w} {k} {t} {content}) e =
       let front : List ℕ = before ++ (headBytes 4 w 2 ++ (headBytes 0 k 102 ++ headBytes 3 t (length content))) in
       let whole : front ++ content ≡ before ++ encode (array w (uint k 102 ∷ text t content ∷ [])) = simp (append-assoc, append-nil) in
       let c = end-cuts front content (whole ∙ e) q in
-      (c .inside, ap Ending.reason (c .is))
+      (c .inside, ap Outc.reason (c .is))
 
   -- a Response by its parts
-  response-is : {session ttl : ℕ} {i i′ : List ℕ} {t t′ : Aim} {o o′ : Option (Obj (List ℕ))} → i ≡ i′ → t ≡ t′ → o ≡ o′ → Msg.response session i ttl t o ≡ Msg.response session i′ ttl t′ o′
+  response-is : {session ttl : ℕ} {i i′ : List ℕ} {t t′ : Tgts} {o o′ : Option (Obj (List ℕ))} → i ≡ i′ → t ≡ t′ → o ≡ o′ → Msg.response session i ttl t o ≡ Msg.response session i′ ttl t′ o′
   response-is a b c = cc
 
   -- ---- the kinds
@@ -130,27 +130,27 @@ module _ (s : List ℕ) where
   kind-says list Describes.noop i d e room = record { parts = refl; is = refl }
   kind-says list (Describes.discovery {session} k n from o) i d e room =
       let c = string-cuts (from .stands) (from .held) in
-      let goal = objective-goals o in
-      record { parts = (refl, c .inside, goal .says); is = ap₂ (Msg.discovery session) (c .is) (goal .is) }
-  kind-says list (Describes.response {session} {ttl} k n from t aim extra) i d e room =
+      let gives = objective-gives o in
+      record { parts = (refl, c .inside, gives .says); is = ap₂ (Msg.discovery session) (c .is) (gives .is) }
+  kind-says list (Describes.response {session} {ttl} k n from t tgts extra) i d e room =
       let c = string-cuts (from .stands) (from .held) in
-      let (ls, rows, targets) = aim-lent list aim room in
+      let (ls, rows, targets) = tgts-lent list tgts room in
       let (says, is) = extra-says extra in
       record { parts = (c .inside, rows .says, says); is = response-is (c .is) (targets _ (rows .are)) is }
   kind-says list (Describes.request-negotiation {session} k n o) i d e room =
-      record { parts = (refl, objective-goals o .says); is = ap (Msg.request-negotiation session) (objective-goals o .is) }
+      record { parts = (refl, objective-gives o .says); is = ap (Msg.request-negotiation session) (objective-gives o .is) }
   kind-says list (Describes.request-synchronization {session} k n o) i d e room =
-      record { parts = (refl, objective-goals o .says); is = ap (Msg.request-synchronization session) (objective-goals o .is) }
+      record { parts = (refl, objective-gives o .says); is = ap (Msg.request-synchronization session) (objective-gives o .is) }
   kind-says list (Describes.negotiate {session} k n o) i d e room =
-      record { parts = (refl, objective-goals o .says); is = ap (Msg.negotiate session) (objective-goals o .is) }
-  kind-says list (Describes.end {session} outcome) (MessageItem.end {w} {k} {s = y} {x} i ending) d e room =
+      record { parts = (refl, objective-gives o .says); is = ap (Msg.negotiate session) (objective-gives o .is) }
+  kind-says list (Describes.end {session} outcome) (MessageItem.end {w} {k} {s = y} {x} i outc) d e room =
       let before : List ℕ = headBytes 4 w 3 ++ (encode (uint k 6) ++ encode y) in
       let whole : before ++ encode x ≡ encode (array w (uint k 6 ∷ y ∷ x ∷ [])) = simp (append-assoc, append-nil) in
-      let (says, is) = ending-says before outcome ending (whole ∙ e) in
+      let (says, is) = outc-says before outcome outc (whole ∙ e) in
       record { parts = (refl, says); is = ap (Msg.end session) is }
   kind-says list Describes.wait i d e room = record { parts = refl; is = refl }
   kind-says list (Describes.synch {session} k n o) i d e room =
-      record { parts = (refl, objective-goals o .says); is = ap (Msg.synch session) (objective-goals o .is) }
+      record { parts = (refl, objective-gives o .says); is = ap (Msg.synch session) (objective-gives o .is) }
   kind-says list (Describes.flood {session} {ttl} k n from t series pair) (MessageItem.flood sy sz sv pairs) d e room =
       let c = string-cuts (from .stands) (from .held) in
       let rows = pairs-lent list series (omega (arith, d, pairs-deep pairs (series .are))) room in

@@ -15,16 +15,16 @@ use Rattle.cbor.specs.Put.{head}
 use Rattle.cbor.specs.Tree.{infoOf, shortest, headBytes}
 use Rattle.options.specs.declared.Span.{Span}
 use Rattle.rfc8990.specs.Message.{orNull}
-use Rattle.description.specs.declared.rows.Entry.{Entry}
+use Rattle.description.specs.declared.rows.ObjectiveRow.{ObjectiveRow}
 use Rattle.description.specs.declared.rows.LocatorRow.{LocatorRow}
-use Rattle.description.specs.declared.Extra.{Extra}
-use Rattle.description.specs.declared.Extra.the-variants as X
+use Rattle.description.specs.declared.GivenExtra.{GivenExtra}
+use Rattle.description.specs.declared.GivenExtra.the-variants as X
 use Rattle.options.specs.declared.Outcome.{Outcome}
 use Rattle.options.specs.declared.Outcome.the-variants as E
 use Rattle.description.specs.declared.Description.{Description}
 use Rattle.description.specs.declared.Description.the-variants as D
-use Rattle.rfc8990.specs.Encoding.{string, numberOrNull, reached, fixed, encodeLoc, encodeObj, maybeObj, locOrEmpty, encodePair, encodeTargets, encodeEnding, preamble, exchange, encodeMsg}
-use Rattle.description.specs.Meaning.{locatorRow, pairRow, entryRow, entryOf, objOf, locatorRowLoc, locatorRowAt, entryAt, rowLoc, locsOf, targetsOf, extraOf, locOrNone, rowPair, pairsOf, endOf, msgOf}
+use Rattle.rfc8990.specs.Encoding.{string, numberOrNull, reached, fixed, encodeLoc, encodeObj, maybeObj, locOrEmpty, encodePair, encodeTargets, encodeOutc, preamble, exchange, encodeMsg}
+use Rattle.description.specs.Meaning.{locatorRow, pairRow, objectiveRow, objectiveRowOf, objOf, locatorRowLoc, locatorRowAt, objectiveRowAt, rowLoc, locsOf, targetsOf, extraOf, locOrNone, rowPair, pairsOf, endOf, msgOf}
 use Rattle.message_laws.proofs.Bytes.{bytes-append, bytes-more, bytes-none, bytes-of}
 use Rattle.writer_laws.proofs.Script.{info-least}
 use Rattle.writer_laws.proofs.Judged.{bytes-held, up-to-exactly}
@@ -100,7 +100,7 @@ module _ (source : List ℕ) (b : Bytes source) where
       (then (then (then (then (array-bytes 4) (number-bytes 106)) (text-bytes (p .content))) (or-null-bytes (orNull 0 (p .protocol)))) (or-null-bytes (orNull 65536 (p .port))))))
 
   -- a described objective
-  objective-bytes : (o : Entry) → AllBytes (encodeObj (objOf source o))
+  objective-bytes : (o : ObjectiveRow) → AllBytes (encodeObj (objOf source o))
   unfolding objOf encodeObj
   objective-bytes o =
       then (then (then (then (array-bytes _) (text-bytes (o .name))) (number-bytes (o .flags))) (number-bytes (o .count))) (record { are = bytes-held source (o .value) b })
@@ -120,41 +120,41 @@ module _ (source : List ℕ) (b : Bytes source) where
   -- a described pair
   pair-bytes : (list : List ℕ) (i : ℕ) → AllBytes (encodePair (rowPair source list i))
   unfolding rowPair encodePair
-  pair-bytes list i = then (then (array-bytes 2) (objective-bytes (entryAt list (pairRow * i)))) (tag-bytes (locatorRowAt list (pairRow * i + entryRow)))
+  pair-bytes list i = then (then (array-bytes 2) (objective-bytes (objectiveRowAt list (pairRow * i)))) (tag-bytes (locatorRowAt list (pairRow * i + objectiveRow)))
 
   -- an objective that may be left out
-  extra-bytes : (o : Extra) → AllBytes (maybeObj (extraOf source o))
+  extra-bytes : (o : GivenExtra) → AllBytes (maybeObj (extraOf source o))
   unfolding extraOf maybeObj
   extra-bytes X.Without = no-bytes
-  extra-bytes (X.With o) = objective-bytes (entryOf o)
+  extra-bytes (X.With o) = objective-bytes (objectiveRowOf o)
 
   -- kinds 3, 4, 5 and 8
-  exchange-bytes : (kind session : ℕ) (o : Entry) → AllBytes (exchange kind session (objOf source o))
+  exchange-bytes : (kind session : ℕ) (o : ObjectiveRow) → AllBytes (exchange kind session (objOf source o))
   unfolding exchange
   exchange-bytes kind session o = then (preamble-bytes 3 kind session) (objective-bytes o)
 
   -- how a negotiation ends
-  ending-bytes : (e : Outcome) → AllBytes (encodeEnding (endOf source e))
-  unfolding endOf encodeEnding
-  ending-bytes E.Accept = then (array-bytes 1) (number-bytes 101)
-  ending-bytes E.Decline = then (array-bytes 1) (number-bytes 102)
-  ending-bytes (E.Reason t) = then (then (array-bytes 2) (number-bytes 102)) (text-bytes t)
+  outc-bytes : (e : Outcome) → AllBytes (encodeOutc (endOf source e))
+  unfolding endOf encodeOutc
+  outc-bytes E.Accept = then (array-bytes 1) (number-bytes 101)
+  outc-bytes E.Decline = then (array-bytes 1) (number-bytes 102)
+  outc-bytes (E.Reason t) = then (then (array-bytes 2) (number-bytes 102)) (text-bytes t)
 
   -- a described message
   message-bytes : (list : List ℕ) (d : Description) → AllBytes (encodeMsg (msgOf source list d))
   unfolding msgOf encodeMsg pairsOf targetsOf encodeTargets
   message-bytes list D.Noop = then (array-bytes 1) (number-bytes 0)
-  message-bytes list (D.Discovery s i o) = then (then (preamble-bytes 4 1 s) (address-bytes i)) (objective-bytes (entryOf o))
+  message-bytes list (D.Discovery s i o) = then (then (preamble-bytes 4 1 s) (address-bytes i)) (objective-bytes (objectiveRowOf o))
   message-bytes list (D.Response s i t false o) =
       then (then (then (then (preamble-bytes _ 2 s) (address-bytes i)) (number-bytes t)) (rows-bytes list)) (extra-bytes o)
   message-bytes list (D.Response s i t true o) =
       then (then (then (then (preamble-bytes _ 2 s) (address-bytes i)) (number-bytes t)) (then (then (array-bytes _) (number-bytes 100)) (rows-bytes list))) (extra-bytes o)
-  message-bytes list (D.RequestNegotiation s o) = exchange-bytes 3 s (entryOf o)
-  message-bytes list (D.RequestSynchronization s o) = exchange-bytes 4 s (entryOf o)
-  message-bytes list (D.Negotiate s o) = exchange-bytes 5 s (entryOf o)
-  message-bytes list (D.End s e) = then (preamble-bytes 3 6 s) (ending-bytes e)
+  message-bytes list (D.RequestNegotiation s o) = exchange-bytes 3 s (objectiveRowOf o)
+  message-bytes list (D.RequestSynchronization s o) = exchange-bytes 4 s (objectiveRowOf o)
+  message-bytes list (D.Negotiate s o) = exchange-bytes 5 s (objectiveRowOf o)
+  message-bytes list (D.End s e) = then (preamble-bytes 3 6 s) (outc-bytes e)
   message-bytes list (D.Wait s t) = then (preamble-bytes 3 7 s) (number-bytes t)
-  message-bytes list (D.Synch s o) = exchange-bytes 8 s (entryOf o)
+  message-bytes list (D.Synch s o) = exchange-bytes 8 s (objectiveRowOf o)
   message-bytes list (D.Flood s i t) =
       then (then (then (preamble-bytes _ 9 s) (address-bytes i)) (number-bytes t))
       (all-bytes encodePair (pairsOf source list)

@@ -12,9 +12,9 @@ use Rattle.base.specs.Pick.{pick}
 use Rattle.cbor.specs.Put.{head}
 use Rattle.cbor.specs.Tree.{Item, Items, Right, infoOf, headBytes, count, encode, encodes, Good, Goods}
 use Rattle.base.specs.BigEndian.{bytesOf}
-use Rattle.rfc8990.specs.Message.{Loc, Obj, Pair, Aim, Ending, Msg, valuedObj, valuedPair, valued}
-use Rattle.rfc8990.specs.Cddl.{uint, list, array, Protocol, Port, OrNull, LocatorItem, LocatorItems, Value, ObjectiveItem, PairItem, PairItems, Number, Initiator, OptionalItems, joined, AimItems, EndingItem, MessageItem}
-use Rattle.rfc8990.specs.Encoding.{string, numberOrNull, reached, fixed, encodeLoc, oneMore, encodeObj, maybeObj, howMany, locOrEmpty, encodePair, targetItems, encodeTargets, encodeEnding, preamble, exchange, encodeMsg}
+use Rattle.rfc8990.specs.Message.{Loc, Obj, Pair, Tgts, Outc, Msg, valuedObj, valuedPair, valued}
+use Rattle.rfc8990.specs.Cddl.{uint, list, array, Protocol, Port, OrNull, LocatorItem, LocatorItems, Value, ObjectiveItem, PairItem, PairItems, Number, Initiator, OptionalItems, joined, TgtsItems, OutcItem, MessageItem}
+use Rattle.rfc8990.specs.Encoding.{string, numberOrNull, reached, fixed, encodeLoc, oneMore, encodeObj, maybeObj, howMany, locOrEmpty, encodePair, targetItems, encodeTargets, encodeOutc, preamble, exchange, encodeMsg}
 use Rattle.message_laws.proofs.Response.{count-joined}
 use Rattle.message_laws.proofs.Described.{short-width, locators-count, pairs-count}
 use Rattle.writer_laws.specs.Plain.{valueBytes, plain}
@@ -128,25 +128,25 @@ optional-encodes g OptionalItems.without = (refl, refl)
 optional-encodes g (OptionalItems.with-one i) = (append-nil _ ∙ objective-encodes (g .0) i, refl)
 
 -- a Response's locators or divert, and its objective
-aim-encodes : {xs : Items} {aim : Aim} {o : Option (Obj Value)} → Goods xs → AimItems xs aim o
-    → (encodes xs ≡ encodeTargets aim ++ maybeObj (Option·map (valuedObj valueBytes) o)) × (count xs ≡ targetItems aim + howMany (Option·map (valuedObj valueBytes) o))
+tgts-encodes : {xs : Items} {tgts : Tgts} {o : Option (Obj Value)} → Goods xs → TgtsItems xs tgts o
+    → (encodes xs ≡ encodeTargets tgts ++ maybeObj (Option·map (valuedObj valueBytes) o)) × (count xs ≡ targetItems tgts + howMany (Option·map (valuedObj valueBytes) o))
 unfolding encode count encodeTargets targetItems
-aim-encodes g (AimItems.locators {xs = xs} {ys = ys} is i) =
+tgts-encodes g (TgtsItems.locators {xs = xs} {ys = ys} is i) =
     let (gs, gy) = joined-goods xs ys g in
     let (bytes, many) = optional-encodes gy i in
     (rw (joined-encodes xs ys, locators-encode gs is, bytes), rw (count-joined xs ys, locators-count is, many))
-aim-encodes g (AimItems.divert is i) =
+tgts-encodes g (TgtsItems.divert is i) =
     let (bytes, many) = optional-encodes (g .1) i in (
       rw (short-head tt (g .0 .0), short-head tt (g .0 .1 .0), locators-encode (g .0 .1 .1) is, bytes, locators-count is, one-add) (simp append-assoc),
       ap suc many ∙ omega arith,
     )
 
 -- how a negotiation ends
-ending-encodes : {x : Item} {e : Ending} → Good x → EndingItem x e → encode x ≡ encodeEnding e
-unfolding encode count encodeEnding string
-ending-encodes g EndingItem.accept = rw (short-head tt (g .0), short-head tt (g .1 .0)) (simp append-nil)
-ending-encodes g EndingItem.decline = rw (short-head tt (g .0), short-head tt (g .1 .0)) (simp append-nil)
-ending-encodes g EndingItem.reason = rw (short-head tt (g .0), short-head tt (g .1 .0), short-head tt (g .1 .1 .0 .0)) (simp (append-assoc, append-nil))
+outc-encodes : {x : Item} {e : Outc} → Good x → OutcItem x e → encode x ≡ encodeOutc e
+unfolding encode count encodeOutc string
+outc-encodes g OutcItem.accept = rw (short-head tt (g .0), short-head tt (g .1 .0)) (simp append-nil)
+outc-encodes g OutcItem.decline = rw (short-head tt (g .0), short-head tt (g .1 .0)) (simp append-nil)
+outc-encodes g OutcItem.reason = rw (short-head tt (g .0), short-head tt (g .1 .0), short-head tt (g .1 .1 .0 .0)) (simp (append-assoc, append-nil))
 
 -- an array whose first items are a kind and a session
 preamble-encodes : {w k kind session : ℕ} {s : Item} (xs : Items) → Good (Item.array w (Items.more (uint k kind) (Items.more s xs))) → Number s session
@@ -173,13 +173,13 @@ plain-encodes g MessageItem.noop = rw (short-head tt (g .0), short-head tt (g .1
 plain-encodes g (MessageItem.discovery {i = y} {x = x} i j o) =
     preamble-encodes (list (y ∷ x ∷ [])) g i ∙ rw (initiator-encodes (g .1 .1 .1 .0) j, objective-encodes (g .1 .1 .1 .1 .0) o) (simp (append-assoc, append-nil))
 plain-encodes g (MessageItem.response {i = y} {t = z} {xs = xs} i j t is) =
-    let (bytes, many) = aim-encodes (g .1 .1 .1 .1 .1) is in
+    let (bytes, many) = tgts-encodes (g .1 .1 .1 .1 .1) is in
     preamble-encodes (Items.more y (Items.more z xs)) g i
     ∙ rw (initiator-encodes (g .1 .1 .1 .0) j, number-encodes (g .1 .1 .1 .1 .0) t, bytes, many) (simp (append-assoc, four-more))
 plain-encodes g (MessageItem.request-negotiation i o) = exchange-encodes g i o
 plain-encodes g (MessageItem.request-synchronization i o) = exchange-encodes g i o
 plain-encodes g (MessageItem.negotiate i o) = exchange-encodes g i o
-plain-encodes g (MessageItem.end {x = x} i e) = preamble-encodes (list (x ∷ [])) g i ∙ rw (ending-encodes (g .1 .1 .1 .0) e) (simp append-nil)
+plain-encodes g (MessageItem.end {x = x} i e) = preamble-encodes (list (x ∷ [])) g i ∙ rw (outc-encodes (g .1 .1 .1 .0) e) (simp append-nil)
 plain-encodes g (MessageItem.wait {t = x} i t) = preamble-encodes (list (x ∷ [])) g i ∙ rw (number-encodes (g .1 .1 .1 .0) t) (simp append-nil)
 plain-encodes g (MessageItem.synch i o) = exchange-encodes g i o
 plain-encodes g (MessageItem.flood {i = y} {t = z} {xs = xs} i j t is) =

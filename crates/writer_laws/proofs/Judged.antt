@@ -25,17 +25,17 @@ use Rattle.cbor.specs.Tree.{encode}
 use Rattle.cbor.proofs.Accepts.{item-accepts}
 use Rattle.cbor.proofs.Exact.{item-exact}
 use Rattle.options.specs.declared.Span.{Span}
-use Rattle.description.specs.declared.rows.Entry.{Entry}
+use Rattle.description.specs.declared.rows.ObjectiveRow.{ObjectiveRow}
 use Rattle.description.specs.declared.rows.LocatorRow.{LocatorRow}
-use Rattle.description.specs.declared.Extra.{Extra}
-use Rattle.description.specs.declared.Extra.the-variants as X
+use Rattle.description.specs.declared.GivenExtra.{GivenExtra}
+use Rattle.description.specs.declared.GivenExtra.the-variants as X
 use Rattle.options.specs.declared.Outcome.{Outcome}
 use Rattle.options.specs.declared.Outcome.the-variants as E
 use Rattle.description.specs.declared.Description.{Description}
 use Rattle.description.specs.declared.Description.the-variants as D
-use Rattle.description.specs.Meaning.{locatorRow, pairRow, entryRow, listOf, entryOf, objOf, locatorRowAt, entryAt, rowPair, pairsOf, extraOf, msgOf}
-use Rattle.description.specs.Judge.{okDiscovery, okResponse, okFlood, okParts, okList, okDescribed, alone, whole, inside, okValue, okItem, okEntry, okLocatorRow, blankLocatorRow, okNoneOr, allFrom, okEach, okRow, okRows, okPair, okPairs, okExtra, okOutcome}
-use Rattle.writer_laws.specs.Says.{Inside, EntrySays, LocatorRowSays, Blank, PairSays, Rows, ExtraSays, OutcomeSays, PartsSay}
+use Rattle.description.specs.Meaning.{locatorRow, pairRow, objectiveRow, listOf, objectiveRowOf, objOf, locatorRowAt, objectiveRowAt, rowPair, pairsOf, extraOf, msgOf}
+use Rattle.description.specs.Judge.{okDiscovery, okResponse, okFlood, okParts, okList, okDescribed, alone, whole, inside, okValue, okItem, okObjectiveRow, okLocatorRow, blankLocatorRow, okNoneOr, allFrom, okEach, okRow, okRows, okPair, okPairs, okExtra, okOutcome}
+use Rattle.writer_laws.specs.Says.{Inside, ObjectiveRowSays, LocatorRowSays, Blank, PairSays, Rows, ExtraSays, OutcomeSays, PartsSay}
 use Rattle.writer_laws.proofs.Script.{Each, Valued}
 use Rattle.writer_laws.proofs.Once.{ValuedObj, ValuedPair, ValuedMsg}
 
@@ -183,9 +183,9 @@ module _ (source : List ℕ) where
   item-exactly v = and-exactly (inside-exactly source v) (λ b. value-is (held source v) (bytes-held source v b), value-ok (held source v))
 
   -- an objective
-  entry-exactly : (o : Entry) → Judges (okEntry source o) (EntrySays source o × Valued (held source (o .value)))
-  unfolding okEntry
-  entry-exactly o =
+  objective-row-exactly : (o : ObjectiveRow) → Judges (okObjectiveRow source o) (ObjectiveRowSays source o × Valued (held source (o .value)))
+  unfolding okObjectiveRow
+  objective-row-exactly o =
       retold (and-exactly (inside-exactly source (o .name)) (item-exactly (o .value)))
       (λ h. (record { name = h .0; value = h .1 .0 }, h .1 .1))
       (λ h. (h .0 .name, (h .0 .value, h .1)))
@@ -226,7 +226,7 @@ module _ (source : List ℕ) where
   pair-exactly list i =
       retold
       (and-exactly (equal-exactly (getD list (pairRow * i + 4) 0) 0)
-      (and-exactly (entry-exactly (entryAt list (pairRow * i))) (tag-exactly (locatorRowAt list (pairRow * i + entryRow)))))
+      (and-exactly (objective-row-exactly (objectiveRowAt list (pairRow * i))) (tag-exactly (locatorRowAt list (pairRow * i + objectiveRow)))))
       (λ h. (record { count-at = h .0; objective = h .1 .0 .0; locator = h .1 .1 }, h .1 .0 .1))
       (λ h. (h .0 .count-at, ((h .0 .objective, h .1), h .0 .locator)))
 
@@ -239,10 +239,10 @@ module _ (source : List ℕ) where
       (λ h. record { whole = h .0 .whole; each = λ i l. (h .0 .each i l, up-to-exactly ValuedPair (rowPair source list) (length list / pairRow) .0 (h .1) i l) })
 
   -- an objective that may be left out
-  extra-exactly : (o : Extra) → Judges (okExtra source o) (ExtraSays source o × Each ValuedObj (extraOf source o))
+  extra-exactly : (o : GivenExtra) → Judges (okExtra source o) (ExtraSays source o × Each ValuedObj (extraOf source o))
   unfolding okExtra extraOf objOf
   extra-exactly X.Without = (λ b h. (tt, tt), λ h. refl)
-  extra-exactly (X.With o) = entry-exactly (entryOf o)
+  extra-exactly (X.With o) = objective-row-exactly (objectiveRowOf o)
 
   -- how a negotiation ends
   outcome-exactly : {G : Type 0} (e : Outcome) → Tells G (okOutcome source e ≡ true) (OutcomeSays source e)
@@ -253,29 +253,29 @@ module _ (source : List ℕ) where
 
   -- ---- descriptions
   -- an objective, and no list
-  exchange-exactly : (list : List ℕ) (o : Entry) → Judges (pick (eqb (length list) 0) (okEntry source o) false) (((list ≡ []) × EntrySays source o) × Valued (held source (o .value)))
+  exchange-exactly : (list : List ℕ) (o : ObjectiveRow) → Judges (pick (eqb (length list) 0) (okObjectiveRow source o) false) (((list ≡ []) × ObjectiveRowSays source o) × Valued (held source (o .value)))
   exchange-exactly list o =
-      retold (and-exactly (list-exactly list) (entry-exactly o)) (λ h. ((h .0, h .1 .0), h .1 .1)) (λ h. (h .0 .0, (h .0 .1, h .1)))
+      retold (and-exactly (list-exactly list) (objective-row-exactly o)) (λ h. ((h .0, h .1 .0), h .1 .1)) (λ h. (h .0 .0, (h .0 .1, h .1)))
 
   -- Those that the judge passes say something, and their values are items.
   pub described-exactly : (list : List ℕ) (d : Description) → Judges (okDescribed source list d) (PartsSay source list d × ValuedMsg (msgOf source list d))
   unfolding okDescribed okList okParts okDiscovery okResponse okFlood msgOf objOf pick
   described-exactly list D.Noop = retold (and-exactly (list-exactly list) always) (λ h. (h .0, tt)) (λ h. (h .0, tt))
   described-exactly list (D.Discovery s i o) =
-      retold (and-exactly (list-exactly list) (and-exactly (inside-exactly source i) (entry-exactly (entryOf o))))
+      retold (and-exactly (list-exactly list) (and-exactly (inside-exactly source i) (objective-row-exactly (objectiveRowOf o))))
       (λ h. ((h .0, h .1 .0, h .1 .1 .0), h .1 .1 .1))
       (λ h. (h .0 .0, (h .0 .1, (h .0 .2, h .1))))
   described-exactly list (D.Response s i t d o) =
       retold (and-exactly (inside-exactly source i) (and-exactly (rows-exactly list) (extra-exactly o)))
       (λ h. ((h .0, h .1 .0, h .1 .1 .0), h .1 .1 .1))
       (λ h. (h .0 .0, (h .0 .1, (h .0 .2, h .1))))
-  described-exactly list (D.RequestNegotiation s o) = exchange-exactly list (entryOf o)
-  described-exactly list (D.RequestSynchronization s o) = exchange-exactly list (entryOf o)
-  described-exactly list (D.Negotiate s o) = exchange-exactly list (entryOf o)
+  described-exactly list (D.RequestNegotiation s o) = exchange-exactly list (objectiveRowOf o)
+  described-exactly list (D.RequestSynchronization s o) = exchange-exactly list (objectiveRowOf o)
+  described-exactly list (D.Negotiate s o) = exchange-exactly list (objectiveRowOf o)
   described-exactly list (D.End s e) =
       retold (and-exactly (list-exactly list) (outcome-exactly e)) (λ h. (h, tt)) (λ h. h .0)
   described-exactly list (D.Wait s t) = retold (and-exactly (list-exactly list) always) (λ h. (h .0, tt)) (λ h. (h .0, tt))
-  described-exactly list (D.Synch s o) = exchange-exactly list (entryOf o)
+  described-exactly list (D.Synch s o) = exchange-exactly list (objectiveRowOf o)
   described-exactly list (D.Flood s i t) =
       retold (and-exactly (inside-exactly source i) (pairs-exactly list)) (λ h. ((h .0, h .1 .0), h .1 .1)) (λ h. (h .0 .0, (h .0 .1, h .1)))
   described-exactly list (D.Invalid s v) =

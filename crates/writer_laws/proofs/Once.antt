@@ -11,8 +11,8 @@ use Rattle.base.specs.Lists.{Every}
 use Rattle.cbor.specs.Put.{head}
 use Rattle.cbor.specs.Tree.{headBytes}
 use Rattle.rfc8990.specs.Limits.{mostBytes}
-use Rattle.rfc8990.specs.Message.{Loc, Obj, Pair, Aim, Ending, Msg}
-use Rattle.rfc8990.specs.Encoding.{string, numberOrNull, reached, fixed, encodeLoc, oneMore, encodeObj, maybeObj, howMany, locOrEmpty, encodePair, targetItems, encodeTargets, encodeEnding, preamble, exchange, encodeMsg}
+use Rattle.rfc8990.specs.Message.{Loc, Obj, Pair, Tgts, Outc, Msg}
+use Rattle.rfc8990.specs.Encoding.{string, numberOrNull, reached, fixed, encodeLoc, oneMore, encodeObj, maybeObj, howMany, locOrEmpty, encodePair, targetItems, encodeTargets, encodeOutc, preamble, exchange, encodeMsg}
 use Rattle.description.proofs.Items.{more-le}
 use Rattle.writer_laws.proofs.Script.{Small, Piece, spell, spells, Like, Valued, array-rest, array-next, number-next, string-next, array-none, none-array, text-number, number-text, turned, perhaps, Each, perhaps-next, value-next}
 
@@ -291,79 +291,79 @@ extra-once (some o) (some o′) h l = ap some (objective-last h l)
 
 -- ---- a Response's locators or divert, and its objective
 -- their pieces
-targets : Aim → List Piece → List Piece
-targets (Aim.locators ls) ts = locators ls ts
-targets (Aim.divert ls) ts = Piece.array (1 + length ls) ∷ Piece.number 100 ∷ locators ls ts
+targets : Tgts → List Piece → List Piece
+targets (Tgts.locators ls) ts = locators ls ts
+targets (Tgts.divert ls) ts = Piece.array (1 + length ls) ∷ Piece.number 100 ∷ locators ls ts
 
 -- their numbers are small
-abbrev pub SmallTargets : Aim → Type 0
-SmallTargets (Aim.locators ls) = Every SmallLoc ls
-SmallTargets (Aim.divert ls) = Every SmallLoc ls
+abbrev pub SmallTargets : Tgts → Type 0
+SmallTargets (Tgts.locators ls) = Every SmallLoc ls
+SmallTargets (Tgts.divert ls) = Every SmallLoc ls
 
 -- their pieces spell them
-targets-spelt : (x : Aim) (ts : List Piece) → spells (targets x ts) ≡ encodeTargets x ++ spells ts
+targets-spelt : (x : Tgts) (ts : List Piece) → spells (targets x ts) ≡ encodeTargets x ++ spells ts
 unfolding spell targets encodeTargets
-targets-spelt (Aim.locators ls) ts = locators-spelt ls ts
-targets-spelt (Aim.divert ls) ts =
+targets-spelt (Tgts.locators ls) ts = locators-spelt ls ts
+targets-spelt (Tgts.divert ls) ts =
     piece-spelt (Piece.array (1 + length ls)) (Piece.number 100 ∷ locators ls ts) ∙ rw (piece-spelt (Piece.number 100) (locators ls ts), locators-spelt ls ts) (simp append-assoc)
 
 -- locators, and then an objective or none: no objective is a locator
-aimed-once : (ls ls′ : List Loc) (o o′ : Option (Obj (List ℕ))) → Every SmallLoc ls → Each SmallObj o → Like (locators ls (extra o)) (locators ls′ (extra o′)) → (ls ≡ ls′) × (o ≡ o′)
+tgts-followed-once : (ls ls′ : List Loc) (o o′ : Option (Obj (List ℕ))) → Every SmallLoc ls → Each SmallObj o → Like (locators ls (extra o)) (locators ls′ (extra o′)) → (ls ≡ ls′) × (o ≡ o′)
 unfolding all
-aimed-once [] [] o o′ h ho l = (refl, extra-once o o′ ho l)
-aimed-once [] (x′ ∷ ls′) none o′ h ho l = absurd (none-array l)
-aimed-once [] (x′ ∷ ls′) (some o) o′ h ho l = absurd (text-number (array-rest l))
-aimed-once (x ∷ ls) [] o none h ho l = absurd (array-none l)
-aimed-once (x ∷ ls) [] o (some o′) h ho l = absurd (number-text (array-rest l))
-aimed-once (x ∷ ls) (x′ ∷ ls′) o o′ (h, hs) ho l =
+tgts-followed-once [] [] o o′ h ho l = (refl, extra-once o o′ ho l)
+tgts-followed-once [] (x′ ∷ ls′) none o′ h ho l = absurd (none-array l)
+tgts-followed-once [] (x′ ∷ ls′) (some o) o′ h ho l = absurd (text-number (array-rest l))
+tgts-followed-once (x ∷ ls) [] o none h ho l = absurd (array-none l)
+tgts-followed-once (x ∷ ls) [] o (some o′) h ho l = absurd (number-text (array-rest l))
+tgts-followed-once (x ∷ ls) (x′ ∷ ls′) o o′ (h, hs) ho l =
     let (same, l₁) = locator-next {l = x} {l′ = x′} h l in
-    let (rest, obj) = aimed-once ls ls′ o o′ hs ho l₁ in
+    let (rest, obj) = tgts-followed-once ls ls′ o o′ hs ho l₁ in
     (ap₂ (λ (l : Loc) (ls : List Loc). l ∷ ls) same rest, obj)
 
 -- locators are no divert, whose lead is no locator's
-mixed : (ls ls′ : List Loc) (o o′ : Option (Obj (List ℕ))) → Like (targets (Aim.locators ls) (extra o)) (targets (Aim.divert ls′) (extra o′)) → ⊥
+mixed : (ls ls′ : List Loc) (o o′ : Option (Obj (List ℕ))) → Like (targets (Tgts.locators ls) (extra o)) (targets (Tgts.divert ls′) (extra o′)) → ⊥
 unfolding targets all
 mixed [] ls′ none o′ l = none-array l
 mixed [] ls′ (some o) o′ l = text-number (array-rest l)
 mixed (x ∷ ls) ls′ o o′ l = omega (arith, kind-range x, number-next (omega (arith, kind-range x)) (array-rest l) .0)
 
 -- so many locators as have bytes
-divert-few : (ls : List Loc) → length ls ≤ length (encodeTargets (Aim.divert ls))
+divert-few : (ls : List Loc) → length ls ≤ length (encodeTargets (Tgts.divert ls))
 unfolding encodeTargets
 divert-few ls = omega (arith, length-append (head 4 (1 + length ls) ++ head 0 100) (flatMap encodeLoc ls), locators-few ls)
 
 -- in a message they are few
-many-small : (ls : List Loc) {us : List Piece} (ts : List Piece) → Like (targets (Aim.divert ls) ts) us → Small (1 + length ls)
+many-small : (ls : List Loc) {us : List Piece} (ts : List Piece) → Like (targets (Tgts.divert ls) ts) us → Small (1 + length ls)
 many-small ls ts l =
-    omega (arith, l .few, ap length (targets-spelt (Aim.divert ls) ts), length-append (encodeTargets (Aim.divert ls)) (spells ts), divert-few ls)
+    omega (arith, l .few, ap length (targets-spelt (Tgts.divert ls) ts), length-append (encodeTargets (Tgts.divert ls)) (spells ts), divert-few ls)
 
 -- so they are the same
-targets-once : (x x′ : Aim) (o o′ : Option (Obj (List ℕ))) → SmallTargets x → Each SmallObj o → Like (targets x (extra o)) (targets x′ (extra o′)) → (x ≡ x′) × (o ≡ o′)
+targets-once : (x x′ : Tgts) (o o′ : Option (Obj (List ℕ))) → SmallTargets x → Each SmallObj o → Like (targets x (extra o)) (targets x′ (extra o′)) → (x ≡ x′) × (o ≡ o′)
 unfolding targets
-targets-once (Aim.locators ls) (Aim.locators ls′) o o′ h ho l =
-    let (same, obj) = aimed-once ls ls′ o o′ h ho l in
-    (ap Aim.locators same, obj)
-targets-once (Aim.locators ls) (Aim.divert ls′) o o′ h ho l = absurd (mixed ls ls′ o o′ l)
-targets-once (Aim.divert ls) (Aim.locators ls′) o o′ h ho l = absurd (mixed ls′ ls o′ o (turned l))
-targets-once (Aim.divert ls) (Aim.divert ls′) o o′ h ho l =
+targets-once (Tgts.locators ls) (Tgts.locators ls′) o o′ h ho l =
+    let (same, obj) = tgts-followed-once ls ls′ o o′ h ho l in
+    (ap Tgts.locators same, obj)
+targets-once (Tgts.locators ls) (Tgts.divert ls′) o o′ h ho l = absurd (mixed ls ls′ o o′ l)
+targets-once (Tgts.divert ls) (Tgts.locators ls′) o o′ h ho l = absurd (mixed ls′ ls o′ o (turned l))
+targets-once (Tgts.divert ls) (Tgts.divert ls′) o o′ h ho l =
     let (many, l₁) = array-next (many-small ls (extra o) l) l in
     let (_, l₂) = number-next (lit< tt) l₁ in
     let (same, l₃) = locators-next ls ls′ (omega arith) h l₂ in
-    (ap Aim.divert same, extra-once o o′ ho l₃)
+    (ap Tgts.divert same, extra-once o o′ ho l₃)
 
 -- ---- how a negotiation ends
 -- its pieces
-abbrev ended : Ending → List Piece
-ended Ending.accept = Piece.array 1 ∷ Piece.number 101 ∷ []
-ended Ending.decline = Piece.array 1 ∷ Piece.number 102 ∷ []
-ended (Ending.reason t) = Piece.array 2 ∷ Piece.number 102 ∷ Piece.string 3 t ∷ []
+abbrev ended : Outc → List Piece
+ended Outc.accept = Piece.array 1 ∷ Piece.number 101 ∷ []
+ended Outc.decline = Piece.array 1 ∷ Piece.number 102 ∷ []
+ended (Outc.reason t) = Piece.array 2 ∷ Piece.number 102 ∷ Piece.string 3 t ∷ []
 
 -- they spell it
-ended-spelt : (e : Ending) → spells (ended e) ≡ encodeEnding e
-unfolding spells spell encodeEnding
-ended-spelt Ending.accept = simp append-nil
-ended-spelt Ending.decline = simp append-nil
-ended-spelt (Ending.reason t) = simp (append-assoc, append-nil)
+ended-spelt : (e : Outc) → spells (ended e) ≡ encodeOutc e
+unfolding spells spell encodeOutc
+ended-spelt Outc.accept = simp append-nil
+ended-spelt Outc.decline = simp append-nil
+ended-spelt (Outc.reason t) = simp (append-assoc, append-nil)
 
 -- the number of items and the option's number
 ended-heads : {n n′ k k′ : ℕ} {ts ts′ : List Piece} → Small n → Small k → Like (Piece.array n ∷ Piece.number k ∷ ts) (Piece.array n′ ∷ Piece.number k′ ∷ ts′)
@@ -374,16 +374,16 @@ ended-heads hn hk l =
     (n, k, l₂)
 
 -- so it is the same
-ending-once : (e e′ : Ending) → Like (ended e) (ended e′) → e ≡ e′
-ending-once Ending.accept Ending.accept l = refl
-ending-once Ending.accept Ending.decline l = absurd (omega (arith, ended-heads (lit< tt) (lit< tt) l .1))
-ending-once Ending.accept (Ending.reason t) l = absurd (omega (arith, ended-heads (lit< tt) (lit< tt) l .1))
-ending-once Ending.decline Ending.accept l = absurd (omega (arith, ended-heads (lit< tt) (lit< tt) l .1))
-ending-once Ending.decline Ending.decline l = refl
-ending-once Ending.decline (Ending.reason t) l = absurd (omega (arith, ended-heads (lit< tt) (lit< tt) l .0))
-ending-once (Ending.reason t) Ending.accept l = absurd (omega (arith, ended-heads (lit< tt) (lit< tt) l .1))
-ending-once (Ending.reason t) Ending.decline l = absurd (omega (arith, ended-heads (lit< tt) (lit< tt) l .0))
-ending-once (Ending.reason t) (Ending.reason t′) l = ap Ending.reason (string-next (ended-heads (lit< tt) (lit< tt) l .2) .0)
+outc-once : (e e′ : Outc) → Like (ended e) (ended e′) → e ≡ e′
+outc-once Outc.accept Outc.accept l = refl
+outc-once Outc.accept Outc.decline l = absurd (omega (arith, ended-heads (lit< tt) (lit< tt) l .1))
+outc-once Outc.accept (Outc.reason t) l = absurd (omega (arith, ended-heads (lit< tt) (lit< tt) l .1))
+outc-once Outc.decline Outc.accept l = absurd (omega (arith, ended-heads (lit< tt) (lit< tt) l .1))
+outc-once Outc.decline Outc.decline l = refl
+outc-once Outc.decline (Outc.reason t) l = absurd (omega (arith, ended-heads (lit< tt) (lit< tt) l .0))
+outc-once (Outc.reason t) Outc.accept l = absurd (omega (arith, ended-heads (lit< tt) (lit< tt) l .1))
+outc-once (Outc.reason t) Outc.decline l = absurd (omega (arith, ended-heads (lit< tt) (lit< tt) l .0))
+outc-once (Outc.reason t) (Outc.reason t′) l = ap Outc.reason (string-next (ended-heads (lit< tt) (lit< tt) l .2) .0)
 
 -- ---- messages
 -- how many items a message's array has
@@ -460,11 +460,11 @@ pieces-spelt (Msg.invalid s v) = simp (append-assoc, append-nil)
 data Told : ℕ → Msg (List ℕ) → Type 0 where
   noop : Told 0 Msg.noop
   discovery : {s : ℕ} {i : List ℕ} {o : Obj (List ℕ)} → Told 1 (Msg.discovery s i o)
-  response : {s t : ℕ} {i : List ℕ} {x : Aim} {o : Option (Obj (List ℕ))} → Told 2 (Msg.response s i t x o)
+  response : {s t : ℕ} {i : List ℕ} {x : Tgts} {o : Option (Obj (List ℕ))} → Told 2 (Msg.response s i t x o)
   request-negotiation : {s : ℕ} {o : Obj (List ℕ)} → Told 3 (Msg.request-negotiation s o)
   request-synchronization : {s : ℕ} {o : Obj (List ℕ)} → Told 4 (Msg.request-synchronization s o)
   negotiate : {s : ℕ} {o : Obj (List ℕ)} → Told 5 (Msg.negotiate s o)
-  end : {s : ℕ} {e : Ending} → Told 6 (Msg.end s e)
+  end : {s : ℕ} {e : Outc} → Told 6 (Msg.end s e)
   wait : {s t : ℕ} → Told 7 (Msg.wait s t)
   synch : {s : ℕ} {o : Obj (List ℕ)} → Told 8 (Msg.synch s o)
   flood : {s t : ℕ} {i : List ℕ} {ps : List (Pair (List ℕ))} → Told 9 (Msg.flood s i t ps)
@@ -538,7 +538,7 @@ rest-once Told.request-synchronization Told.request-synchronization (hs, ho) v v
 rest-once Told.negotiate Told.negotiate (hs, ho) v v′ l = let (s, o) = exchange-once hs ho l in ap₂ Msg.negotiate s o
 rest-once (Told.end {e = x}) (Told.end {e = x′}) h v v′ l =
     let (s, l₁) = number-next h l in
-    ap₂ Msg.end s (ending-once x x′ l₁)
+    ap₂ Msg.end s (outc-once x x′ l₁)
 rest-once Told.wait Told.wait (hs, ht) v v′ l =
     let (s, l₁) = number-next hs l in
     ap₂ Msg.wait s (number-next ht l₁ .0)

@@ -26,15 +26,15 @@ use Rattle.rfc8990.specs.Cddl.{Value, PairItems}
 use Rattle.message_laws.specs.Stands.{StandAll, TagIs, PairIs}
 use Rattle.message_laws.proofs.Bridge.{split}
 use Rattle.message_laws.proofs.Pair.{pair-read}
-use Rattle.description.specs.declared.rows.Entry.{Entry}
+use Rattle.description.specs.declared.rows.ObjectiveRow.{ObjectiveRow}
 use Rattle.description.specs.declared.rows.LocatorRow.{LocatorRow}
-use Rattle.description.specs.Meaning.{pairRow, entryRow, entryOf, objOf, entryAt, locatorRowLoc, locatorRowAt, locOrNone}
-use Rattle.forms.specs.Describe.{goalOf}
+use Rattle.description.specs.Meaning.{pairRow, objectiveRow, objectiveRowOf, objOf, objectiveRowAt, locatorRowLoc, locatorRowAt, locOrNone}
+use Rattle.forms.specs.Describe.{givenOf}
 use Rattle.forms.specs.Rows as R
 use Rattle.writer_laws.specs.Plain.{valueBytes}
-use Rattle.writer_laws.specs.Says.{EntrySays, LocatorRowSays, Blank}
+use Rattle.writer_laws.specs.Says.{ObjectiveRowSays, LocatorRowSays, Blank}
 use Rattle.writer_laws.proofs.Filled.{Tells, Chain}
-use Rattle.writer_laws.proofs.Spans.{objective-goals}
+use Rattle.writer_laws.proofs.Spans.{objective-gives}
 use Rattle.writer_laws.proofs.Locators.{locator-told}
 
 -- ---- a row
@@ -55,15 +55,15 @@ pair-twelve o tag = refl
 -- what a row is: the place of the count's head, the objective and the locator
 pub record Row : Type 0 where
   pub count-at : ℕ
-  pub entry : Entry
+  pub entry : ObjectiveRow
   pub locator : LocatorRow
 
 unfoldable pub rowAt : List ℕ → ℕ → Row
-rowAt list k = record { count-at = getD list (k + 4) 0; entry = entryAt list k; locator = locatorRowAt list (k + entryRow) }
+rowAt list k = record { count-at = getD list (k + 4) 0; entry = objectiveRowAt list k; locator = locatorRowAt list (k + objectiveRow) }
 
 -- the numbers behind others
 pub row-shift : (a b : List ℕ) (k : ℕ) → rowAt (a ++ b) (length a + k) ≡ rowAt b k
-unfolding rowAt entryAt locatorRowAt
+unfolding rowAt objectiveRowAt locatorRowAt
 row-shift a b k = simp (add-assoc, getD-append-add)
 
 -- ---- what it tells
@@ -94,7 +94,7 @@ pairOf s r = (objOf s (r .entry), locOrNone s (r .locator))
 
 pub record InOrder (s : List ℕ) (r : Row) : Type 0 where
   pub count-at : r .count-at ≡ 0
-  pub objective : EntrySays s (r .entry)
+  pub objective : ObjectiveRowSays s (r .entry)
   pub locator : Blank (r .locator) ⊎ LocatorRowSays s (r .locator)
 
 module _ (s : List ℕ) where
@@ -119,11 +119,11 @@ module _ (s : List ℕ) where
 
   -- what the numbers of a pair that was read tell
   pair-told : {p : ℕ} {o : Objective} {tag : Tag} {pair : Pair Value} → PairIs s p o tag pair → (rest : List ℕ) → PairTold (R.pairCells o tag ++ rest) (valuedPair valueBytes pair)
-  unfolding R.pairCells pairNumbers rowAt entryAt locatorRowAt entryOf goalOf valuedPair
+  unfolding R.pairCells pairNumbers rowAt objectiveRowAt locatorRowAt objectiveRowOf givenOf valuedPair
   pair-told {tag = tag} {pair} i rest =
-      let goal = objective-goals (i .objective) in
+      let gives = objective-gives (i .objective) in
       let (is, says) = subst (λ (ns : List ℕ). TagTold s (ns ++ rest) (pair .1)) (sym (tag-five tag)) (tag-told (i .tag) rest) in
-      (ap₂ (λ (x : Obj (List ℕ)) (y : Option Loc). (x, y)) (goal .is) is, record { count-at = refl; objective = goal .says; locator = says })
+      (ap₂ (λ (x : Obj (List ℕ)) (y : Option Loc). (x, y)) (gives .is) is, record { count-at = refl; objective = gives .says; locator = says })
 
   -- the pairs that stand in a message
   pub pairs-rows : {p e : ℕ} {xs : Items} {ps : List (Pair Value)} → depths xs ≤ leftUnder 1 → StandAll s p e xs → PairItems xs ps → (rows : List (List ℕ)) × Pairs p rows (map (valuedPair valueBytes) ps)

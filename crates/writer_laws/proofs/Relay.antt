@@ -42,7 +42,7 @@ texts-stay : (msg : Msg Value) → (textsOf (lowerMsg msg) ≡ textsOf msg) × (
 unfolding textsOf namesOf lowerMsg lowerObj withCount flatMap pairTexts
 texts-stay Msg.noop = (refl, refl)
 texts-stay (Msg.discovery s i o) = (refl, refl)
-texts-stay (Msg.response s i t aim o) = (refl, refl)
+texts-stay (Msg.response s i t tgts o) = (refl, refl)
 texts-stay (Msg.request-negotiation s o) = (refl, refl)
 texts-stay (Msg.request-synchronization s o) = (refl, refl)
 texts-stay (Msg.negotiate s o) = (refl, refl)

@@ -16,11 +16,11 @@ use Rattle.rfc8990.specs.Message.{Obj, valuedObj}
 use Rattle.rfc8990.specs.Cddl.{Value}
 use Rattle.message_laws.specs.Stands.{Stands, ValueIs, ObjectiveIs}
 use Rattle.message_laws.proofs.Bridge.{text-token, stands-within}
-use Rattle.description.specs.Meaning.{entryOf, objOf}
-use Rattle.forms.specs.Describe.{goalOf}
+use Rattle.description.specs.Meaning.{objectiveRowOf, objOf}
+use Rattle.forms.specs.Describe.{givenOf}
 use Rattle.writer_laws.proofs.Once.{objective-ext}
 use Rattle.writer_laws.specs.Plain.{valueBytes}
-use Rattle.writer_laws.specs.Says.{Inside, EntrySays}
+use Rattle.writer_laws.specs.Says.{Inside, ObjectiveRowSays}
 
 -- a span of these bytes
 pub record Cuts (s : List ℕ) (span : Span) (bs : List ℕ) : Type 0 where
@@ -56,13 +56,13 @@ end-cuts {s} {span} before bs e q =
     })
 
 -- an objective, as the description has it
-pub record Goals (s : List ℕ) (o : Objective) (obj : Obj Value) : Type 0 where
-  pub says : EntrySays s (entryOf (goalOf o))
-  pub is : objOf s (entryOf (goalOf o)) ≡ valuedObj valueBytes obj
+pub record Gives (s : List ℕ) (o : Objective) (obj : Obj Value) : Type 0 where
+  pub says : ObjectiveRowSays s (objectiveRowOf (givenOf o))
+  pub is : objOf s (objectiveRowOf (givenOf o)) ≡ valuedObj valueBytes obj
 
-pub objective-goals : {s : List ℕ} {p e : ℕ} {o : Objective} {obj : Obj Value} → ObjectiveIs s p e o obj → Goals s o obj
-unfolding entryOf goalOf objOf valuedObj
-objective-goals {o = o} {obj} i =
+pub objective-gives : {s : List ℕ} {p e : ℕ} {o : Objective} {obj : Obj Value} → ObjectiveIs s p e o obj → Gives s o obj
+unfolding objectiveRowOf givenOf objOf valuedObj
+objective-gives {o = o} {obj} i =
     let name = string-cuts (i .name-item) (i .name) in
     let value = value-cuts (i .value) in
     record { says = record { name = name .inside; value = value .inside }; is = objective-ext (name .is) (i .flags) (i .count) (value .is) }

@@ -8,8 +8,8 @@ use lib.Dec.{lit<}
 use Rattle.base.specs.Lists.{Every}
 use Rattle.cbor.specs.Item.{mostLevels}
 use Rattle.cbor.specs.Tree.{Item, Items, depth, depths, Good, Goods}
-use Rattle.rfc8990.specs.Message.{Loc, Obj, Pair, Aim, Msg, valuedObj, valuedPair, valued}
-use Rattle.rfc8990.specs.Cddl.{joined, Protocol, Port, OrNull, LocatorItem, ObjectiveItem, LocatorItems, Value, PairItem, PairItems, Number, OptionalItems, AimItems, MessageItem}
+use Rattle.rfc8990.specs.Message.{Loc, Obj, Pair, Tgts, Msg, valuedObj, valuedPair, valued}
+use Rattle.rfc8990.specs.Cddl.{joined, Protocol, Port, OrNull, LocatorItem, ObjectiveItem, LocatorItems, Value, PairItem, PairItems, Number, OptionalItems, TgtsItems, MessageItem}
 use Rattle.writer_laws.specs.Plain.{valueBytes, plain}
 use Rattle.writer_laws.proofs.Script.{Small, Each, Valued}
 use Rattle.writer_laws.proofs.Once.{SmallObj, ValuedObj, SmallLoc, SmallPair, ValuedPair, SmallTargets, SmallMsg, ValuedMsg}
@@ -68,16 +68,16 @@ optional-small OptionalItems.without = tt
 optional-small (OptionalItems.with-one o) = objective-small o
 
 -- those of a Response's locators or divert, and of its objective
-aim-small : {xs : Items} {aim : Aim} {o : Option (Obj Value)} → AimItems xs aim o → SmallTargets aim × Each SmallObj (Option·map (valuedObj valueBytes) o)
-aim-small (AimItems.locators is o) = (locators-small is, optional-small o)
-aim-small (AimItems.divert is o) = (locators-small is, optional-small o)
+tgts-small : {xs : Items} {tgts : Tgts} {o : Option (Obj Value)} → TgtsItems xs tgts o → SmallTargets tgts × Each SmallObj (Option·map (valuedObj valueBytes) o)
+tgts-small (TgtsItems.locators is o) = (locators-small is, optional-small o)
+tgts-small (TgtsItems.divert is o) = (locators-small is, optional-small o)
 
 -- Every message's numbers are small.
 pub plain-small : {x : Item} {msg : Msg Value} → MessageItem x msg → SmallMsg (plain msg)
 unfolding plain valued
 plain-small MessageItem.noop = tt
 plain-small (MessageItem.discovery i j o) = (number-small i, objective-small o)
-plain-small (MessageItem.response i j t a) = let (x, o) = aim-small a in (number-small i, number-small t, x, o)
+plain-small (MessageItem.response i j t a) = let (x, o) = tgts-small a in (number-small i, number-small t, x, o)
 plain-small (MessageItem.request-negotiation i o) = (number-small i, objective-small o)
 plain-small (MessageItem.request-synchronization i o) = (number-small i, objective-small o)
 plain-small (MessageItem.negotiate i o) = (number-small i, objective-small o)
@@ -149,16 +149,16 @@ joined-fines Items.done ys f = f
 joined-fines (Items.more x xs) ys f = joined-fines xs ys (fine-rest f)
 
 -- that of a Response's objective
-aim-valued : {xs : Items} {aim : Aim} {o : Option (Obj Value)} → Fines xs → AimItems xs aim o → Each ValuedObj (Option·map (valuedObj valueBytes) o)
-aim-valued f (AimItems.locators {xs = xs} {ys = ys} is o) = optional-valued (joined-fines xs ys f) o
-aim-valued f (AimItems.divert is o) = optional-valued (fine-rest f) o
+tgts-valued : {xs : Items} {tgts : Tgts} {o : Option (Obj Value)} → Fines xs → TgtsItems xs tgts o → Each ValuedObj (Option·map (valuedObj valueBytes) o)
+tgts-valued f (TgtsItems.locators {xs = xs} {ys = ys} is o) = optional-valued (joined-fines xs ys f) o
+tgts-valued f (TgtsItems.divert is o) = optional-valued (fine-rest f) o
 
 -- a message's
 message-valued : {x : Item} {msg : Msg Value} → Fine x → MessageItem x msg → ValuedMsg (plain msg)
 unfolding plain valued valueBytes
 message-valued f MessageItem.noop = tt
 message-valued f (MessageItem.discovery i j o) = objective-valued (fine-first (fine-after f)) o
-message-valued f (MessageItem.response i j t a) = aim-valued (fine-rest (fine-after f)) a
+message-valued f (MessageItem.response i j t a) = tgts-valued (fine-rest (fine-after f)) a
 message-valued f (MessageItem.request-negotiation i o) = objective-valued (fine-third f) o
 message-valued f (MessageItem.request-synchronization i o) = objective-valued (fine-third f) o
 message-valued f (MessageItem.negotiate i o) = objective-valued (fine-third f) o

@@ -11,15 +11,15 @@ use Rattle.message.specs.declared.Message.{Message}
 use Rattle.reader.specs.declared.Reading.{Reading}
 use Rattle.reader.specs.Read.{readOf}
 use Rattle.rfc8990.specs.Accepted.{Accepted}
-use Rattle.description.specs.declared.rows.Entry.{Entry}
+use Rattle.description.specs.declared.rows.ObjectiveRow.{ObjectiveRow}
 use Rattle.description.specs.declared.rows.LocatorRow.{LocatorRow}
-use Rattle.description.specs.declared.Extra.{Extra}
-use Rattle.description.specs.declared.Extra.the-variants as X
+use Rattle.description.specs.declared.GivenExtra.{GivenExtra}
+use Rattle.description.specs.declared.GivenExtra.the-variants as X
 use Rattle.options.specs.declared.Outcome.{Outcome}
 use Rattle.options.specs.declared.Outcome.the-variants as E
 use Rattle.description.specs.declared.Description.{Description}
 use Rattle.description.specs.declared.Description.the-variants as D
-use Rattle.description.specs.Meaning.{locatorRow, pairRow, entryRow, entryOf, locatorRowAt, entryAt, msgOf}
+use Rattle.description.specs.Meaning.{locatorRow, pairRow, objectiveRow, objectiveRowOf, locatorRowAt, objectiveRowAt, msgOf}
 use Rattle.writer.specs.Write.{draftOf}
 use Rattle.writer_laws.specs.Plain.{plain}
 
@@ -28,7 +28,7 @@ abbrev pub Inside : List ℕ → Span → Type 0
 Inside source s = (s .len ≡ 0) ⊎ (s .at + s .len ≤ length source)
 
 -- an objective's name and value
-pub record EntrySays (source : List ℕ) (o : Entry) : Type 0 where
+pub record ObjectiveRowSays (source : List ℕ) (o : ObjectiveRow) : Type 0 where
   pub name : Inside source (o .name)
   pub value : Inside source (o .value)
 
@@ -49,8 +49,8 @@ pub record Blank (p : LocatorRow) : Type 0 where
 -- row i of a list of pairs; the place of the count's head, which only a reader gives, is 0
 pub record PairSays (source list : List ℕ) (i : ℕ) : Type 0 where
   pub count-at : getD list (pairRow * i + 4) 0 ≡ 0
-  pub objective : EntrySays source (entryAt list (pairRow * i))
-  pub locator : Blank (locatorRowAt list (pairRow * i + entryRow)) ⊎ LocatorRowSays source (locatorRowAt list (pairRow * i + entryRow))
+  pub objective : ObjectiveRowSays source (objectiveRowAt list (pairRow * i))
+  pub locator : Blank (locatorRowAt list (pairRow * i + objectiveRow)) ⊎ LocatorRowSays source (locatorRowAt list (pairRow * i + objectiveRow))
 
 -- whole rows of so many numbers, and what holds of each
 pub record Rows (list : List ℕ) (size : ℕ) (P : ℕ → Type 0) : Type 0 where
@@ -58,9 +58,9 @@ pub record Rows (list : List ℕ) (size : ℕ) (P : ℕ → Type 0) : Type 0 whe
   pub each : (i : ℕ) → i < length list / size → P i
 
 -- an objective that may be left out
-abbrev pub ExtraSays : List ℕ → Extra → Type 0
+abbrev pub ExtraSays : List ℕ → GivenExtra → Type 0
 ExtraSays source X.Without = Unit {0}
-ExtraSays source (X.With o) = EntrySays source (entryOf o)
+ExtraSays source (X.With o) = ObjectiveRowSays source (objectiveRowOf o)
 
 -- how a negotiation ends
 abbrev pub OutcomeSays : List ℕ → Outcome → Type 0
@@ -71,14 +71,14 @@ OutcomeSays source (E.Reason t) = Inside source t
 -- what a description holds
 abbrev pub PartsSay : List ℕ → List ℕ → Description → Type 0
 PartsSay source list D.Noop = list ≡ []
-PartsSay source list (D.Discovery s i o) = (list ≡ []) × Inside source i × EntrySays source (entryOf o)
+PartsSay source list (D.Discovery s i o) = (list ≡ []) × Inside source i × ObjectiveRowSays source (objectiveRowOf o)
 PartsSay source list (D.Response s i t d o) = Inside source i × Rows list locatorRow (λ k. LocatorRowSays source (locatorRowAt list (locatorRow * k))) × ExtraSays source o
-PartsSay source list (D.RequestNegotiation s o) = (list ≡ []) × EntrySays source (entryOf o)
-PartsSay source list (D.RequestSynchronization s o) = (list ≡ []) × EntrySays source (entryOf o)
-PartsSay source list (D.Negotiate s o) = (list ≡ []) × EntrySays source (entryOf o)
+PartsSay source list (D.RequestNegotiation s o) = (list ≡ []) × ObjectiveRowSays source (objectiveRowOf o)
+PartsSay source list (D.RequestSynchronization s o) = (list ≡ []) × ObjectiveRowSays source (objectiveRowOf o)
+PartsSay source list (D.Negotiate s o) = (list ≡ []) × ObjectiveRowSays source (objectiveRowOf o)
 PartsSay source list (D.End s e) = (list ≡ []) × OutcomeSays source e
 PartsSay source list (D.Wait s t) = list ≡ []
-PartsSay source list (D.Synch s o) = (list ≡ []) × EntrySays source (entryOf o)
+PartsSay source list (D.Synch s o) = (list ≡ []) × ObjectiveRowSays source (objectiveRowOf o)
 PartsSay source list (D.Flood s i t) = Inside source i × Rows list pairRow (PairSays source list)
 PartsSay source list (D.Invalid s v) = (list ≡ []) × Inside source v
 

@@ -1,4 +1,4 @@
--- `cbor::big_endian` meets its contract. The loop's invariant: the bytes passed spell `value`, a number of that many bytes.
+-- `cbor::head::big_endian` meets its contract. The loop's invariant: the bytes passed spell `value`, a number of that many bytes.
 -- Assumes nothing.
 use mathlib.Core.Path.{_≡_, refl}
 use Prim.Native.Nat.{_≤_, _<_, _-_, _+_, _*_, _^_}

@@ -1,4 +1,4 @@
--- `put::head` meets its contract: each answer is a law of `Stores`.
+-- `cbor::put::head` meets its contract: each answer is a law of `Stores`.
 -- Assumes nothing.
 use mathlib.Core.Path.{_∙_}
 use mathlib.Core.Logic.{inl}

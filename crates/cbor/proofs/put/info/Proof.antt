@@ -1,4 +1,4 @@
--- `put::info` meets its contract: the definition's tests are the code's.
+-- `cbor::put::info` meets its contract: the definition's tests are the code's.
 -- Assumes nothing.
 use native.Mathlib.Omega.{arith}
 use Rattle.base.specs.Pick.{pick}

@@ -1,4 +1,4 @@
--- `put::spell` meets its contract. The loop's invariant: the bytes that are left, put into the buffer as it is, give what all of them give in the
+-- `cbor::put::spell` meets its contract. The loop's invariant: the bytes that are left, put into the buffer as it is, give what all of them give in the
 -- buffer as it was. The measure is how many are left.
 -- Assumes nothing.
 use mathlib.Core.Path.{_≡_, _∙_}

@@ -6,7 +6,7 @@ use Rattle.description.proofs.judge.ok_extra.Statement.{statement}
 use Rattle.description.proofs.judge.ok_extra.Tie as tie
 use Rattle.description.proofs.judge.ok_extra.Reads as reads
 use Rattle.description.proofs.judge.ok_extra.Lts as lts
-use Rattle.description.proofs.judge.ok_goal.Reads as ok-goal-reads
+use Rattle.description.proofs.judge.ok_given.Reads as ok-given-reads
 
 enum-told : tie.Need-enum-told
 enum-told c = search needs
@@ -14,8 +14,8 @@ enum-told c = search needs
 enum-known-extra : tie.Need-enum-known-extra
 enum-known-extra c = search needs
 
-ok-goal-requires : tie.Need-ok-goal-requires
-ok-goal-requires c κs = search needs
+ok-given-requires : tie.Need-ok-given-requires
+ok-given-requires c κs = search needs
 
 returns : tie.Need-returns
 unfolding okExtra
@@ -23,7 +23,7 @@ returns c = rw (c .enum-told .given .1)
 
 returns-2 : tie.Need-returns-2
 unfolding okExtra
-returns-2 c = rw (c .before .before .extra .given .1) (c .ok-goal .ensures)
+returns-2 c = rw (c .before .before .extra .given .1) (c .ok-given .ensures)
 
 pub ok-extra-spec : {M : Type 1} → statement M
-ok-extra-spec = tie.close (tie.spec enum-told enum-known-extra ok-goal-requires returns returns-2)
+ok-extra-spec = tie.close (tie.spec enum-told enum-known-extra ok-given-requires returns returns-2)

@@ -6,7 +6,7 @@ use Rattle.description.proofs.judge.ok_parts.Statement.{statement}
 use Rattle.description.proofs.judge.ok_parts.Tie as tie
 use Rattle.description.proofs.judge.ok_parts.Reads as reads
 use Rattle.description.proofs.judge.ok_parts.Lts as lts
-use Rattle.description.proofs.judge.ok_goal.Reads as ok-goal-reads
+use Rattle.description.proofs.judge.ok_given.Reads as ok-given-reads
 use Rattle.description.proofs.judge.ok_discovery.Reads as ok-discovery-reads
 use Rattle.description.proofs.judge.ok_outcome.Reads as ok-outcome-reads
 use Rattle.description.proofs.judge.ok_flood.Reads as ok-flood-reads
@@ -31,20 +31,20 @@ ok-response-requires c κs = search needs
 enum-known-m-3 : tie.Need-enum-known-m-3
 enum-known-m-3 c = search needs
 
-ok-goal-requires : tie.Need-ok-goal-requires
-ok-goal-requires c κs = search needs
+ok-given-requires : tie.Need-ok-given-requires
+ok-given-requires c κs = search needs
 
 enum-known-m-4 : tie.Need-enum-known-m-4
 enum-known-m-4 c = search needs
 
-ok-goal-requires-2 : tie.Need-ok-goal-requires-2
-ok-goal-requires-2 c κs = search needs
+ok-given-requires-2 : tie.Need-ok-given-requires-2
+ok-given-requires-2 c κs = search needs
 
 enum-known-m-5 : tie.Need-enum-known-m-5
 enum-known-m-5 c = search needs
 
-ok-goal-requires-3 : tie.Need-ok-goal-requires-3
-ok-goal-requires-3 c κs = search needs
+ok-given-requires-3 : tie.Need-ok-given-requires-3
+ok-given-requires-3 c κs = search needs
 
 enum-known-m-6 : tie.Need-enum-known-m-6
 enum-known-m-6 c = search needs
@@ -58,8 +58,8 @@ enum-told-2 c = search needs
 enum-known-m-7 : tie.Need-enum-known-m-7
 enum-known-m-7 c = search needs
 
-ok-goal-requires-4 : tie.Need-ok-goal-requires-4
-ok-goal-requires-4 c κs = search needs
+ok-given-requires-4 : tie.Need-ok-given-requires-4
+ok-given-requires-4 c κs = search needs
 
 enum-known-m-8 : tie.Need-enum-known-m-8
 enum-known-m-8 c = search needs
@@ -87,15 +87,15 @@ returns-3 c = rw (c .before .before .m2 .given .1) (c .ok-response .ensures)
 
 returns-4 : tie.Need-returns-4
 unfolding okParts
-returns-4 c = rw (c .before .before .m3 .given .1) (c .ok-goal .ensures)
+returns-4 c = rw (c .before .before .m3 .given .1) (c .ok-given .ensures)
 
 returns-5 : tie.Need-returns-5
 unfolding okParts
-returns-5 c = rw (c .before .before .m4 .given .1) (c .ok-goal2 .ensures)
+returns-5 c = rw (c .before .before .m4 .given .1) (c .ok-given2 .ensures)
 
 returns-6 : tie.Need-returns-6
 unfolding okParts
-returns-6 c = rw (c .before .before .m5 .given .1) (c .ok-goal3 .ensures)
+returns-6 c = rw (c .before .before .m5 .given .1) (c .ok-given3 .ensures)
 
 returns-7 : tie.Need-returns-7
 unfolding okParts
@@ -107,7 +107,7 @@ returns-8 c = rw (c .enum-told2 .given .1)
 
 returns-9 : tie.Need-returns-9
 unfolding okParts
-returns-9 c = rw (c .before .before .m7 .given .1) (c .ok-goal4 .ensures)
+returns-9 c = rw (c .before .before .m7 .given .1) (c .ok-given4 .ensures)
 
 returns-10 : tie.Need-returns-10
 unfolding okParts
@@ -127,16 +127,16 @@ ok-parts-spec =
     enum-known-m-2
     ok-response-requires
     enum-known-m-3
-    ok-goal-requires
+    ok-given-requires
     enum-known-m-4
-    ok-goal-requires-2
+    ok-given-requires-2
     enum-known-m-5
-    ok-goal-requires-3
+    ok-given-requires-3
     enum-known-m-6
     ok-outcome-requires
     enum-told-2
     enum-known-m-7
-    ok-goal-requires-4
+    ok-given-requires-4
     enum-known-m-8
     ok-flood-requires
     enum-known-m-9

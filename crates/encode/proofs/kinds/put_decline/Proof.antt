@@ -1,6 +1,6 @@
 -- `encode::kinds::put_decline` meets its contract.
 -- Assumes nothing.
-use Rattle.rfc8990.specs.Encoding.{encodeEnding, encodeMsg}
+use Rattle.rfc8990.specs.Encoding.{encodeOutc, encodeMsg}
 use Rattle.encode.proofs.Puts.{then}
 use borrow.Author.Needs.{needs}
 use Rattle.encode.proofs.kinds.put_decline.Statement.{statement}
@@ -19,7 +19,7 @@ same-length : tie.Need-same-length
 same-length c = search needs
 
 returns : tie.Need-returns
-unfolding encodeMsg encodeEnding
+unfolding encodeMsg encodeOutc
 returns c = then (c .before .before .before .before .before .before .before .before .before .before .put-preamble .ensures) (then (c .before .before .before .before .before .before .head .ensures) (c .before .before .head2 .ensures))
 
 pub put-decline-spec : {M : Type 1} → statement M

@@ -12,17 +12,17 @@ put-preamble-requires c κs = search needs
 part-string-requires : tie.Need-part-string-requires
 part-string-requires c κs = search needs
 
-put-goal-requires : tie.Need-put-goal-requires
-put-goal-requires c κs = search needs
+put-given-requires : tie.Need-put-given-requires
+put-given-requires c κs = search needs
 
 same-length : tie.Need-same-length
 same-length c = search needs
 
 returns : tie.Need-returns
 unfolding encodeMsg
-returns c = then (then (c .before .before .before .before .before .before .before .before .before .before .put-preamble .ensures) (c .before .before .before .before .before .before .part-string .ensures)) (c .before .before .put-goal .ensures)
+returns c = then (then (c .before .before .before .before .before .before .before .before .before .before .put-preamble .ensures) (c .before .before .before .before .before .before .part-string .ensures)) (c .before .before .put-given .ensures)
 
 pub put-discovery-spec : {M : Type 1} → statement M
 put-discovery-spec =
     tie.close
-    (tie.spec put-preamble-requires part-string-requires put-goal-requires same-length returns)
+    (tie.spec put-preamble-requires part-string-requires put-given-requires same-length returns)

@@ -13,8 +13,8 @@ enum-told c = search needs
 enum-known-extra : tie.Need-enum-known-extra
 enum-known-extra c = search needs
 
-put-goal-requires : tie.Need-put-goal-requires
-put-goal-requires c κs = search needs
+put-given-requires : tie.Need-put-given-requires
+put-given-requires c κs = search needs
 
 returns : tie.Need-returns
 unfolding maybeObj extraOf
@@ -25,8 +25,8 @@ same-length c = search needs
 
 returns-2 : tie.Need-returns-2
 unfolding maybeObj extraOf
-returns-2 c = rw (c .before .before .before .before .before .extra .given .1) (c .before .before .put-goal .ensures)
+returns-2 c = rw (c .before .before .before .before .before .extra .given .1) (c .before .before .put-given .ensures)
 
 pub put-extra-spec : {M : Type 1} → statement M
 put-extra-spec =
-    tie.close (tie.spec enum-told enum-known-extra put-goal-requires returns same-length returns-2)
+    tie.close (tie.spec enum-told enum-known-extra put-given-requires returns same-length returns-2)

@@ -1,6 +1,6 @@
 -- `encode::kinds::put_reason` meets its contract.
 -- Assumes nothing.
-use Rattle.rfc8990.specs.Encoding.{encodeEnding, encodeMsg}
+use Rattle.rfc8990.specs.Encoding.{encodeOutc, encodeMsg}
 use Rattle.encode.proofs.Puts.{then}
 use borrow.Author.Needs.{needs}
 use Rattle.encode.proofs.kinds.put_reason.Statement.{statement}
@@ -22,7 +22,7 @@ same-length : tie.Need-same-length
 same-length c = search needs
 
 returns : tie.Need-returns
-unfolding encodeMsg encodeEnding
+unfolding encodeMsg encodeOutc
 returns c = then (c .before .before .before .before .before .before .before .before .before .before .before .before .before .before .put-preamble .ensures) (then (then (c .before .before .before .before .before .before .before .before .before .before .head .ensures) (c .before .before .before .before .before .before .head2 .ensures)) (c .before .before .part-string .ensures))
 
 pub put-reason-spec : {M : Type 1} → statement M

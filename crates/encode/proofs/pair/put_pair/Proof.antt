@@ -7,11 +7,11 @@ use borrow.Author.Needs.{needs}
 use Rattle.encode.proofs.pair.put_pair.Statement.{statement}
 use Rattle.encode.proofs.pair.put_pair.Tie as tie
 
-mul-entry-at : tie.Need-mul-entry-at
-mul-entry-at c = search needs
+mul-objective-row-at : tie.Need-mul-objective-row-at
+mul-objective-row-at c = search needs
 
-entry-at-requires : tie.Need-entry-at-requires
-entry-at-requires c κs = search needs
+objective-row-at-requires : tie.Need-objective-row-at-requires
+objective-row-at-requires c κs = search needs
 
 mul-locator-row-at : tie.Need-mul-locator-row-at
 mul-locator-row-at c = search needs
@@ -25,8 +25,8 @@ locator-row-at-requires c κs = search needs
 head-requires : tie.Need-head-requires
 head-requires c κs = search needs
 
-put-entry-requires : tie.Need-put-entry-requires
-put-entry-requires c κs = search needs
+put-objective-row-requires : tie.Need-put-objective-row-requires
+put-objective-row-requires c κs = search needs
 
 put-locator-row-or-empty-requires : tie.Need-put-locator-row-or-empty-requires
 put-locator-row-or-empty-requires c κs = search needs
@@ -36,19 +36,19 @@ same-length c = search needs
 
 returns : tie.Need-returns
 unfolding encodePair rowPair
-returns c = rw (← (c .before .before .before .before .before .before .before .before .before .before .before .before .before .entry-at .ensures), ← (c .before .before .before .before .before .before .before .before .before .before .before .before .locator-row-at .ensures)) (then (then (c .before .before .before .before .before .before .before .before .before .before .head .ensures) (c .before .before .before .before .before .before .put-entry .ensures)) (c .before .before .put-locator-row-or-empty .ensures))
+returns c = rw (← (c .before .before .before .before .before .before .before .before .before .before .before .before .before .objective-row-at .ensures), ← (c .before .before .before .before .before .before .before .before .before .before .before .before .locator-row-at .ensures)) (then (then (c .before .before .before .before .before .before .before .before .before .before .head .ensures) (c .before .before .before .before .before .before .put-objective-row .ensures)) (c .before .before .put-locator-row-or-empty .ensures))
 
 pub put-pair-spec : {M : Type 1} → statement M
 put-pair-spec =
     tie.close
     (tie.spec
-    mul-entry-at
-    entry-at-requires
+    mul-objective-row-at
+    objective-row-at-requires
     mul-locator-row-at
     add-locator-row-at
     locator-row-at-requires
     head-requires
-    put-entry-requires
+    put-objective-row-requires
     put-locator-row-or-empty-requires
     same-length
     returns)

@@ -1,4 +1,4 @@
--- `blocks::block::discovery` meets its contract.
+-- `forms::block::discovery` meets its contract.
 -- Assumes nothing.
 use Rattle.forms.specs.Block.{discoveryBlock}
 use borrow.Author.Needs.{needs}

@@ -1,4 +1,4 @@
--- `blocks::block::end` meets its contract.
+-- `forms::block::end` meets its contract.
 -- Assumes nothing.
 use Rattle.forms.specs.Block.{endBlock}
 use borrow.Author.Needs.{needs}

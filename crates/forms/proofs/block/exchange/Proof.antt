@@ -1,4 +1,4 @@
--- `blocks::block::exchange` meets its contract.
+-- `forms::block::exchange` meets its contract.
 -- Assumes nothing.
 use Rattle.forms.specs.Block.{exchangeBlock}
 use borrow.Author.Needs.{needs}

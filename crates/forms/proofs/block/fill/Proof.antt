@@ -1,4 +1,4 @@
--- `blocks::block::fill` meets its contract.
+-- `forms::block::fill` meets its contract.
 -- Assumes nothing.
 use Rattle.forms.specs.Block.{blockOf}
 use borrow.Author.Needs.{needs}

@@ -1,4 +1,4 @@
--- `blocks::block::invalid` meets its contract.
+-- `forms::block::invalid` meets its contract.
 -- Assumes nothing.
 use Rattle.forms.specs.Block.{invalidBlock}
 use borrow.Author.Needs.{needs}

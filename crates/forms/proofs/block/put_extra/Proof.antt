@@ -1,4 +1,4 @@
--- `blocks::block::put_extra` meets its contract.
+-- `forms::block::put_extra` meets its contract.
 -- Assumes nothing.
 use Rattle.forms.specs.Block.{withExtra}
 use borrow.Author.Needs.{needs}

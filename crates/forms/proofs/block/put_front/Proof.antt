@@ -1,4 +1,4 @@
--- `blocks::block::put_front` meets its contract.
+-- `forms::block::put_front` meets its contract.
 -- Assumes nothing.
 use mathlib.Core.Path.{refl}
 use Rattle.forms.specs.Block.{frontBlock}

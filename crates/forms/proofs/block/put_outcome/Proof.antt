@@ -1,4 +1,4 @@
--- `blocks::block::put_outcome` meets its contract.
+-- `forms::block::put_outcome` meets its contract.
 -- Assumes nothing.
 use Rattle.forms.specs.Block.{outcomeBlock}
 use borrow.Author.Needs.{needs}

@@ -1,4 +1,4 @@
--- `blocks::block::put_span` meets its contract.
+-- `forms::block::put_span` meets its contract.
 -- Assumes nothing.
 use mathlib.Core.Path.{refl}
 use Rattle.forms.specs.Block.{withSpan}

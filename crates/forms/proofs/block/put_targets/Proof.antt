@@ -1,4 +1,4 @@
--- `blocks::block::put_targets` meets its contract.
+-- `forms::block::put_targets` meets its contract.
 -- Assumes nothing.
 use Rattle.forms.specs.Block.{targetsBlock}
 use borrow.Author.Needs.{needs}

@@ -1,4 +1,4 @@
--- `blocks::block::response` meets its contract.
+-- `forms::block::response` meets its contract.
 -- Assumes nothing.
 use Rattle.forms.specs.Block.{responseBlock}
 use borrow.Author.Needs.{needs}

@@ -1,4 +1,4 @@
--- `describe::description_of` meets its contract.
+-- `forms::describe::description_of` meets its contract.
 -- Assumes nothing.
 use Rattle.base.specs.Pick.{pick}
 use Rattle.message.specs.Shape.{exchangeOf}
@@ -9,7 +9,7 @@ use Rattle.forms.proofs.describe.description_of.Tie as tie
 use Rattle.forms.proofs.describe.description_of.Reads as reads
 use Rattle.forms.proofs.describe.description_of.Lts as lts
 use Rattle.forms.proofs.describe.exchange.Reads as exchange-reads
-use Rattle.forms.proofs.describe.goal_of.Reads as goal-of-reads
+use Rattle.forms.proofs.describe.given_of.Reads as given-of-reads
 use Rattle.forms.proofs.describe.response_of.Reads as response-of-reads
 
 enum-told : tie.Need-enum-told
@@ -18,8 +18,8 @@ enum-told c = search needs
 enum-known-m : tie.Need-enum-known-m
 enum-known-m c = search needs
 
-goal-of-requires : tie.Need-goal-of-requires
-goal-of-requires c κs = search needs
+given-of-requires : tie.Need-given-of-requires
+given-of-requires c κs = search needs
 
 enum-known-m-2 : tie.Need-enum-known-m-2
 enum-known-m-2 c = search needs
@@ -71,7 +71,7 @@ returns c =
 returns-2 : tie.Need-returns-2
 unfolding descriptionOf
 returns-2 c =
-    rw (c .before .before .m .given .1, ← c .goal-of .ensures)
+    rw (c .before .before .m .given .1, ← c .given-of .ensures)
 
 returns-3 : tie.Need-returns-3
 unfolding descriptionOf
@@ -119,7 +119,7 @@ description-of-spec =
     (tie.spec
     enum-told
     enum-known-m
-    goal-of-requires
+    given-of-requires
     enum-known-m-2
     response-of-requires
     enum-known-m-3

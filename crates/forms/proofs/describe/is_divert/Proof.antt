@@ -1,4 +1,4 @@
--- `describe::is_divert` meets its contract.
+-- `forms::describe::is_divert` meets its contract.
 -- Assumes nothing.
 use Rattle.forms.specs.Describe.{isDivert}
 use borrow.Author.Needs.{needs}

@@ -1,4 +1,4 @@
--- `describe::response_of` meets its contract.
+-- `forms::describe::response_of` meets its contract.
 -- Assumes nothing.
 use Rattle.forms.specs.Describe.{descriptionOf}
 use borrow.Author.Needs.{needs}

@@ -1,4 +1,4 @@
--- `blocks::told::all_fit` meets its contract. The loop's invariant: the places from i on decide.
+-- `forms::described::all_fit` meets its contract. The loop's invariant: the places from i on decide.
 -- Assumes nothing.
 use mathlib.Core.Path.{_≡_, refl, sym, _∙_}
 use Prim.Native.Nat.{_-_, _≤_}

@@ -1,4 +1,4 @@
--- `blocks::told::allowed` meets its contract.
+-- `forms::described::allowed` meets its contract.
 -- Assumes nothing.
 use Rattle.forms.specs.Described.{allowedIn}
 use Rattle.base.specs.Pick.{pick}

@@ -1,6 +1,6 @@
--- `blocks::told::by_kind` meets its contract.
+-- `forms::described::by_kind` meets its contract.
 -- Assumes nothing.
-use Rattle.forms.specs.Described.{toldKind}
+use Rattle.forms.specs.Described.{describedKind}
 use Rattle.base.specs.Pick.{pick}
 use borrow.Author.Tests.{eq-eqb, ne-eqb}
 use borrow.Author.Needs.{needs}
@@ -8,49 +8,49 @@ use Rattle.forms.proofs.described.by_kind.Statement.{statement}
 use Rattle.forms.proofs.described.by_kind.Tie as tie
 use Rattle.forms.proofs.described.by_kind.Reads as reads
 use Rattle.forms.proofs.described.by_kind.Lts as lts
-use Rattle.forms.proofs.described.goal.Reads as goal-reads
+use Rattle.forms.proofs.described.given_objective.Reads as given-objective-reads
 use Rattle.forms.proofs.described.span.Reads as span-reads
-use Rattle.forms.proofs.described.told_end.Reads as told-end-reads
-use Rattle.forms.proofs.described.told_flood.Reads as told-flood-reads
-use Rattle.forms.proofs.described.told_objective.Reads as told-objective-reads
-use Rattle.forms.proofs.described.told_response.Reads as told-response-reads
+use Rattle.forms.proofs.described.described_end.Reads as described-end-reads
+use Rattle.forms.proofs.described.described_flood.Reads as described-flood-reads
+use Rattle.forms.proofs.described.described_objective.Reads as described-objective-reads
+use Rattle.forms.proofs.described.described_response.Reads as described-response-reads
 
 element-copy-out-kind : tie.Need-element-copy-out-kind
 element-copy-out-kind c = search needs
 
 returns : tie.Need-returns
-unfolding toldKind pick
+unfolding describedKind pick
 returns c =
     rw (eq-eqb _ _ (c .if1 .taken))
 
-told-response-requires : tie.Need-told-response-requires
-told-response-requires c κs = search needs
+described-response-requires : tie.Need-described-response-requires
+described-response-requires c κs = search needs
 
 returns-2 : tie.Need-returns-2
-unfolding toldKind pick
+unfolding describedKind pick
 returns-2 c =
-    rw (ne-eqb _ _ (c .before .before .if1 .left), eq-eqb _ _ (c .before .if2 .taken), ← c .told-response .ensures)
+    rw (ne-eqb _ _ (c .before .before .if1 .left), eq-eqb _ _ (c .before .if2 .taken), ← c .described-response .ensures)
 
-told-end-requires : tie.Need-told-end-requires
-told-end-requires c κs = search needs
+described-end-requires : tie.Need-described-end-requires
+described-end-requires c κs = search needs
 
 returns-3 : tie.Need-returns-3
-unfolding toldKind pick
+unfolding describedKind pick
 returns-3 c =
-    rw (ne-eqb _ _ (c .before .before .before .if1 .left), ne-eqb _ _ (c .before .before .if2 .left), eq-eqb _ _ (c .before .if3 .taken), ← c .told-end .ensures)
+    rw (ne-eqb _ _ (c .before .before .before .if1 .left), ne-eqb _ _ (c .before .before .if2 .left), eq-eqb _ _ (c .before .if3 .taken), ← c .described-end .ensures)
 
 returns-4 : tie.Need-returns-4
-unfolding toldKind pick
+unfolding describedKind pick
 returns-4 c =
     rw (ne-eqb _ _ (c .before .before .before .if1 .left), ne-eqb _ _ (c .before .before .if2 .left), ne-eqb _ _ (c .before .if3 .left), eq-eqb _ _ (c .if4 .taken))
 
-told-flood-requires : tie.Need-told-flood-requires
-told-flood-requires c κs = search needs
+described-flood-requires : tie.Need-described-flood-requires
+described-flood-requires c κs = search needs
 
 returns-5 : tie.Need-returns-5
-unfolding toldKind pick
+unfolding describedKind pick
 returns-5 c =
-    rw (ne-eqb _ _ (c .before .before .before .before .before .if1 .left), ne-eqb _ _ (c .before .before .before .before .if2 .left), ne-eqb _ _ (c .before .before .before .if3 .left), ne-eqb _ _ (c .before .before .if4 .left), eq-eqb _ _ (c .before .if5 .taken), ← c .told-flood .ensures)
+    rw (ne-eqb _ _ (c .before .before .before .before .before .if1 .left), ne-eqb _ _ (c .before .before .before .before .if2 .left), ne-eqb _ _ (c .before .before .before .if3 .left), ne-eqb _ _ (c .before .before .if4 .left), eq-eqb _ _ (c .before .if5 .taken), ← c .described-flood .ensures)
 
 element-copy-out-span : tie.Need-element-copy-out-span
 element-copy-out-span c = search needs
@@ -62,7 +62,7 @@ span-requires : tie.Need-span-requires
 span-requires c κs = search needs
 
 returns-6 : tie.Need-returns-6
-unfolding toldKind pick
+unfolding describedKind pick
 returns-6 c =
     rw (ne-eqb _ _ (c .before .before .before .before .before .before .before .before .if1 .left), ne-eqb _ _ (c .before .before .before .before .before .before .before .if2 .left), ne-eqb _ _ (c .before .before .before .before .before .before .if3 .left), ne-eqb _ _ (c .before .before .before .before .before .if4 .left), ne-eqb _ _ (c .before .before .before .before .if5 .left), eq-eqb _ _ (c .before .before .before .if6 .taken), ← c .span .ensures)
 
@@ -70,7 +70,7 @@ element-copy-out-if7 : tie.Need-element-copy-out-if7
 element-copy-out-if7 c = search needs
 
 returns-7 : tie.Need-returns-7
-unfolding toldKind pick
+unfolding describedKind pick
 returns-7 c =
     rw (ne-eqb _ _ (c .before .before .before .before .before .before .before .if1 .left), ne-eqb _ _ (c .before .before .before .before .before .before .if2 .left), ne-eqb _ _ (c .before .before .before .before .before .if3 .left), ne-eqb _ _ (c .before .before .before .before .if4 .left), ne-eqb _ _ (c .before .before .before .if5 .left), ne-eqb _ _ (c .before .before .if6 .left), ne-eqb _ _ (c .if7 .taken))
 
@@ -83,16 +83,16 @@ element-copy-out-span-4 c = search needs
 span-requires-2 : tie.Need-span-requires-2
 span-requires-2 c κs = search needs
 
-goal-requires : tie.Need-goal-requires
-goal-requires c κs = search needs
+given-objective-requires : tie.Need-given-objective-requires
+given-objective-requires c κs = search needs
 
-told-objective-requires : tie.Need-told-objective-requires
-told-objective-requires c κs = search needs
+described-objective-requires : tie.Need-described-objective-requires
+described-objective-requires c κs = search needs
 
 returns-8 : tie.Need-returns-8
-unfolding toldKind pick
+unfolding describedKind pick
 returns-8 c =
-    rw (ne-eqb _ _ (c .before .before .before .before .before .before .before .before .before .before .before .before .if1 .left), ne-eqb _ _ (c .before .before .before .before .before .before .before .before .before .before .before .if2 .left), ne-eqb _ _ (c .before .before .before .before .before .before .before .before .before .before .if3 .left), ne-eqb _ _ (c .before .before .before .before .before .before .before .before .before .if4 .left), ne-eqb _ _ (c .before .before .before .before .before .before .before .before .if5 .left), ne-eqb _ _ (c .before .before .before .before .before .before .before .if6 .left), eq-eqb _ _ (c .before .before .before .before .before .if7 .left), ← c .before .before .span2 .ensures, ← c .before .goal .ensures, ← c .told-objective .ensures)
+    rw (ne-eqb _ _ (c .before .before .before .before .before .before .before .before .before .before .before .before .if1 .left), ne-eqb _ _ (c .before .before .before .before .before .before .before .before .before .before .before .if2 .left), ne-eqb _ _ (c .before .before .before .before .before .before .before .before .before .before .if3 .left), ne-eqb _ _ (c .before .before .before .before .before .before .before .before .before .if4 .left), ne-eqb _ _ (c .before .before .before .before .before .before .before .before .if5 .left), ne-eqb _ _ (c .before .before .before .before .before .before .before .if6 .left), eq-eqb _ _ (c .before .before .before .before .before .if7 .left), ← c .before .before .span2 .ensures, ← c .before .given-objective .ensures, ← c .described-objective .ensures)
 
 pub by-kind-spec : {M : Type 1} → statement M
 by-kind-spec =
@@ -100,12 +100,12 @@ by-kind-spec =
     (tie.spec
     element-copy-out-kind
     returns
-    told-response-requires
+    described-response-requires
     returns-2
-    told-end-requires
+    described-end-requires
     returns-3
     returns-4
-    told-flood-requires
+    described-flood-requires
     returns-5
     element-copy-out-span
     element-copy-out-span-2
@@ -116,6 +116,6 @@ by-kind-spec =
     element-copy-out-span-3
     element-copy-out-span-4
     span-requires-2
-    goal-requires
-    told-objective-requires
+    given-objective-requires
+    described-objective-requires
     returns-8)

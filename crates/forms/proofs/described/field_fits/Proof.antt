@@ -1,4 +1,4 @@
--- `blocks::told::field_fits` meets its contract.
+-- `forms::described::field_fits` meets its contract.
 -- Assumes nothing.
 use Rattle.base.proofs.Tests.{tests}
 use Rattle.base.specs.Pick.{pick}

@@ -1,4 +1,4 @@
--- `blocks::told::is_blank` meets its contract.
+-- `forms::described::is_blank` meets its contract.
 -- Assumes nothing.
 use Rattle.forms.specs.Described.{isBlank}
 use borrow.Author.Needs.{needs}

@@ -1,4 +1,4 @@
--- `describe::rows::fill` meets its contract.
+-- `forms::rows::fill` meets its contract.
 -- Assumes nothing.
 use Rattle.forms.specs.Rows.{rowsEnd, endBy, rowsFilled, filledBy}
 use borrow.Author.Needs.{needs}

@@ -1,4 +1,4 @@
--- `describe::rows::fill_locator` meets its contract.
+-- `forms::rows::fill_locator` meets its contract.
 -- Assumes nothing.
 use native.Mathlib.Omega.{arith}
 use Rattle.options.proofs.Fits.{locator-within}

@@ -1,4 +1,4 @@
--- `describe::rows::fill_pairs` meets its contract.
+-- `forms::rows::fill_pairs` meets its contract.
 -- Assumes nothing.
 use Prim.Native.Nat.{_-_}
 use native.Mathlib.Omega.{arith}

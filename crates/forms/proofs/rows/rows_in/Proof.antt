@@ -1,4 +1,4 @@
--- `describe::rows::rows_in` meets its contract.
+-- `forms::rows::rows_in` meets its contract.
 -- Assumes nothing.
 use Rattle.forms.specs.Rows.{rowsIn, targetRows}
 use borrow.Author.Needs.{needs}

@@ -39,11 +39,11 @@ use denote.Triple.Spec.{tripleOf}
 use denote.Triple.Table.{entered, cited}
 use denote.Triple.Walked.{walked}
 use Rattle.node_state.specs.declared.Record.{Record}
-use Rattle.node_state.specs.declared.Kept.{Kept}
+use Rattle.node_state.specs.declared.RecordAnswer.{RecordAnswer}
 use Rattle.node_state.proofs.Record as T
 use Rattle.node_state.proofs.Record.Laws as T′
-use Rattle.node_state.proofs.Kept as S
-use Rattle.node_state.proofs.Kept.Laws as S′
+use Rattle.node_state.proofs.RecordAnswer as S
+use Rattle.node_state.proofs.RecordAnswer.Laws as S′
 use Rattle.node.specs.Call.{callOf}
 use Rattle.host.specs.Call.{leftOf, callLeft}
 use Rattle.grasp.proofs.InPlace.{others, stayed, vals, kept, small, opened, closed, answered, to-step, to-exit, Ends, ends, meets}
@@ -65,7 +65,7 @@ module _ (κs : Lfts 6) (a : Args f.signature κs) where
   abbrev passed : Args step.signature (κs .1)
   passed = (a .0 .now, a .1)
 
-  abbrev Said : Kept → Lasts step.ended (κs .1) passed → Type 0
+  abbrev Said : RecordAnswer → Lasts step.ended (κs .1) passed → Type 0
   Said r ws = leftOf (r .refusal) (r .node) (ws .1 .0) (ws .1 .1 .1 .1 .1 .1 .0) (ws .1 .1 .1 .1 .1 .1 .1 .0)
       ≡ callLeft (a .0 .now) (a .1 .0 .now) (callOf (a .1 .1 .0) (a .1 .1 .1 .0) (a .1 .1 .1 .1 .0 .now) (a .1 .1 .1 .1 .1 .0 .now) (a .1 .1 .1 .1 .1 .1 .0 .now)) (a .1 .1 .1 .1 .1 .1 .1 .0 .now)
 

@@ -38,11 +38,11 @@ use denote.Triple.Spec.{tripleOf}
 use denote.Triple.Table.{entered, cited}
 use denote.Triple.Walked.{walked}
 use Rattle.node_state.specs.declared.Record.{Record}
-use Rattle.node_state.specs.declared.Kept.{Kept}
+use Rattle.node_state.specs.declared.RecordAnswer.{RecordAnswer}
 use Rattle.node_state.proofs.Record as T
 use Rattle.node_state.proofs.Record.Laws as T′
-use Rattle.node_state.proofs.Kept as S
-use Rattle.node_state.proofs.Kept.Laws as S′
+use Rattle.node_state.proofs.RecordAnswer as S
+use Rattle.node_state.proofs.RecordAnswer.Laws as S′
 use Rattle.host.specs.Records.{freshOver}
 use Rattle.grasp.proofs.InPlace.{others, stayed, vals, kept, small, opened, closed, answered, to-step, to-exit, Ends, ends, meets}
 use Rattle.host.proofs.records.fresh_over as step
@@ -63,7 +63,7 @@ module _ (κs : Lfts 2) (a : Args f.signature κs) where
   abbrev passed : Args step.signature (κs .1)
   passed = (a .0 .now, a .1)
 
-  abbrev Said : Kept → Lasts step.ended (κs .1) passed → Type 0
+  abbrev Said : RecordAnswer → Lasts step.ended (κs .1) passed → Type 0
   Said r ws = r ≡ freshOver (a .0 .now) (a .1 .0 .now) (a .1 .1 .0) (a .1 .1 .1 .0) (a .1 .1 .1 .1 .0) (a .1 .1 .1 .1 .1 .0)
 
 module _ {M : Type 1} (𝓤 : URA M) (H : Heap 𝓤) (A : Atoms 𝓤) (at-mem : Memory → SProp 𝓤) (run : Routine → Fun 𝓤) where

@@ -6,17 +6,17 @@ use Rattle.grasp.proofs.writing.grasp_write.Statement.{statement}
 use Rattle.grasp.proofs.writing.grasp_write.Tie as tie
 use Rattle.grasp.proofs.writing.grasp_write.Reads as reads
 use Rattle.grasp.proofs.writing.grasp_write.Lts as lts
-use Rattle.forms.proofs.described.told_by.Reads as told-by-reads
+use Rattle.forms.proofs.described.described_by.Reads as described-by-reads
 use Rattle.writer.proofs.write.Reads as write-reads
 
-told-by-requires : tie.Need-told-by-requires
-told-by-requires c κs = search needs
+described-by-requires : tie.Need-described-by-requires
+described-by-requires c κs = search needs
 
 enum-told : tie.Need-enum-told
 enum-told c = search needs
 
-enum-known-told : tie.Need-enum-known-told
-enum-known-told c = search needs
+enum-known-described : tie.Need-enum-known-described
+enum-known-described c = search needs
 
 write-requires : tie.Need-write-requires
 write-requires c κs = search needs
@@ -29,29 +29,29 @@ enum-known-written-2 c = search needs
 
 returns : tie.Need-returns
 unfolding writeNumber numberBy numberOf writeBytes bytesBy writeLength lengthBy lengthAfter
-returns c = (rw (← c .before .before .told-by .ensures, c .enum-told .given .1), (rw (← c .before .before .told-by .ensures, c .enum-told .given .1), rw (← c .before .before .told-by .ensures, c .enum-told .given .1)))
+returns c = (rw (← c .before .before .described-by .ensures, c .enum-told .given .1), (rw (← c .before .before .described-by .ensures, c .enum-told .given .1), rw (← c .before .before .described-by .ensures, c .enum-told .given .1)))
 
 same-length : tie.Need-same-length
 same-length c = search needs
 
 returns-2 : tie.Need-returns-2
 unfolding writeNumber numberBy numberOf writeBytes bytesBy writeLength lengthBy lengthAfter
-returns-2 c = (rw (← c .before .before .before .before .before .before .before .before .before .before .told-by .ensures, c .before .before .before .before .before .before .before .before .told .given .1, ← c .before .before .before .before .before .write .ensures .0, c .before .written .given .1), (rw (← c .before .before .before .before .before .before .before .before .before .before .told-by .ensures, c .before .before .before .before .before .before .before .before .told .given .1) (c .before .before .before .before .before .write .ensures .1), rw (← c .before .before .before .before .before .before .before .before .before .before .told-by .ensures, c .before .before .before .before .before .before .before .before .told .given .1, ← c .before .before .before .before .before .write .ensures .0, c .before .written .given .1)))
+returns-2 c = (rw (← c .before .before .before .before .before .before .before .before .before .before .described-by .ensures, c .before .before .before .before .before .before .before .before .described .given .1, ← c .before .before .before .before .before .write .ensures .0, c .before .written .given .1), (rw (← c .before .before .before .before .before .before .before .before .before .before .described-by .ensures, c .before .before .before .before .before .before .before .before .described .given .1) (c .before .before .before .before .before .write .ensures .1), rw (← c .before .before .before .before .before .before .before .before .before .before .described-by .ensures, c .before .before .before .before .before .before .before .before .described .given .1, ← c .before .before .before .before .before .write .ensures .0, c .before .written .given .1)))
 
 same-length-2 : tie.Need-same-length-2
 same-length-2 c = search needs
 
 returns-3 : tie.Need-returns-3
 unfolding writeNumber numberBy numberOf writeBytes bytesBy writeLength lengthBy lengthAfter
-returns-3 c = (rw (← c .before .before .before .before .before .before .before .before .before .before .told-by .ensures, c .before .before .before .before .before .before .before .before .told .given .1, ← c .before .before .before .before .before .write .ensures .0, c .before .written2 .given .1), (rw (← c .before .before .before .before .before .before .before .before .before .before .told-by .ensures, c .before .before .before .before .before .before .before .before .told .given .1) (c .before .before .before .before .before .write .ensures .1), rw (← c .before .before .before .before .before .before .before .before .before .before .told-by .ensures, c .before .before .before .before .before .before .before .before .told .given .1, ← c .before .before .before .before .before .write .ensures .0, c .before .written2 .given .1)))
+returns-3 c = (rw (← c .before .before .before .before .before .before .before .before .before .before .described-by .ensures, c .before .before .before .before .before .before .before .before .described .given .1, ← c .before .before .before .before .before .write .ensures .0, c .before .written2 .given .1), (rw (← c .before .before .before .before .before .before .before .before .before .before .described-by .ensures, c .before .before .before .before .before .before .before .before .described .given .1) (c .before .before .before .before .before .write .ensures .1), rw (← c .before .before .before .before .before .before .before .before .before .before .described-by .ensures, c .before .before .before .before .before .before .before .before .described .given .1, ← c .before .before .before .before .before .write .ensures .0, c .before .written2 .given .1)))
 
 pub grasp-write-spec : {M : Type 1} → statement M
 grasp-write-spec =
     tie.close
     (tie.spec
-    told-by-requires
+    described-by-requires
     enum-told
-    enum-known-told
+    enum-known-described
     write-requires
     enum-known-written
     enum-known-written-2

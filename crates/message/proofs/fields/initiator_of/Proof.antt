@@ -1,4 +1,4 @@
--- `contents::fields::initiator_of` meets its contract.
+-- `message::fields::initiator_of` meets its contract.
 -- Assumes nothing.
 use mathlib.Core.Path.{sym, ap}
 use Rattle.message.specs.Fields.{initiatorOf}

@@ -1,4 +1,4 @@
--- `contents::fields::objective_of` meets its contract.
+-- `message::fields::objective_of` meets its contract.
 -- Assumes nothing.
 use mathlib.Core.Path.{sym, ap}
 use Rattle.message.specs.Fields.{objectiveOf}

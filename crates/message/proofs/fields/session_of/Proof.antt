@@ -1,4 +1,4 @@
--- `contents::fields::session_of` meets its contract.
+-- `message::fields::session_of` meets its contract.
 -- Assumes nothing.
 use mathlib.Core.Path.{sym, ap}
 use Rattle.message.specs.Fields.{sessionOf}

@@ -1,4 +1,4 @@
--- `node::links::is_up` meets its contract.
+-- `node::mask::is_up` meets its contract.
 -- Assumes nothing.
 use mathlib.Core.Path.{refl}
 use Rattle.base.specs.Bits.{hasBit}

@@ -1,4 +1,4 @@
--- `node::links::others` meets its contract.
+-- `node::mask::others` meets its contract.
 -- Assumes nothing.
 use mathlib.Core.Path.{refl}
 use native.Mathlib.Omega.{arith}

@@ -1,4 +1,4 @@
--- `contents::line::refused_line` meets its contract: each number of digits by itself.
+-- `text::line::refused_line` meets its contract: each number of digits by itself.
 -- Assumes nothing.
 use Prim.Native.Nat.{ℕ}
 use mathlib.Core.Path.{_≡_, refl, _∙_}

@@ -1,4 +1,4 @@
--- `contents::line::with_number` meets its contract.
+-- `text::line::with_number` meets its contract.
 -- Assumes nothing.
 use Rattle.base.specs.Pick.{pick}
 use Rattle.text.specs.Line.{withText, numbered, decimal}

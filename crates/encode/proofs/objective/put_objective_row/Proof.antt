@@ -1,4 +1,4 @@
--- `encode::objective::put_entry` meets its contract.
+-- `encode::objective::put_objective_row` meets its contract.
 -- Assumes nothing.
 use Rattle.options.specs.Text.{held}
 use Rattle.rfc8990.specs.Encoding.{encodeObj}
@@ -7,8 +7,8 @@ use Rattle.encode.proofs.Puts.{then}
 use native.Mathlib.Omega.{arith}
 use Rattle.description.proofs.Items.{more-le}
 use borrow.Author.Needs.{needs}
-use Rattle.encode.proofs.objective.put_entry.Statement.{statement}
-use Rattle.encode.proofs.objective.put_entry.Tie as tie
+use Rattle.encode.proofs.objective.put_objective_row.Statement.{statement}
+use Rattle.encode.proofs.objective.put_objective_row.Tie as tie
 
 one-more-requires : tie.Need-one-more-requires
 one-more-requires c κs = search needs
@@ -38,8 +38,8 @@ returns : tie.Need-returns
 unfolding encodeObj objOf
 returns c = rw (← (c .before .before .before .before .before .before .before .before .before .before .before .before .before .before .before .before .before .before .before .before .one-more .ensures)) (then (then (then (then (c .before .before .before .before .before .before .before .before .before .before .before .before .before .before .before .before .before .before .head .ensures) (c .before .before .before .before .before .before .before .before .before .before .before .before .before .before .part-string .ensures)) (c .before .before .before .before .before .before .before .before .before .before .head2 .ensures)) (c .before .before .before .before .before .before .head3 .ensures)) (c .before .before .part .ensures))
 
-pub put-entry-spec : {M : Type 1} → statement M
-put-entry-spec =
+pub put-objective-row-spec : {M : Type 1} → statement M
+put-objective-row-spec =
     tie.close
     (tie.spec
     one-more-requires

@@ -1,14 +1,14 @@
--- `blocks::told::told_response` meets its contract.
+-- `forms::described::described_response` meets its contract.
 -- Assumes nothing.
-use Rattle.forms.specs.Described.{toldResponse}
+use Rattle.forms.specs.Described.{describedResponse}
 use Rattle.base.specs.Pick.{pick}
 use borrow.Author.Tests.{eq-eqb, ne-eqb, not-true, not-false}
 use borrow.Author.Needs.{needs}
-use Rattle.forms.proofs.described.told_response.Statement.{statement}
-use Rattle.forms.proofs.described.told_response.Tie as tie
-use Rattle.forms.proofs.described.told_response.Reads as reads
-use Rattle.forms.proofs.described.told_response.Lts as lts
-use Rattle.forms.proofs.described.goal.Reads as goal-reads
+use Rattle.forms.proofs.described.described_response.Statement.{statement}
+use Rattle.forms.proofs.described.described_response.Tie as tie
+use Rattle.forms.proofs.described.described_response.Reads as reads
+use Rattle.forms.proofs.described.described_response.Lts as lts
+use Rattle.forms.proofs.described.given_objective.Reads as given-objective-reads
 use Rattle.forms.proofs.described.is_blank.Reads as is-blank-reads
 use Rattle.forms.proofs.described.response.Reads as response-reads
 use Rattle.forms.proofs.described.span.Reads as span-reads
@@ -17,7 +17,7 @@ element-copy-out-if1 : tie.Need-element-copy-out-if1
 element-copy-out-if1 c = search needs
 
 returns : tie.Need-returns
-unfolding toldResponse pick
+unfolding describedResponse pick
 returns c =
     rw (ne-eqb _ _ (c .if1 .taken))
 
@@ -37,7 +37,7 @@ is-blank-requires : tie.Need-is-blank-requires
 is-blank-requires c κs = search needs
 
 returns-2 : tie.Need-returns-2
-unfolding toldResponse pick
+unfolding describedResponse pick
 returns-2 c =
     rw (eq-eqb _ _ (c .before .before .before .before .before .before .before .if1 .left), ← c .before .before .before .before .span .ensures, eq-eqb _ _ (c .before .before .if2 .taken), ← c .before .is-blank .ensures, not-true (c .before .is-blank .result) (c .if3 .taken))
 
@@ -48,7 +48,7 @@ response-requires : tie.Need-response-requires
 response-requires c κs = search needs
 
 returns-3 : tie.Need-returns-3
-unfolding toldResponse pick
+unfolding describedResponse pick
 returns-3 c =
     rw (eq-eqb _ _ (c .before .before .before .before .before .before .before .before .before .if1 .left), ← c .before .before .before .before .before .before .span .ensures, eq-eqb _ _ (c .before .before .before .before .if2 .taken), ← c .before .before .before .is-blank .ensures, not-false (c .before .before .before .is-blank .result) (c .before .before .if3 .left), ← c .response .ensures)
 
@@ -56,26 +56,26 @@ element-copy-out-if4 : tie.Need-element-copy-out-if4
 element-copy-out-if4 c = search needs
 
 returns-4 : tie.Need-returns-4
-unfolding toldResponse pick
+unfolding describedResponse pick
 returns-4 c =
     rw (eq-eqb _ _ (c .before .before .before .before .before .before .before .if1 .left), ← c .before .before .before .before .span .ensures, ne-eqb _ _ (c .before .before .if2 .left), ne-eqb _ _ (c .if4 .taken))
 
 element-copy-out-response-2 : tie.Need-element-copy-out-response-2
 element-copy-out-response-2 c = search needs
 
-goal-requires : tie.Need-goal-requires
-goal-requires c κs = search needs
+given-objective-requires : tie.Need-given-objective-requires
+given-objective-requires c κs = search needs
 
 response-requires-2 : tie.Need-response-requires-2
 response-requires-2 c κs = search needs
 
 returns-5 : tie.Need-returns-5
-unfolding toldResponse pick
+unfolding describedResponse pick
 returns-5 c =
-    rw (eq-eqb _ _ (c .before .before .before .before .before .before .before .before .before .before .if1 .left), ← c .before .before .before .before .before .before .before .span .ensures, ne-eqb _ _ (c .before .before .before .before .before .if2 .left), eq-eqb _ _ (c .before .before .before .if4 .left), ← c .before .goal .ensures, ← c .response2 .ensures)
+    rw (eq-eqb _ _ (c .before .before .before .before .before .before .before .before .before .before .if1 .left), ← c .before .before .before .before .before .before .before .span .ensures, ne-eqb _ _ (c .before .before .before .before .before .if2 .left), eq-eqb _ _ (c .before .before .before .if4 .left), ← c .before .given-objective .ensures, ← c .response2 .ensures)
 
-pub told-response-spec : {M : Type 1} → statement M
-told-response-spec =
+pub described-response-spec : {M : Type 1} → statement M
+described-response-spec =
     tie.close
     (tie.spec
     element-copy-out-if1
@@ -92,6 +92,6 @@ told-response-spec =
     element-copy-out-if4
     returns-4
     element-copy-out-response-2
-    goal-requires
+    given-objective-requires
     response-requires-2
     returns-5)

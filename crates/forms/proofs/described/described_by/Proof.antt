@@ -1,13 +1,13 @@
--- `blocks::told::told_by` meets its contract.
+-- `forms::described::described_by` meets its contract.
 -- Assumes nothing.
-use Rattle.forms.specs.Described.{toldBy}
+use Rattle.forms.specs.Described.{describedBy}
 use Rattle.base.specs.Pick.{pick}
 use borrow.Author.Tests.{lt-ltb, le-ltb, not-true, not-false}
 use borrow.Author.Needs.{needs}
-use Rattle.forms.proofs.described.told_by.Statement.{statement}
-use Rattle.forms.proofs.described.told_by.Tie as tie
-use Rattle.forms.proofs.described.told_by.Reads as reads
-use Rattle.forms.proofs.described.told_by.Lts as lts
+use Rattle.forms.proofs.described.described_by.Statement.{statement}
+use Rattle.forms.proofs.described.described_by.Tie as tie
+use Rattle.forms.proofs.described.described_by.Reads as reads
+use Rattle.forms.proofs.described.described_by.Lts as lts
 use Rattle.forms.proofs.described.all_fit.Reads as all-fit-reads
 use Rattle.forms.proofs.described.allowed.Reads as allowed-reads
 use Rattle.forms.proofs.described.by_kind.Reads as by-kind-reads
@@ -34,27 +34,27 @@ all-fit-requires : tie.Need-all-fit-requires
 all-fit-requires c κs = search needs
 
 returns : tie.Need-returns
-unfolding toldBy pick
+unfolding describedBy pick
 returns c =
     rw (← c .before .before .allowed .ensures, ← c .before .all-fit .ensures, not-true (c .before .all-fit .result) (c .if1 .taken))
 
 returns-2 : tie.Need-returns-2
-unfolding toldBy pick
+unfolding describedBy pick
 returns-2 c =
     rw (← c .before .before .before .allowed .ensures, ← c .before .before .all-fit .ensures, not-false (c .before .before .all-fit .result) (c .before .if1 .left), lt-ltb _ _ (c .if2 .taken))
 
 returns-3 : tie.Need-returns-3
-unfolding toldBy pick
+unfolding describedBy pick
 returns-3 c =
     rw (← c .before .before .before .before .allowed .ensures, ← c .before .before .before .all-fit .ensures, not-false (c .before .before .before .all-fit .result) (c .before .before .if1 .left), le-ltb _ _ (c .before .if2 .left), lt-ltb _ _ (c .if3 .taken))
 
 returns-4 : tie.Need-returns-4
-unfolding toldBy pick
+unfolding describedBy pick
 returns-4 c =
     rw (← c .before .before .before .before .before .allowed .ensures, ← c .before .before .before .before .all-fit .ensures, not-false (c .before .before .before .before .all-fit .result) (c .before .before .before .if1 .left), le-ltb _ _ (c .before .before .if2 .left), le-ltb _ _ (c .before .if3 .left), lt-ltb _ _ (c .if4 .taken))
 
 returns-5 : tie.Need-returns-5
-unfolding toldBy pick
+unfolding describedBy pick
 returns-5 c =
     rw (← c .before .before .before .before .before .before .allowed .ensures, ← c .before .before .before .before .before .all-fit .ensures, not-false (c .before .before .before .before .before .all-fit .result) (c .before .before .before .before .if1 .left), le-ltb _ _ (c .before .before .before .if2 .left), le-ltb _ _ (c .before .before .if3 .left), le-ltb _ _ (c .before .if4 .left), lt-ltb _ _ (c .if5 .taken))
 
@@ -74,12 +74,12 @@ by-kind-requires : tie.Need-by-kind-requires
 by-kind-requires c κs = search needs
 
 returns-6 : tie.Need-returns-6
-unfolding toldBy pick
+unfolding describedBy pick
 returns-6 c =
     rw (← c .before .before .before .before .before .before .before .allowed .ensures, ← c .before .before .before .before .before .before .all-fit .ensures, not-false (c .before .before .before .before .before .before .all-fit .result) (c .before .before .before .before .before .if1 .left), le-ltb _ _ (c .before .before .before .before .if2 .left), le-ltb _ _ (c .before .before .before .if3 .left), le-ltb _ _ (c .before .before .if4 .left), le-ltb _ _ (c .before .if5 .left), ← c .by-kind .ensures)
 
-pub told-by-spec : {M : Type 1} → statement M
-told-by-spec =
+pub described-by-spec : {M : Type 1} → statement M
+described-by-spec =
     tie.close
     (tie.spec
     element-copy-out-session

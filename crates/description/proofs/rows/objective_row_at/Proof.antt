@@ -1,11 +1,11 @@
--- `description::rows::entry_at` meets its contract.
+-- `description::rows::objective_row_at` meets its contract.
 -- Assumes nothing.
-use Rattle.description.proofs.Numbers.{no-entry, entry-is}
+use Rattle.description.proofs.Numbers.{no-entry, objective-row-is}
 use borrow.Author.Needs.{needs}
-use Rattle.description.proofs.rows.entry_at.Statement.{statement}
-use Rattle.description.proofs.rows.entry_at.Tie as tie
-use Rattle.description.proofs.rows.entry_at.Reads as reads
-use Rattle.description.proofs.rows.entry_at.Lts as lts
+use Rattle.description.proofs.rows.objective_row_at.Statement.{statement}
+use Rattle.description.proofs.rows.objective_row_at.Tie as tie
+use Rattle.description.proofs.rows.objective_row_at.Reads as reads
+use Rattle.description.proofs.rows.objective_row_at.Lts as lts
 use Rattle.description.proofs.rows.number.Reads as number-reads
 
 returns : tie.Need-returns
@@ -45,10 +45,10 @@ number-requires-6 : tie.Need-number-requires-6
 number-requires-6 c κs = search needs
 
 returns-2 : tie.Need-returns-2
-returns-2 c = entry-is _ _ (c .before .before .before .before .before .number .ensures) (c .before .before .before .before .number2 .ensures) (c .before .before .before .number3 .ensures) (c .before .before .number4 .ensures) (c .before .number5 .ensures) (c .number6 .ensures)
+returns-2 c = objective-row-is _ _ (c .before .before .before .before .before .number .ensures) (c .before .before .before .before .number2 .ensures) (c .before .before .before .number3 .ensures) (c .before .before .number4 .ensures) (c .before .number5 .ensures) (c .number6 .ensures)
 
-pub entry-at-spec : {M : Type 1} → statement M
-entry-at-spec =
+pub objective-row-at-spec : {M : Type 1} → statement M
+objective-row-at-spec =
     tie.close
     (tie.spec
     returns

@@ -1,11 +1,11 @@
--- `blocks::told::goal` meets its contract.
+-- `forms::described::given_objective` meets its contract.
 -- Assumes nothing.
-use Rattle.forms.specs.Described.{toldGoal}
+use Rattle.forms.specs.Described.{givenObjective}
 use borrow.Author.Needs.{needs}
-use Rattle.forms.proofs.described.goal.Statement.{statement}
-use Rattle.forms.proofs.described.goal.Tie as tie
-use Rattle.forms.proofs.described.goal.Reads as reads
-use Rattle.forms.proofs.described.goal.Lts as lts
+use Rattle.forms.proofs.described.given_objective.Statement.{statement}
+use Rattle.forms.proofs.described.given_objective.Tie as tie
+use Rattle.forms.proofs.described.given_objective.Reads as reads
+use Rattle.forms.proofs.described.given_objective.Lts as lts
 use Rattle.forms.proofs.described.span.Reads as span-reads
 
 element-copy-out-span : tie.Need-element-copy-out-span
@@ -27,12 +27,12 @@ span-requires-2 : tie.Need-span-requires-2
 span-requires-2 c κs = search needs
 
 returns : tie.Need-returns
-unfolding toldGoal
+unfolding givenObjective
 returns c =
     rw (← c .before .before .before .span .ensures, ← c .span2 .ensures)
 
-pub goal-spec : {M : Type 1} → statement M
-goal-spec =
+pub given-objective-spec : {M : Type 1} → statement M
+given-objective-spec =
     tie.close
     (tie.spec
     element-copy-out-span

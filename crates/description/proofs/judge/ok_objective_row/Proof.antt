@@ -1,12 +1,12 @@
--- `description::judge::ok_entry` meets its contract.
+-- `description::judge::ok_objective_row` meets its contract.
 -- Assumes nothing.
-use Rattle.description.specs.Judge.{okEntry}
+use Rattle.description.specs.Judge.{okObjectiveRow}
 use Rattle.base.specs.Pick.{pick}
 use borrow.Author.Needs.{needs}
-use Rattle.description.proofs.judge.ok_entry.Statement.{statement}
-use Rattle.description.proofs.judge.ok_entry.Tie as tie
-use Rattle.description.proofs.judge.ok_entry.Reads as reads
-use Rattle.description.proofs.judge.ok_entry.Lts as lts
+use Rattle.description.proofs.judge.ok_objective_row.Statement.{statement}
+use Rattle.description.proofs.judge.ok_objective_row.Tie as tie
+use Rattle.description.proofs.judge.ok_objective_row.Reads as reads
+use Rattle.description.proofs.judge.ok_objective_row.Lts as lts
 use Rattle.description.proofs.judge.is_inside.Reads as is-inside-reads
 use Rattle.description.proofs.judge.ok_item.Reads as ok-item-reads
 
@@ -17,12 +17,12 @@ ok-item-requires : tie.Need-ok-item-requires
 ok-item-requires c κs = search needs
 
 returns : tie.Need-returns
-unfolding okEntry pick
+unfolding okObjectiveRow pick
 returns c = rw (← (c .before .before .is-inside .ensures), (c .before .if1 .taken)) (c .ok-item .ensures)
 
 returns-2 : tie.Need-returns-2
-unfolding okEntry pick
+unfolding okObjectiveRow pick
 returns-2 c = rw (← (c .before .is-inside .ensures), (c .if1 .left))
 
-pub ok-entry-spec : {M : Type 1} → statement M
-ok-entry-spec = tie.close (tie.spec is-inside-requires ok-item-requires returns returns-2)
+pub ok-objective-row-spec : {M : Type 1} → statement M
+ok-objective-row-spec = tie.close (tie.spec is-inside-requires ok-item-requires returns returns-2)
