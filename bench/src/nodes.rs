@@ -2,9 +2,11 @@
 
 use std::hint::black_box;
 
+use archive::{RECORD_INTERFACES, TABLE_BYTES};
+use second::message::MOST_BYTES;
 use second::node::{self, Given, Record, Verdict, NUMBERS};
 
-use crate::foreign::{Host, OUTPUT, TABLE};
+use crate::foreign::Host;
 use crate::measure::{calls, Calls};
 use crate::messages::ADDRESS;
 
@@ -62,7 +64,7 @@ impl Case<'_> {
             interface: ARRIVAL,
             names: self.names.to_vec(),
             message: self.message.to_vec(),
-            out_len: OUTPUT,
+            out_len: MOST_BYTES,
         };
         if self.verdict == Verdict::Duplicate {
             let relayed = node::call(&mut record, &mut numbers, &given);
@@ -83,7 +85,7 @@ impl Case<'_> {
 pub fn stages(rows: usize) -> Vec<Calls<'static>> {
     let stage = |table: bool, interfaces: u64, message: &'static [u8], wanted: Result<u8, u8>| {
         let mut host = host(&self::table(rows));
-        host.numbers[2] = interfaces;
+        host.numbers[RECORD_INTERFACES] = interfaces;
         if !table {
             host.table.clear();
         }
@@ -100,12 +102,12 @@ pub fn stages(rows: usize) -> Vec<Calls<'static>> {
 /// The library's host with this table.
 fn host(numbers: &[u64; NUMBERS]) -> Host {
     let table: Vec<u8> = numbers.iter().flat_map(|n| n.to_be_bytes()).collect();
-    assert_eq!(table.len(), TABLE);
+    assert_eq!(table.len(), TABLE_BYTES);
     Host {
         address: ADDRESS,
         numbers: [u64::from(PORT), u64::from(TTL), INTERFACES, LINKS, 0, 0],
         table,
-        out: [0; OUTPUT],
+        out: [0; MOST_BYTES],
     }
 }
 

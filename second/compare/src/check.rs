@@ -4,7 +4,7 @@ use std::fmt::Display;
 
 use second::random::Random;
 
-use crate::{archive, expected};
+use crate::{expected, library};
 
 /// Up to this length every place of an input is tried.
 const SHORT: usize = 48;
@@ -39,15 +39,15 @@ pub fn difference(bytes: &[u8], places: &[usize]) -> Option<Difference> {
         let call = || String::from("grasp_read, and the steps through its list");
         same(
             call,
-            archive::description(bytes),
+            library::description(bytes),
             expected::description(bytes),
         )
     };
     let at = |&at: &usize| {
         let call = |name| move || format!("{name} at {at}");
-        let (library, second) = (archive::locator(bytes, at), expected::locator(bytes, at));
+        let (library, second) = (library::locator(bytes, at), expected::locator(bytes, at));
         same(call("grasp_locator"), library, second).or_else(|| {
-            let (library, second) = (archive::pair(bytes, at), expected::pair(bytes, at));
+            let (library, second) = (library::pair(bytes, at), expected::pair(bytes, at));
             same(call("grasp_pair"), library, second)
         })
     };

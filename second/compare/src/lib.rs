@@ -3,11 +3,11 @@
 //! those that a fuzzer finds.
 
 pub mod answer;
-pub mod archive;
 pub mod check;
 pub mod expected;
 pub mod guarded;
 pub mod inputs;
+pub mod library;
 pub mod negotiation;
 pub mod node;
 pub mod options;

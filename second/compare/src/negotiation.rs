@@ -5,20 +5,18 @@ mod generated;
 
 use std::fmt::{self, Display, Formatter};
 
+use archive::STATE_FIELDS;
 use second::history::{negotiates_within, Stepped};
 use second::negotiation::Side;
 use second::vectors::hex;
 use second::vectors::negotiation::Op;
 
-use crate::archive;
 use crate::check::Difference;
 use crate::guarded::Guarded;
+use crate::library;
 use crate::shrink::Case;
 
 pub use generated::Talks;
-
-/// The numbers of a state.
-pub const STATE_FIELDS: usize = 4;
 
 /// A step by a side's number, or other numbers in the state's place.
 #[derive(Clone)]
@@ -62,7 +60,7 @@ impl Talk {
                 Move::Put(numbers) => state.put(numbers),
                 Move::Step(message, side) => {
                     let mut second = state.clone();
-                    let returned = archive::step(&mut state, message, *side);
+                    let returned = library::step(&mut state, message, *side);
                     let wanted = expected::step(&mut second, message, *side);
                     if let Some(difference) = parted((returned, &state), (wanted, &second)) {
                         return Some((place, difference));

@@ -8,13 +8,13 @@ mod step;
 
 use second::history;
 
-use crate::archive::{Archive, InPlace};
 use crate::check::Difference;
+use crate::library::{InPlace, OverNumbers};
 use crate::shrink::Case;
 
 pub use expected::Second;
 pub use generated::Histories;
-pub use host::{Host, Node};
+pub use host::{Host, Node, MOST_TABLE, ROW_BYTES};
 pub use step::{Fresh, Step};
 
 /// Steps from memory that nobody has filled.
@@ -48,7 +48,7 @@ impl History {
         let mut second = Host::new();
         let mut calls = Vec::new();
         for (place, step) in self.steps.iter().enumerate() {
-            step.take::<Archive>(&mut library);
+            step.take::<OverNumbers>(&mut library);
             step.take::<InPlace>(&mut in_place);
             step.take::<Second>(&mut second);
             let found = library.difference(&second).or_else(|| {

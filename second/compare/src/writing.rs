@@ -8,9 +8,9 @@ use second::vectors::hex;
 use second::vectors::write::generated::{damaged_draft, good_draft};
 use second::vectors::write::{writes, Draft, Outcome};
 
-use crate::archive;
 use crate::check::Difference;
 use crate::guarded::Guarded;
+use crate::library;
 
 /// A description, and what must come of writing it.
 pub struct Write {
@@ -80,7 +80,7 @@ impl Write {
     }
 
     pub fn difference(&self) -> Option<Difference> {
-        let (library, second) = (archive::write(&self.draft), self.expected());
+        let (library, second) = (library::write(&self.draft), self.expected());
         if library.returned != second.returned {
             return Some(Difference {
                 call: String::from("what is returned"),

@@ -2,12 +2,13 @@
 
 use std::vec::IntoIter;
 
+use archive::STATE_FIELDS;
 use second::random::Random;
 use second::vectors::damage::damaged;
 use second::vectors::negotiation::generated::generated;
 use second::vectors::negotiation::{talks, Talk as Stored};
 
-use super::{Move, Talk, STATE_FIELDS};
+use super::{Move, Talk};
 
 /// The steps of a generated list.
 const STEPS: usize = 24;

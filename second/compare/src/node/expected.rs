@@ -1,8 +1,9 @@
 //! What the second program's node does, said as include/grasp.h says it.
 
+use archive::TABLE_BYTES;
+use second::cbor::big_endian;
 use second::node::{self, Given, Record, BAD_RECORD};
 
-use super::host::TABLE_BYTES;
 use super::step::{numbers_of, table_bytes};
 use super::{Fresh, Host, Node};
 
@@ -82,11 +83,6 @@ fn table(host: &Host) -> Vec<u64> {
     if host.length != TABLE_BYTES {
         return vec![];
     }
-    let number = |bytes: &[u8]| {
-        bytes
-            .iter()
-            .fold(0, |more, &byte| more << 8 | u64::from(byte))
-    };
     let bytes = &host.table.content()[..TABLE_BYTES];
-    bytes.chunks_exact(8).map(number).collect()
+    bytes.chunks_exact(8).map(big_endian).collect()
 }

@@ -2,6 +2,7 @@
 
 use std::vec::IntoIter;
 
+use archive::{RECORD_CLOCK, RECORD_FIELDS, TABLE_BYTES};
 use second::node::Given;
 use second::random::Random;
 use second::vectors::damage::damaged;
@@ -9,7 +10,7 @@ use second::vectors::message::generated::{long_message, message};
 use second::vectors::node::generated::{crowded, put, usual};
 use second::vectors::node::{stories, Story};
 
-use super::host::{MOST_TABLE, RECORD_FIELDS, ROW_BYTES, TABLE_BYTES};
+use super::host::{MOST_TABLE, ROW_BYTES};
 use super::{Fresh, History, Step};
 
 /// Numbers at the edges of what a record, an interface or a mask may be.
@@ -207,7 +208,7 @@ fn tampered(random: &mut Random, history: History) -> History {
             continue;
         };
         let mut numbers = good;
-        numbers[4] = given.clock.saturating_sub(random.below(2) as u64);
+        numbers[RECORD_CLOCK] = given.clock.saturating_sub(random.below(2) as u64);
         let (before, after) = match random.below(4) {
             0 => tamper(random, numbers),
             _ => (vec![], vec![]),

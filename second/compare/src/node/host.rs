@@ -1,22 +1,17 @@
 //! What a host keeps and lends to the library.
 
+use archive::{ANSWER_FIELDS, RECORD_FIELDS, RECORD_TALLY, TABLE_BYTES};
 use second::history::Called;
 use second::message::MOST_BYTES;
-use second::node::{Answer, Verdict};
+use second::node::{Answer, Verdict, ROWS};
 use second::vectors::hex;
 
 use super::{Fresh, Step};
 use crate::check::Difference;
 use crate::guarded::Guarded;
 
-/// The numbers of a record and of an answer, and where some of them stand.
-pub const RECORD_FIELDS: usize = 6;
-pub const ANSWER_FIELDS: usize = 4;
-pub const TALLY: usize = 5;
-
-/// The bytes of a table and of a row, and the most that are lent.
-pub const TABLE_BYTES: usize = 2_048;
-pub const ROW_BYTES: usize = 32;
+/// The bytes of a row, and the most of a table that are lent.
+pub const ROW_BYTES: usize = TABLE_BYTES / ROWS;
 pub const MOST_TABLE: usize = 2_560;
 
 /// The memory, the length of the lent table, and what the last call returned.
@@ -70,7 +65,7 @@ impl Host {
     }
 
     pub fn tally(&self) -> u64 {
-        self.numbers.content()[TALLY]
+        self.numbers.content()[RECORD_TALLY]
     }
 
     /// The first difference after the same step.

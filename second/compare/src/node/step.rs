@@ -2,11 +2,12 @@
 
 use std::fmt::{self, Display, Formatter};
 
+use archive::{ANSWER_FIELDS, RECORD_FIELDS, TABLE_BYTES};
 use second::node::{Given, Record};
 use second::vectors::hex;
 use second::vectors::node::Op;
 
-use super::host::{ANSWER_FIELDS, MOST_TABLE, RECORD_FIELDS, ROW_BYTES, TABLE_BYTES};
+use super::host::{MOST_TABLE, ROW_BYTES};
 use super::{Host, Node};
 use crate::guarded::Guarded;
 
