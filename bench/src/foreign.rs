@@ -6,8 +6,8 @@ use std::time::Duration;
 
 use archive::{grasp_locator, grasp_node_call, grasp_pair, grasp_read, grasp_write};
 use archive::{ANSWER_FIELDS, ANSWER_VERDICT, RECORD_FIELDS};
+use second::block::layout::{FIELDS, LIST, LIST_AT, LIST_MANY, LOCATOR_FIELDS, PAIRS, PAIR_FIELDS};
 use second::message::MOST_BYTES;
-use second::writer::layout::{FIELDS, LIST, LIST_AT, LIST_MANY, LOCATOR_FIELDS, PAIR_FIELDS};
 
 #[link(name = "cbor")]
 extern "C" {
@@ -71,7 +71,7 @@ pub fn read_with_list(bytes: &[u8]) -> bool {
     let mut at = block[LIST_AT] as usize;
     for _ in 0..block[LIST_MANY] {
         at = match block[LIST] {
-            3 => step::<PAIR_FIELDS>(grasp_pair, bytes, at),
+            PAIRS => step::<PAIR_FIELDS>(grasp_pair, bytes, at),
             _ => step::<LOCATOR_FIELDS>(grasp_locator, bytes, at),
         };
     }

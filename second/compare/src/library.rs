@@ -1,9 +1,9 @@
 //! What the proved library answers, through the archive for C. All unsafe code is here.
 
 use archive::*;
+use second::block::layout::{LIST, LIST_AT, LIST_MANY, PAIRS};
 use second::node::{Given, BAD_RECORD};
 use second::vectors::write::Draft;
-use second::writer::layout::{LIST, LIST_AT, LIST_MANY};
 
 use crate::answer::{untouched, Answer, Description, LocatorAnswer, PairAnswer, ReadAnswer};
 use crate::guarded::Guarded;
@@ -45,7 +45,7 @@ pub fn description(bytes: &[u8]) -> Description {
         let mut at = read.field(LIST_AT) as usize;
         // An element takes more than a byte, so a false number of them is still seen.
         for _ in 0..read.field(LIST_MANY).min(bytes.len() as u64) {
-            if read.field(LIST) == 3 {
+            if read.field(LIST) == PAIRS {
                 pairs.push(pair(bytes, at));
                 at = pairs[pairs.len() - 1].number;
             } else {

@@ -3,8 +3,8 @@
 use super::super::counted;
 use super::super::message::term::Term;
 use super::{output, Case, Outcome, MOST_LISTED, MOST_OUTPUT};
+use crate::block::layout::*;
 use crate::random::Random;
-use crate::writer::layout::*;
 use crate::writer::{describe, write};
 
 /// What the writer is given.

@@ -4,7 +4,7 @@ use super::super::encode::shortest_head;
 use super::super::message::parts::{array, null, number};
 use super::super::message::term::Term;
 use super::*;
-use crate::writer::layout::*;
+use crate::block::layout::*;
 use crate::writer::{describe, Description, NO_MESSAGE, SHORT_OUTPUT};
 
 /// A span's bytes, if they lie in the source; no bytes lie anywhere.
