@@ -12,9 +12,10 @@ use std::process::ExitCode;
 
 use measure::{calls, medians, Calls, ROUNDS};
 use messages::{From, MANY_PAIRS};
-use nodes::{Case, EX1, EX2};
+use nodes::{Case, EX2};
 use second::message::{self, MOST_BYTES};
 use second::node::Verdict;
+use second::vectors::node::EX1;
 use second::writer;
 
 /// Why there are no numbers: what was measured did something else than it should.

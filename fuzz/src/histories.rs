@@ -1,8 +1,8 @@
 //! Node histories that a fuzzer's bytes say.
 
-use compare::node::{Fresh, History, Step, MOST_TABLE, ROW_BYTES};
+use compare::node::{History, Step, MOST_TABLE, ROW_BYTES};
 use second::message::MOST_BYTES;
-use second::node::{Given, ROWS};
+use second::node::{Fresh, Given, ROWS};
 
 use crate::input::Input;
 use crate::messages::{message, names, ADDRESS};
@@ -117,20 +117,20 @@ impl Teller {
 /// Mostly good interfaces and links.
 fn fresh(input: &mut Input) -> Fresh {
     let sort = input.byte();
-    let interfaces = match sort {
+    let count = match sort {
         0..=239 => 1 + u64::from(sort % 8),
         _ => input.number(),
     };
-    let links = match sort {
-        0..=119 => (1 << interfaces) - 1,
+    let mask = match sort {
+        0..=119 => (1 << count) - 1,
         _ => input.number(),
     };
     Fresh {
         address: if sort % 16 == 15 { [0xFE; 16] } else { ADDRESS },
         port: input.number() as u16,
         ttl: input.number() as u32,
-        interfaces,
-        links,
+        count,
+        mask,
     }
 }
 

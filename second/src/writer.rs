@@ -3,7 +3,7 @@
 
 mod describe;
 mod encode;
-mod items;
+pub mod items;
 
 use crate::block::layout::FIELDS;
 use crate::message::{self, MOST_BYTES, TCP, V6};

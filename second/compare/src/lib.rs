@@ -4,10 +4,12 @@
 
 pub mod answer;
 pub mod check;
+pub mod difference;
 pub mod expected;
 pub mod guarded;
 pub mod inputs;
 pub mod library;
+pub mod list;
 pub mod negotiation;
 pub mod node;
 pub mod options;

@@ -2,12 +2,12 @@
 
 use archive::*;
 use second::block::layout::{LIST, LIST_AT, LIST_MANY, PAIRS};
-use second::node::{Given, BAD_RECORD};
+use second::node::{Fresh, Given, BAD_RECORD};
 use second::vectors::write::Draft;
 
 use crate::answer::{untouched, Answer, Description, LocatorAnswer, PairAnswer, ReadAnswer};
 use crate::guarded::Guarded;
-use crate::node::{Fresh, Host, Node};
+use crate::node::{Host, Node};
 use crate::writing::Written;
 
 /// What grasp_read answers.
@@ -73,8 +73,8 @@ impl Node for OverNumbers {
                 host.address.as_ptr(),
                 fresh.port,
                 fresh.ttl,
-                fresh.interfaces,
-                fresh.links,
+                fresh.count,
+                fresh.mask,
                 numbers,
             )
         }
@@ -186,8 +186,8 @@ impl Node for InPlace {
                 fresh.address.as_ptr(),
                 fresh.port,
                 fresh.ttl,
-                fresh.interfaces,
-                fresh.links,
+                fresh.count,
+                fresh.mask,
             )
         };
         keep(host, was, node);

@@ -2,24 +2,18 @@
 
 use archive::TABLE_BYTES;
 use second::cbor::big_endian;
-use second::node::{self, Given, Record, BAD_RECORD};
+use second::node::{self, Fresh, Given, Record, BAD_RECORD};
+use second::vectors::in_bytes;
 
-use super::step::{numbers_of, table_bytes};
-use super::{Fresh, Host, Node};
+use super::step::numbers_of;
+use super::{Host, Node};
 
 /// The second program.
 pub struct Second;
 
 impl Node for Second {
     fn fresh(host: &mut Host, fresh: &Fresh) -> u8 {
-        let Fresh {
-            address,
-            port,
-            ttl,
-            interfaces,
-            links,
-        } = fresh;
-        let (record, number) = Record::fresh(*address, *port, *ttl, *interfaces, *links);
+        let (record, number) = Record::fresh(fresh);
         if number == 0 {
             host.numbers.put(&numbers_of(&record));
         }
@@ -47,7 +41,7 @@ impl Node for Second {
         match node::call(&mut record, &mut table, given) {
             Ok(answer) => {
                 host.numbers.put(&numbers_of(&record));
-                host.table.put(&table_bytes(&table));
+                host.table.put(&in_bytes(&table));
                 host.out.put(&answer.output);
                 host.answer.put(&[
                     u64::from(answer.verdict.number()),
