@@ -129,8 +129,11 @@ fn writing() -> Result<(), Fault> {
     Ok(())
 }
 
+/// A node call by name: its message, own names, how many other rows live, and the verdict.
+type NodeCall<'a> = (&'a str, Vec<u8>, &'a [u8], usize, Verdict);
+
 /// Prints a row for each node call.
-fn node_rows(cases: &[(&str, Vec<u8>, &[u8], usize, Verdict)]) -> Result<(), Fault> {
+fn node_rows(cases: &[NodeCall]) -> Result<(), Fault> {
     for (name, message, names, rows, verdict) in cases {
         let case = Case {
             message,
