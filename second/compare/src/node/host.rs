@@ -82,8 +82,8 @@ impl Host {
         let numbers = || self.numbers.difference(&second.numbers, "the record");
         let table = || self.table.difference(&second.table, "the table");
         let out = || self.out.difference(&second.out, "the output");
-        let whose = returned.or_else(address).or_else(answer);
-        whose.or_else(numbers).or_else(table).or_else(out)
+        let first = returned.or_else(address).or_else(answer);
+        first.or_else(numbers).or_else(table).or_else(out)
     }
 
     /// The node call that a step was, as demand 3 sees it.
