@@ -1,49 +1,21 @@
-//! Functions of C: the proved library's, as include/grasp.h has them, libcbor's, and the thread's
-//! clock. All unsafe code is here.
+//! Functions of C: the proved library's, libcbor's, and the thread's clock. All unsafe code is here.
 
 use std::hint::black_box;
 use std::mem::MaybeUninit;
 use std::time::Duration;
 
-use second::writer::layout::{FIELDS, LIST, LIST_AT, LIST_MANY, LOCATOR_FIELDS, PAIR_FIELDS};
+use archive::{grasp_locator, grasp_node_call, grasp_pair, grasp_read, grasp_write};
+use archive::{ANSWER_FIELDS, ANSWER_VERDICT, RECORD_FIELDS};
+use second::block::layout::{FIELDS, LIST, LIST_AT, LIST_MANY, LOCATOR_FIELDS, PAIRS, PAIR_FIELDS};
+use second::message::MOST_BYTES;
 
-/// The sizes of a node's buffers.
-pub const TABLE: usize = 2_048;
-pub const OUTPUT: usize = 2_048;
-const RECORD_FIELDS: usize = 6;
-const ANSWER_FIELDS: usize = 4;
-
+#[link(name = "cbor")]
 extern "C" {
-    fn grasp_read(bytes: *const u8, len: usize, fields: *mut u64) -> u8;
-    fn grasp_locator(bytes: *const u8, len: usize, at: usize, fields: *mut u64) -> usize;
-    fn grasp_pair(bytes: *const u8, len: usize, at: usize, fields: *mut u64) -> usize;
-    fn grasp_write(
-        source: *const u8,
-        len: usize,
-        list: *const u64,
-        numbers: usize,
-        fields: *const u64,
-        out: *mut u8,
-        size: usize,
-        length: *mut u64,
-    ) -> u8;
-    fn grasp_node_call(
-        address: *const u8,
-        numbers: *mut u64,
-        table: *mut u8,
-        table_size: usize,
-        clock: u64,
-        interface: u64,
-        names: *const u8,
-        names_len: usize,
-        message: *const u8,
-        len: usize,
-        out: *mut u8,
-        size: usize,
-        answer: *mut u64,
-    ) -> u8;
     fn cbor_load(bytes: *const u8, len: usize, result: *mut LoadResult) -> *mut LoadedItem;
     fn cbor_decref(item: *mut *mut LoadedItem);
+}
+
+extern "C" {
     fn clock_gettime(clock: i32, time: *mut Timespec) -> i32;
 }
 
@@ -99,7 +71,7 @@ pub fn read_with_list(bytes: &[u8]) -> bool {
     let mut at = block[LIST_AT] as usize;
     for _ in 0..block[LIST_MANY] {
         at = match block[LIST] {
-            3 => step::<PAIR_FIELDS>(grasp_pair, bytes, at),
+            PAIRS => step::<PAIR_FIELDS>(grasp_pair, bytes, at),
             _ => step::<LOCATOR_FIELDS>(grasp_locator, bytes, at),
         };
     }
@@ -151,7 +123,7 @@ pub struct Host {
     pub address: [u8; 16],
     pub numbers: [u64; RECORD_FIELDS],
     pub table: Vec<u8>,
-    pub out: [u8; OUTPUT],
+    pub out: [u8; MOST_BYTES],
 }
 
 impl Host {
@@ -182,7 +154,7 @@ impl Host {
                 answer.as_mut_ptr().cast(),
             );
             match number {
-                0 => Ok(answer.assume_init()[0] as u8),
+                0 => Ok(answer.assume_init()[ANSWER_VERDICT] as u8),
                 number => Err(number),
             }
         }

@@ -12,9 +12,11 @@ use std::process::ExitCode;
 
 use measure::{calls, medians, Calls, ROUNDS};
 use messages::{From, MANY_PAIRS};
-use nodes::{Case, EX1, EX2};
+use nodes::{Case, EX2};
+use second::message::{self, MOST_BYTES};
 use second::node::Verdict;
-use second::{message, writer};
+use second::vectors::node::EX1;
+use second::writer;
 
 /// Why there are no numbers: what was measured did something else than it should.
 type Fault = String;
@@ -104,9 +106,9 @@ fn reading() -> Result<(), Fault> {
 fn written(bytes: &[u8]) -> Result<[Calls<'_>; 2], Fault> {
     let said = writer::describe(bytes).map_err(|number| format!("refusal {number}"))?;
     let again = said.clone();
-    let mut out = [0; foreign::OUTPUT];
+    let mut out = [0; MOST_BYTES];
     let mut ours = move || foreign::write(bytes, &said.list, &said.fields, &mut out);
-    let theirs = move || writer::write(bytes, &again.list, &again.fields, foreign::OUTPUT);
+    let theirs = move || writer::write(bytes, &again.list, &again.fields, MOST_BYTES);
     Ok([
         calls(move || ours() == Ok(bytes.len())),
         calls(move || black_box(theirs()).is_ok_and(|encoding| encoding.len() == bytes.len())),
@@ -127,8 +129,11 @@ fn writing() -> Result<(), Fault> {
     Ok(())
 }
 
+/// A node call by name: its message, own names, how many other rows live, and the verdict.
+type NodeCall<'a> = (&'a str, Vec<u8>, &'a [u8], usize, Verdict);
+
 /// Prints a row for each node call.
-fn node_rows(cases: &[(&str, Vec<u8>, &[u8], usize, Verdict)]) -> Result<(), Fault> {
+fn node_rows(cases: &[NodeCall]) -> Result<(), Fault> {
     for (name, message, names, rows, verdict) in cases {
         let case = Case {
             message,

@@ -9,8 +9,8 @@ use crate::foreign::run_time;
 pub const ROUNDS: usize = 201;
 const TURN: Duration = Duration::from_millis(1);
 
-/// So many calls of a program, which say whether each did what it should. The loop is part of each, so that a call is not
-/// reached by way of a pointer, which would be timed too.
+/// So many calls of a program, which say whether each did what it should. The loop is part of each,
+/// so that a call is not reached by way of a pointer, which would be timed too.
 pub type Calls<'a> = Box<dyn FnMut(u32) -> bool + 'a>;
 
 /// The calls of a program whose one call this is.

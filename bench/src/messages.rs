@@ -2,13 +2,10 @@
 
 use second::vectors::unhex;
 
-/// Session 7, and then an initiator: 192.0.2.1, or our own address.
+/// Session 7, and then an initiator: 192.0.2.1, or our own address, which is 01's.
 const THEIRS: &str = "07 44 C0000201";
 const OURS: &str = "07 50 20010DB8000000000000000000000001";
 const TTL: &str = "19 EA60";
-
-/// Our own address, 2001:db8::1.
-pub const ADDRESS: [u8; 16] = [0x20, 1, 0x0D, 0xB8, 0, 0, 0, 0, 0, 0, 0, 0, 0, 0, 0, 1];
 
 /// Who a Discovery or Flood is from.
 #[derive(Clone, Copy)]

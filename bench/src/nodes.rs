@@ -2,25 +2,26 @@
 
 use std::hint::black_box;
 
-use second::node::{self, Given, Record, Verdict, NUMBERS};
+use archive::{RECORD_INTERFACES, TABLE_BYTES};
+use second::message::MOST_BYTES;
+use second::node::{self, Fresh, Given, Record, Verdict, NUMBERS, OF_A_ROW};
+use second::vectors::in_bytes;
+use second::vectors::node::ADDRESS;
 
-use crate::foreign::{Host, OUTPUT, TABLE};
+use crate::foreign::Host;
 use crate::measure::{calls, Calls};
-use crate::messages::ADDRESS;
 
-/// The numbers of our record and of a row.
+/// The numbers of our record.
 const PORT: u16 = 7_017;
 const TTL: u32 = 60_000;
 const INTERFACES: u64 = 3;
 const LINKS: u64 = 7;
-const OF_A_ROW: usize = 4;
 
 /// When each call comes, and on which interface; every row was admitted then.
 const CLOCK: u64 = 1_000_000;
 const ARRIVAL: u64 = 0;
 
-/// Own names as one CBOR array: "EX1", and "EX2".
-pub const EX1: &[u8] = b"\x81\x63EX1";
+/// Another own name than 01's, as one CBOR array.
 pub const EX2: &[u8] = b"\x81\x63EX2";
 
 /// A call and what should come of it.
@@ -62,7 +63,7 @@ impl Case<'_> {
             interface: ARRIVAL,
             names: self.names.to_vec(),
             message: self.message.to_vec(),
-            out_len: OUTPUT,
+            out_len: MOST_BYTES,
         };
         if self.verdict == Verdict::Duplicate {
             let relayed = node::call(&mut record, &mut numbers, &given);
@@ -83,7 +84,7 @@ impl Case<'_> {
 pub fn stages(rows: usize) -> Vec<Calls<'static>> {
     let stage = |table: bool, interfaces: u64, message: &'static [u8], wanted: Result<u8, u8>| {
         let mut host = host(&self::table(rows));
-        host.numbers[2] = interfaces;
+        host.numbers[RECORD_INTERFACES] = interfaces;
         if !table {
             host.table.clear();
         }
@@ -99,18 +100,24 @@ pub fn stages(rows: usize) -> Vec<Calls<'static>> {
 
 /// The library's host with this table.
 fn host(numbers: &[u64; NUMBERS]) -> Host {
-    let table: Vec<u8> = numbers.iter().flat_map(|n| n.to_be_bytes()).collect();
-    assert_eq!(table.len(), TABLE);
+    let table = in_bytes(numbers);
+    assert_eq!(table.len(), TABLE_BYTES);
     Host {
         address: ADDRESS,
         numbers: [u64::from(PORT), u64::from(TTL), INTERFACES, LINKS, 0, 0],
         table,
-        out: [0; OUTPUT],
+        out: [0; MOST_BYTES],
     }
 }
 
 fn record() -> Record {
-    let (record, refused) = Record::fresh(ADDRESS, PORT, TTL, INTERFACES, LINKS);
+    let (record, refused) = Record::fresh(&Fresh {
+        address: ADDRESS,
+        port: PORT,
+        ttl: TTL,
+        count: INTERFACES,
+        mask: LINKS,
+    });
     assert_eq!(refused, 0);
     record
 }

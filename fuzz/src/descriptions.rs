@@ -1,8 +1,8 @@
 //! Descriptions to write that a fuzzer's bytes say.
 
 use compare::writing::Write;
+use second::block::layout::FIELDS;
 use second::vectors::write::Draft;
-use second::writer::layout::FIELDS;
 use second::writer::{describe, Description};
 
 use crate::input::Input;

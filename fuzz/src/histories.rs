@@ -1,18 +1,14 @@
 //! Node histories that a fuzzer's bytes say.
 
-use compare::node::{Fresh, History, Step};
-use second::node::Given;
+use compare::node::{History, Step, MOST_TABLE, ROW_BYTES};
+use second::message::MOST_BYTES;
+use second::node::{Fresh, Given, ROWS};
 
 use crate::input::Input;
 use crate::messages::{message, names, ADDRESS};
 
 /// The most steps of a history.
 const MOST_STEPS: usize = 100;
-
-/// The bytes of a table and of a row, and the most that are lent.
-const TABLE_BYTES: usize = 2_048;
-const ROW_BYTES: usize = 32;
-const MOST_TABLE: usize = 2_560;
 
 /// The steps said so far, and the clock of the last call.
 struct Teller {
@@ -81,7 +77,7 @@ impl Teller {
                 interface,
                 names: vec![0x80],
                 message,
-                out_len: TABLE_BYTES,
+                out_len: MOST_BYTES,
             }));
         }
     }
@@ -92,15 +88,15 @@ impl Teller {
             24 => Step::Fresh(fresh(input)),
             25 => Step::Record(ADDRESS, std::array::from_fn(|_| input.number())),
             26 => Step::Number(input.below(6), input.number()),
-            27 => Step::row(input.below(64), &self.row(input)),
-            28 => Step::row(input.below(64), &[0; 4]),
+            27 => Step::row(input.below(ROWS), &self.row(input)),
+            28 => Step::row(input.below(ROWS), &[0; 4]),
             29 => {
                 let bytes = input.bytes();
                 let most = MOST_TABLE - bytes.len() + 1;
                 Step::Bytes(input.number() as usize % most, bytes.to_vec())
             }
             30 => {
-                let row = ROW_BYTES * input.below(64);
+                let row = ROW_BYTES * input.below(ROWS);
                 Step::Flip(row + input.below(ROW_BYTES), input.byte())
             }
             _ => Step::Length(input.number() as usize % (MOST_TABLE + 1)),
@@ -121,20 +117,20 @@ impl Teller {
 /// Mostly good interfaces and links.
 fn fresh(input: &mut Input) -> Fresh {
     let sort = input.byte();
-    let interfaces = match sort {
+    let count = match sort {
         0..=239 => 1 + u64::from(sort % 8),
         _ => input.number(),
     };
-    let links = match sort {
-        0..=119 => (1 << interfaces) - 1,
+    let mask = match sort {
+        0..=119 => (1 << count) - 1,
         _ => input.number(),
     };
     Fresh {
         address: if sort % 16 == 15 { [0xFE; 16] } else { ADDRESS },
         port: input.number() as u16,
         ttl: input.number() as u32,
-        interfaces,
-        links,
+        count,
+        mask,
     }
 }
 
@@ -157,7 +153,7 @@ fn interface(input: &mut Input) -> u64 {
 /// The length of an output, mostly a good one.
 fn output(input: &mut Input) -> usize {
     match input.byte() {
-        0..=239 => TABLE_BYTES,
-        sort => TABLE_BYTES + 16 - 2 * usize::from(sort - 239),
+        0..=239 => MOST_BYTES,
+        sort => MOST_BYTES + 16 - 2 * usize::from(sort - 239),
     }
 }

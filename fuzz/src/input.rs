@@ -1,5 +1,7 @@
 //! What a fuzzer's bytes say, taken from the left; where none are left, zeros.
 
+use second::cbor::big_endian;
+
 /// Numbers near the limits of the rules.
 const LIMITS: [u64; 9] = [
     59_999,
@@ -62,10 +64,7 @@ impl<'a> Input<'a> {
     }
 
     fn wide(&mut self, width: usize) -> u64 {
-        let bytes = self.some(width);
-        bytes
-            .iter()
-            .fold(0, |more, &byte| more << 8 | u64::from(byte))
+        big_endian(self.some(width))
     }
 
     /// So many bytes, or all that are left.

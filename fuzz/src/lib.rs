@@ -14,7 +14,8 @@ use std::process::abort;
 use std::sync::atomic::{AtomicU64, Ordering::Relaxed};
 use std::sync::OnceLock;
 
-use compare::check::{difference, every_place, Difference};
+use compare::check::{difference, every_place};
+use compare::difference::{account, Difference};
 use compare::node::History;
 use compare::writing::Write;
 use second::vectors::hex;
@@ -148,22 +149,16 @@ fn run(history: &History) {
 fn talk(input: &mut Input, is_tampered: bool) {
     let talk = talks::talk(input, is_tampered);
     COUNTS.talks.fetch_add(1, Relaxed);
-    COUNTS.steps.fetch_add(talk.steps() as u64, Relaxed);
-    tell(&talk.moves, talk.difference());
+    COUNTS.steps.fetch_add(talk.calls() as u64, Relaxed);
+    tell(&talk.steps, talk.difference());
 }
 
 /// Prints the steps up to a difference and both answers, and aborts.
 fn tell<T: Display>(steps: &[T], found: Option<(usize, Difference)>) {
-    let Some((place, difference)) = found else {
-        return;
-    };
-    for (number, step) in steps[..=place].iter().enumerate() {
-        eprintln!("{number}: {step}");
+    if let Some(found) = found {
+        eprintln!("{}", account(steps, found));
+        abort()
     }
-    eprintln!("call: {}", difference.call);
-    eprintln!("libgrasp: {}", difference.library);
-    eprintln!("second: {}", difference.second);
-    abort()
 }
 
 extern "C" fn report_counts() {

@@ -1,5 +1,7 @@
 //! Messages in few bytes of a fuzzer's input, so that lists of calls are short.
 
+use second::writer::items::head;
+
 use crate::input::Input;
 
 /// The address that records are mostly given: an initiator of these bytes is ours.
@@ -221,17 +223,4 @@ fn locator(input: &mut Input) -> Vec<u8> {
         3 => [&[0x84, 0x18, 106, 0x62, 0xC3, sort, 0xF6][..], &port].concat(),
         _ => [&[0x84, 0x18, 106, 0x61, sort, sort % 18][..], &[0xF6]].concat(),
     }
-}
-
-/// The shortest head with this argument.
-fn head(major: u8, argument: u64) -> Vec<u8> {
-    let bytes = argument.to_be_bytes();
-    let (information, width) = match argument {
-        0..=23 => return vec![major << 5 | argument as u8],
-        24..=0xFF => (24, 1),
-        0x100..=0xFFFF => (25, 2),
-        0x1_0000..=0xFFFF_FFFF => (26, 4),
-        _ => (27, 8),
-    };
-    [&[major << 5 | information][..], &bytes[8 - width..]].concat()
 }

@@ -107,32 +107,9 @@ fn string_end(bytes: &[u8], start: usize, length: u128) -> Result<usize, Refusal
     Ok(start + length as usize)
 }
 
-/// Whether the bytes are UTF8-octets (RFC 3629, section 4).
+/// Whether the bytes are UTF-8 (RFC 3629), as the standard library judges it.
 pub fn is_utf8(bytes: &[u8]) -> bool {
-    let mut rest = bytes;
-    while !rest.is_empty() {
-        match utf8_char(rest) {
-            Some(length) => rest = &rest[length..],
-            None => return false,
-        }
-    }
-    true
-}
-
-/// The length of the UTF8-char at the start of the bytes, by the alternatives of its ABNF.
-fn utf8_char(bytes: &[u8]) -> Option<usize> {
-    match bytes {
-        [0x00..=0x7F, ..] => Some(1),
-        [0xC2..=0xDF, 0x80..=0xBF, ..] => Some(2),
-        [0xE0, 0xA0..=0xBF, 0x80..=0xBF, ..] => Some(3),
-        [0xE1..=0xEC, 0x80..=0xBF, 0x80..=0xBF, ..] => Some(3),
-        [0xED, 0x80..=0x9F, 0x80..=0xBF, ..] => Some(3),
-        [0xEE..=0xEF, 0x80..=0xBF, 0x80..=0xBF, ..] => Some(3),
-        [0xF0, 0x90..=0xBF, 0x80..=0xBF, 0x80..=0xBF, ..] => Some(4),
-        [0xF1..=0xF3, 0x80..=0xBF, 0x80..=0xBF, 0x80..=0xBF, ..] => Some(4),
-        [0xF4, 0x80..=0x8F, 0x80..=0xBF, 0x80..=0xBF, ..] => Some(4),
-        _ => None,
-    }
+    std::str::from_utf8(bytes).is_ok()
 }
 
 /// Stores the shortest head of major types 0 to 6 from `at` on and gives the position after it,

@@ -1,5 +1,6 @@
 //! The rules of 01 written again, and the test cases they give.
 
+pub mod block;
 pub mod cbor;
 pub mod history;
 pub mod message;

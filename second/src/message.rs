@@ -262,12 +262,17 @@ impl Message {
 
     fn locators(&self) -> Vec<Locator> {
         match self {
-            Message::Response {
-                target: Target::Locators(locators) | Target::Divert(locators),
-                ..
-            } => locators.clone(),
+            Message::Response { target, .. } => target.locators().to_vec(),
             Message::Flood { pairs, .. } => pairs.iter().filter_map(|pair| pair.locator).collect(),
             _ => vec![],
+        }
+    }
+}
+
+impl Target {
+    pub fn locators(&self) -> &[Locator] {
+        match self {
+            Target::Locators(locators) | Target::Divert(locators) => locators,
         }
     }
 }

@@ -8,8 +8,8 @@ mod verdict;
 use crate::message::{self, Message, MOST_BYTES};
 use crate::writer;
 
-pub use record::Record;
-pub use table::{Key, Row, Table, DISCOVERY_LIFE, FLOOD_LIFE, NUMBERS, ROWS};
+pub use record::{Fresh, Record};
+pub use table::{Key, Row, Table, DISCOVERY_LIFE, FLOOD_LIFE, NUMBERS, OF_A_ROW, ROWS};
 pub use verdict::Verdict;
 use verdict::{Passing, Place};
 

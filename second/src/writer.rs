@@ -3,12 +3,11 @@
 
 mod describe;
 mod encode;
-mod items;
-pub mod layout;
+pub mod items;
 
+use crate::block::layout::FIELDS;
 use crate::message::{self, MOST_BYTES, TCP, V6};
 use items::{array, bytes, number};
-use layout::FIELDS;
 
 /// 01, refusal 18: no accepted message has this description.
 pub const NO_MESSAGE: u8 = 18;
@@ -76,7 +75,7 @@ pub fn rewrite(message: &[u8], out_len: usize) -> Result<Vec<u8>, u8> {
 /// The description of the message that the bytes are, with places into them.
 pub fn describe(message: &[u8]) -> Result<Description, u8> {
     let read = message::read(message)?;
-    Ok(describe::description(&read, message.len()))
+    Ok(describe::description(message, &read))
 }
 
 /// The encoding, if a message may be so long and the output holds it.

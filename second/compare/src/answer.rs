@@ -2,7 +2,7 @@
 
 use std::fmt::{self, Display, Formatter};
 
-use second::writer::layout::{FIELDS, LOCATOR_FIELDS, PAIR_FIELDS};
+use second::block::layout::{FIELDS, LOCATOR_FIELDS, PAIR_FIELDS};
 
 /// What a call returned, and its block, with a word on either side of it.
 #[derive(Clone, Copy, PartialEq, Eq)]

@@ -1,67 +1,34 @@
 //! One input read by both, with all that is said of it compared.
 
-use std::fmt::Display;
-
 use second::random::Random;
 
-use crate::{archive, expected};
+use crate::difference::Difference;
+use crate::{expected, library};
 
 /// Up to this length every place of an input is tried.
 const SHORT: usize = 48;
 
-/// Two answers to one call that are not the same.
-pub struct Difference {
-    pub call: String,
-    pub library: String,
-    pub second: String,
-}
-
-impl Difference {
-    /// The same, of a record that is changed in place.
-    pub fn in_place(self) -> Difference {
-        let call = format!("record in place: {}", self.call);
-        Difference { call, ..self }
-    }
-
-    /// The library's answers do not meet demand 3.
-    pub fn of_demand(fault: String) -> Difference {
-        Difference {
-            call: String::from("the whole list"),
-            library: fault,
-            second: String::from("demand 3 holds"),
-        }
-    }
-}
-
 /// The first difference in what is said of the message, or of any of the places.
 pub fn difference(bytes: &[u8], places: &[usize]) -> Option<Difference> {
     let whole = || {
-        let call = || String::from("grasp_read, and the steps through its list");
-        same(
-            call,
-            archive::description(bytes),
-            expected::description(bytes),
+        let (library, second) = (library::description(bytes), expected::description(bytes));
+        Difference::between(
+            "grasp_read, and the steps through its list",
+            library,
+            second,
         )
     };
-    let at = |&at: &usize| {
-        let call = |name| move || format!("{name} at {at}");
-        let (library, second) = (archive::locator(bytes, at), expected::locator(bytes, at));
-        same(call("grasp_locator"), library, second).or_else(|| {
-            let (library, second) = (archive::pair(bytes, at), expected::pair(bytes, at));
-            same(call("grasp_pair"), library, second)
-        })
+    let locator = |at| {
+        let (library, second) = (library::locator(bytes, at), expected::locator(bytes, at));
+        Difference::between(format_args!("grasp_locator at {at}"), library, second)
     };
-    whole().or_else(|| places.iter().find_map(at))
-}
-
-fn same<T: Display + Eq>(call: impl Fn() -> String, library: T, second: T) -> Option<Difference> {
-    if library == second {
-        return None;
-    }
-    Some(Difference {
-        call: call(),
-        library: library.to_string(),
-        second: second.to_string(),
+    let pair = |at| {
+        let (library, second) = (library::pair(bytes, at), expected::pair(bytes, at));
+        Difference::between(format_args!("grasp_pair at {at}"), library, second)
+    };
+    whole().or_else(|| {
+        let mut places = places.iter().copied();
+        places.find_map(|at| locator(at).or_else(|| pair(at)))
     })
 }
 

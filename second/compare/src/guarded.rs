@@ -2,7 +2,7 @@
 
 use std::fmt::LowerHex;
 
-use crate::check::Difference;
+use crate::difference::Difference;
 
 /// How many bytes or numbers a margin has.
 const MARGIN: usize = 16;

@@ -3,11 +3,13 @@
 //! those that a fuzzer finds.
 
 pub mod answer;
-pub mod archive;
 pub mod check;
+pub mod difference;
 pub mod expected;
 pub mod guarded;
 pub mod inputs;
+pub mod library;
+pub mod list;
 pub mod negotiation;
 pub mod node;
 pub mod options;

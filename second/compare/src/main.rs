@@ -5,13 +5,15 @@ use std::env;
 use std::fmt::Display;
 use std::process::ExitCode;
 
-use compare::check::{difference, every_place, some_places, Difference};
-use compare::inputs::{Input, Inputs};
-use compare::negotiation::{Talk, Talks};
-use compare::node::{Histories, History};
+use compare::check::{difference, every_place, some_places};
+use compare::difference::{account, Difference};
+use compare::inputs::{inputs, Input};
+use compare::list::{List, Listed};
+use compare::negotiation::talks;
+use compare::node::histories;
 use compare::options::{Options, USAGE};
 use compare::shrink::{shrink, Case};
-use compare::writing::{Write, Writes};
+use compare::writing::{writes, Write};
 use second::random::Random;
 use second::vectors::hex;
 
@@ -26,7 +28,13 @@ fn main() -> ExitCode {
         eprintln!("{USAGE}");
         return ExitCode::from(2);
     };
-    let alike = [read, run_histories, run_talks, write].map(|compare| compare(&options));
+    let (histories, talks) = (histories(options.seed), talks(options.seed));
+    let alike = [
+        read(&options),
+        run(histories, options.histories, ["node calls", "histories"]),
+        run(talks, options.talks, ["negotiation steps", "lists"]),
+        write(&options),
+    ];
     if alike.contains(&false) {
         ExitCode::FAILURE
     } else {
@@ -53,15 +61,13 @@ fn read(options: &Options) -> bool {
         let places = some_places(&mut random, input.shown());
         difference(input.shown(), &places).map(|_| input)
     };
-    let inputs = Inputs::new(options.seed).take(options.count);
-    match smallest(inputs, failing, MORE, Input::size) {
-        None => println!("{} messages are read alike", options.count),
-        Some(input) => {
-            report_input(input);
-            return false;
-        }
-    }
-    true
+    let inputs = inputs(options.seed).take(options.count);
+    let Some(input) = smallest(inputs, failing, MORE, Input::size) else {
+        println!("{} messages are read alike", options.count);
+        return true;
+    };
+    report_input(input);
+    false
 }
 
 /// Says the shortest failing input found from this one, and both answers.
@@ -75,70 +81,42 @@ fn report_input(input: Input) {
         println!("followed in memory by: {}", hex(least.hidden()));
     }
     if let Some(difference) = found(&least) {
-        report(&difference);
+        println!("{difference}");
     }
 }
 
-/// Whether all node histories go alike.
-fn run_histories(options: &Options) -> bool {
+/// Whether so many lists go alike; both words name what is counted.
+fn run<T: Listed>(
+    lists: impl Iterator<Item = List<T>>,
+    many: usize,
+    [calls_word, lists_word]: [&str; 2],
+) -> bool {
     let mut calls = 0;
-    let histories = Histories::new(options.seed).take(options.histories);
-    let histories = histories.inspect(|history| calls += history.calls());
-    let failing = |history: History| history.failing();
-    let found = smallest(histories, failing, MORE_LISTS, History::size);
-    let Some(history) = found else {
-        let histories = options.histories;
-        println!("{calls} node calls in {histories} histories are answered alike");
+    let lists = lists.take(many).inspect(|list| calls += list.calls());
+    let failing = |list: List<T>| list.failing();
+    let Some(list) = smallest(lists, failing, MORE_LISTS, List::size) else {
+        println!("{calls} {calls_word} in {many} {lists_word} are answered alike");
         return true;
     };
-    let least = shrink(history, |history| history.difference().is_some());
-    report_list(&least.steps, least.difference());
-    false
-}
-
-/// Whether all lists of negotiation steps go alike.
-fn run_talks(options: &Options) -> bool {
-    let mut steps = 0;
-    let talks = Talks::new(options.seed).take(options.talks);
-    let talks = talks.inspect(|talk| steps += talk.steps());
-    let failing = |talk: Talk| talk.failing();
-    let found = smallest(talks, failing, MORE_LISTS, Talk::size);
-    let Some(talk) = found else {
-        let talks = options.talks;
-        println!("{steps} negotiation steps in {talks} lists are answered alike");
-        return true;
-    };
-    let least = shrink(talk, |talk| talk.difference().is_some());
-    report_list(&least.moves, least.difference());
+    let least = shrink(list, |list| list.difference().is_some());
+    report(&least.steps, least.difference());
     false
 }
 
 /// Whether all descriptions are written alike.
 fn write(options: &Options) -> bool {
-    let writes = Writes::new(options.seed).take(options.writes);
+    let writes = writes(options.seed).take(options.writes);
     let failing = |write: Write| write.difference().map(|_| write);
-    let found = smallest(writes, failing, MORE, Write::size);
-    let Some(write) = found else {
+    let Some(write) = smallest(writes, failing, MORE, Write::size) else {
         println!("{} descriptions are written alike", options.writes);
         return true;
     };
-    report_list(&[&write], write.difference().map(|found| (0, found)));
+    report(&[&write], write.difference().map(|found| (0, found)));
     false
 }
 
-/// Says every step up to the failing one, and both answers to it.
-fn report_list<T: Display>(steps: &[T], found: Option<(usize, Difference)>) {
-    let Some((place, difference)) = found else {
-        return;
-    };
-    for (number, step) in steps[..=place].iter().enumerate() {
-        println!("{number}: {step}");
+fn report<T: Display>(steps: &[T], found: Option<(usize, Difference)>) {
+    if let Some(found) = found {
+        println!("{}", account(steps, found));
     }
-    report(&difference);
-}
-
-fn report(difference: &Difference) {
-    println!("call: {}", difference.call);
-    println!("libgrasp: {}", difference.library);
-    println!("second: {}", difference.second);
 }

@@ -5,20 +5,18 @@ mod generated;
 
 use std::fmt::{self, Display, Formatter};
 
+use archive::STATE_FIELDS;
 use second::history::{negotiates_within, Stepped};
 use second::negotiation::Side;
 use second::vectors::hex;
 use second::vectors::negotiation::Op;
 
-use crate::archive;
-use crate::check::Difference;
+use crate::difference::Difference;
 use crate::guarded::Guarded;
-use crate::shrink::Case;
+use crate::library;
+use crate::list::{List, Listed};
 
-pub use generated::Talks;
-
-/// The numbers of a state.
-pub const STATE_FIELDS: usize = 4;
+pub use generated::talks;
 
 /// A step by a side's number, or other numbers in the state's place.
 #[derive(Clone)]
@@ -28,74 +26,37 @@ pub enum Move {
 }
 
 /// Moves from a fresh state on.
-#[derive(Clone, Default)]
-pub struct Talk {
-    pub moves: Vec<Move>,
-}
+pub type Talk = List<Move>;
 
-impl Case for Talk {
-    fn size(&self) -> usize {
-        self.moves.len()
+impl Listed for Move {
+    fn is_call(&self) -> bool {
+        matches!(self, Move::Step(..))
     }
 
-    fn without(&self, from: usize, length: usize) -> Talk {
-        let mut less = self.clone();
-        less.moves.drain(from..less.moves.len().min(from + length));
-        less
-    }
-}
-
-impl Talk {
-    /// How many steps it has.
-    pub fn steps(&self) -> usize {
-        let is_step = |each: &&Move| matches!(each, Move::Step(..));
-        self.moves.iter().filter(is_step).count()
-    }
-
-    /// The first difference, with the place of its move; demand 3's is at the last one.
-    pub fn difference(&self) -> Option<(usize, Difference)> {
+    fn difference(moves: &[Move]) -> Option<(usize, Difference)> {
         let mut state = Guarded::numbers(STATE_FIELDS);
         state.put(&[0; STATE_FIELDS]);
         let mut steps = Vec::new();
-        for (place, each) in self.moves.iter().enumerate() {
+        for (place, each) in moves.iter().enumerate() {
             match each {
                 Move::Put(numbers) => state.put(numbers),
                 Move::Step(message, side) => {
                     let mut second = state.clone();
-                    let returned = archive::step(&mut state, message, *side);
+                    let returned = library::step(&mut state, message, *side);
                     let wanted = expected::step(&mut second, message, *side);
-                    if let Some(difference) = parted((returned, &state), (wanted, &second)) {
+                    let found = Difference::of_returned(returned, wanted)
+                        .or_else(|| state.difference(&second, "the state"));
+                    if let Some(difference) = found {
                         return Some((place, difference));
                     }
                     steps.extend(stepped(message, *side, returned));
                 }
             }
         }
-        let last = self.moves.len().checked_sub(1)?;
-        let is_listed = |each: &Move| matches!(each, Move::Step(..));
-        let is_list = self.moves.iter().all(is_listed);
+        let is_list = moves.iter().all(Move::is_call);
         let fault = || Difference::of_demand(String::from("too many Negotiates"));
-        (is_list && !negotiates_within(&steps)).then(|| (last, fault()))
+        (is_list && !negotiates_within(&steps)).then(|| (moves.len() - 1, fault()))
     }
-
-    /// The moves up to the failing one, if one fails.
-    pub fn failing(&self) -> Option<Talk> {
-        let (place, _) = self.difference()?;
-        let moves = self.moves[..=place].to_vec();
-        Some(Talk { moves })
-    }
-}
-
-/// Where what was returned, or the states after it, part.
-fn parted(library: (u8, &Guarded<u64>), second: (u8, &Guarded<u64>)) -> Option<Difference> {
-    if library.0 == second.0 {
-        return library.1.difference(second.1, "the state");
-    }
-    Some(Difference {
-        call: String::from("what is returned"),
-        library: library.0.to_string(),
-        second: second.0.to_string(),
-    })
 }
 
 /// A step as demand 3 sees it; one by a side that is none was refused.

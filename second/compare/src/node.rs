@@ -8,47 +8,29 @@ mod step;
 
 use second::history;
 
-use crate::archive::{Archive, InPlace};
-use crate::check::Difference;
-use crate::shrink::Case;
+use crate::difference::Difference;
+use crate::library::{InPlace, OverNumbers};
+use crate::list::{List, Listed};
 
 pub use expected::Second;
-pub use generated::Histories;
-pub use host::{Host, Node};
-pub use step::{Fresh, Step};
+pub use generated::histories;
+pub use host::{Host, Node, MOST_TABLE, ROW_BYTES};
+pub use step::Step;
 
 /// Steps from memory that nobody has filled.
-#[derive(Clone, Default)]
-pub struct History {
-    pub steps: Vec<Step>,
-}
+pub type History = List<Step>;
 
-impl Case for History {
-    fn size(&self) -> usize {
-        self.steps.len()
+impl Listed for Step {
+    fn is_call(&self) -> bool {
+        matches!(self, Step::Call(_))
     }
 
-    fn without(&self, from: usize, length: usize) -> History {
-        let mut less = self.clone();
-        less.steps.drain(from..less.steps.len().min(from + length));
-        less
-    }
-}
-
-impl History {
-    /// How many node calls it has.
-    pub fn calls(&self) -> usize {
-        let is_call = |step: &&Step| matches!(step, Step::Call(_));
-        self.steps.iter().filter(is_call).count()
-    }
-
-    /// The first difference, with the place of its step; demand 3's is at the last one.
-    pub fn difference(&self) -> Option<(usize, Difference)> {
+    fn difference(steps: &[Step]) -> Option<(usize, Difference)> {
         let (mut library, mut in_place) = (Host::new(), Host::new());
         let mut second = Host::new();
         let mut calls = Vec::new();
-        for (place, step) in self.steps.iter().enumerate() {
-            step.take::<Archive>(&mut library);
+        for (place, step) in steps.iter().enumerate() {
+            step.take::<OverNumbers>(&mut library);
             step.take::<InPlace>(&mut in_place);
             step.take::<Second>(&mut second);
             let found = library.difference(&second).or_else(|| {
@@ -60,38 +42,28 @@ impl History {
             }
             calls.extend(library.called(step));
         }
-        let last = self.steps.len().checked_sub(1)?;
-        let interfaces = self.interfaces()?;
-        let tally = library.tally();
         let history = history::History {
-            interfaces,
+            interfaces: interfaces(steps)?,
             calls,
-            tally,
+            tally: library.tally(),
         };
         let fault = history.faults().first()?.to_string();
-        Some((last, Difference::of_demand(fault)))
+        Some((steps.len() - 1, Difference::of_demand(fault)))
     }
+}
 
-    /// The interfaces of a list that demand 3 speaks of: a fresh record that is not refused, then
-    /// nothing but calls and settings of links.
-    fn interfaces(&self) -> Option<u64> {
-        let (first, others) = self.steps.split_first()?;
-        let Step::Fresh(fresh) = first else {
-            return None;
-        };
-        let mut host = Host::new();
-        first.take::<Second>(&mut host);
-        let is_listed = |step: &Step| matches!(step, Step::Call(_) | Step::Links(_));
-        let speaks = host.returned == 0 && others.iter().all(is_listed);
-        speaks.then_some(fresh.interfaces)
-    }
-
-    /// The steps up to the failing one, if one fails.
-    pub fn failing(&self) -> Option<History> {
-        let (place, _) = self.difference()?;
-        let steps = self.steps[..=place].to_vec();
-        Some(History { steps })
-    }
+/// The interfaces of a list that demand 3 speaks of: a fresh record that is not refused, then
+/// nothing but calls and settings of links.
+fn interfaces(steps: &[Step]) -> Option<u64> {
+    let (first, others) = steps.split_first()?;
+    let Step::Fresh(fresh) = first else {
+        return None;
+    };
+    let mut host = Host::new();
+    first.take::<Second>(&mut host);
+    let is_listed = |step: &Step| matches!(step, Step::Call(_) | Step::Links(_));
+    let speaks = host.returned == 0 && others.iter().all(is_listed);
+    speaks.then_some(fresh.count)
 }
 
 #[cfg(test)]

@@ -1,16 +1,16 @@
 //! Descriptions written through the library for C and by the second program.
 
 use std::fmt::{self, Display, Formatter};
-use std::vec::IntoIter;
+use std::iter::repeat_with;
 
 use second::random::Random;
 use second::vectors::hex;
 use second::vectors::write::generated::{damaged_draft, good_draft};
-use second::vectors::write::{writes, Draft, Outcome};
+use second::vectors::write::{drafts, Draft, Outcome};
 
-use crate::archive;
-use crate::check::Difference;
+use crate::difference::Difference;
 use crate::guarded::Guarded;
+use crate::library;
 
 /// A description, and what must come of writing it.
 pub struct Write {
@@ -27,33 +27,13 @@ pub struct Written {
 }
 
 /// The stored descriptions, then generated ones without end.
-pub struct Writes {
-    stored: IntoIter<(Draft, Outcome)>,
-    random: Random,
-}
-
-impl Writes {
-    pub fn new(seed: u64) -> Writes {
-        Writes {
-            stored: writes().into_iter(),
-            random: Random::new(seed),
-        }
-    }
-}
-
-impl Iterator for Writes {
-    type Item = Write;
-
-    fn next(&mut self) -> Option<Write> {
-        if let Some((draft, outcome)) = self.stored.next() {
-            return Some(Write { draft, outcome });
-        }
-        let draft = match self.random.below(2) {
-            0 => good_draft(&mut self.random),
-            _ => damaged_draft(&mut self.random),
-        };
-        Some(Write::of(draft))
-    }
+pub fn writes(seed: u64) -> impl Iterator<Item = Write> {
+    let mut random = Random::new(seed);
+    let generated = repeat_with(move || match random.below(2) {
+        0 => good_draft(&mut random),
+        _ => damaged_draft(&mut random),
+    });
+    drafts().into_iter().chain(generated).map(Write::of)
 }
 
 impl Written {
@@ -80,16 +60,11 @@ impl Write {
     }
 
     pub fn difference(&self) -> Option<Difference> {
-        let (library, second) = (archive::write(&self.draft), self.expected());
-        if library.returned != second.returned {
-            return Some(Difference {
-                call: String::from("what is returned"),
-                library: library.returned.to_string(),
-                second: second.returned.to_string(),
-            });
-        }
-        let length = library.length.difference(&second.length, "the length");
-        length.or_else(|| library.out.difference(&second.out, "the output"))
+        let (library, second) = (library::write(&self.draft), self.expected());
+        let length = || library.length.difference(&second.length, "the length");
+        let out = || library.out.difference(&second.out, "the output");
+        let returned = Difference::of_returned(library.returned, second.returned);
+        returned.or_else(length).or_else(out)
     }
 
     fn expected(&self) -> Written {
@@ -121,8 +96,7 @@ mod tests {
 
     #[test]
     fn generated_descriptions_meet_every_answer() {
-        let stored = writes().len();
-        let some = Writes::new(1).skip(stored).take(2_000);
+        let some = writes(1).skip(drafts().len()).take(2_000);
         let returned: Vec<u8> = some.map(|write| write.expected().returned).collect();
         for number in [0, 18, 19] {
             assert!(returned.contains(&number));

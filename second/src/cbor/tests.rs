@@ -115,26 +115,3 @@ fn put_heads_that_do_not_fit_change_nothing() {
     assert_eq!(put_head(&mut [], 0, 0, 0), 1);
     assert_eq!(put_head(&mut [0; 4], 1, 0, 256), 4);
 }
-
-#[test]
-fn utf8_is_what_the_standard_library_says() {
-    let edges = [
-        0x00, 0x7F, 0x80, 0x8F, 0x90, 0x9F, 0xA0, 0xBF, 0xC0, 0xC1, 0xC2, 0xE0, 0xED, 0xF0, 0xF4,
-        0xFF,
-    ];
-    let agrees = |bytes: &[u8]| assert_eq!(is_utf8(bytes), std::str::from_utf8(bytes).is_ok());
-    agrees(&[]);
-    for first in 0..=0xFF {
-        agrees(&[first]);
-        for second in 0..=0xFF {
-            agrees(&[first, second]);
-            for third in edges {
-                agrees(&[first, second, third]);
-                for fourth in edges {
-                    agrees(&[first, second, third, fourth]);
-                    agrees(&[0x41, first, second, third, fourth, 0x41]);
-                }
-            }
-        }
-    }
-}

@@ -18,15 +18,25 @@ pub struct Record {
     pub tally: u64,
 }
 
+/// What a fresh record is asked for with.
+#[derive(Clone, Copy, Debug)]
+pub struct Fresh {
+    pub address: [u8; 16],
+    pub port: u16,
+    pub ttl: u32,
+    pub count: u64,
+    pub mask: u64,
+}
+
 impl Record {
     /// A fresh record with 0, or the record of zeros with 12.
-    pub fn fresh(address: [u8; 16], port: u16, ttl: u32, count: u64, mask: u64) -> (Record, u8) {
+    pub fn fresh(asked: &Fresh) -> (Record, u8) {
         let record = Record {
-            address,
-            port,
-            ttl,
-            count,
-            mask,
+            address: asked.address,
+            port: asked.port,
+            ttl: asked.ttl,
+            count: asked.count,
+            mask: asked.mask,
             clock: 0,
             tally: 0,
         };

@@ -2,10 +2,10 @@
 
 use crate::cbor::big_endian;
 
-/// The rows, and the numbers of the table and of a row.
+/// The rows, and the numbers of a row and of the table.
 pub const ROWS: usize = 64;
-pub const NUMBERS: usize = 4 * ROWS;
-const OF_A_ROW: usize = 4;
+pub const OF_A_ROW: usize = 4;
+pub const NUMBERS: usize = OF_A_ROW * ROWS;
 
 /// For how many ms a row lives.
 pub const DISCOVERY_LIFE: u64 = 60_000;

@@ -6,6 +6,17 @@ const ANSWER: &[u8] = b"\x85\x02\x07\x44\xC0\x00\x02\x01\x19\xEA\x60\x84\x18\x67
     \x20\x01\x0D\xB8\x00\x00\x00\x00\x00\x00\x00\x00\x00\x00\x00\x01\x06\x19\x1B\x69";
 const ADDRESS: [u8; 16] = *b"\x20\x01\x0D\xB8\0\0\0\0\0\0\0\0\0\0\0\x01";
 
+/// 01's record, with another count and mask.
+fn asked(count: u64, mask: u64) -> Fresh {
+    Fresh {
+        address: ADDRESS,
+        port: 7_017,
+        ttl: 60_000,
+        count,
+        mask,
+    }
+}
+
 /// A node with its table.
 #[derive(Clone, Debug, PartialEq, Eq)]
 struct Node {
@@ -16,7 +27,7 @@ struct Node {
 impl Node {
     /// 01's node: 3 interfaces, all up.
     fn fresh() -> Node {
-        let (record, number) = Record::fresh(ADDRESS, 7_017, 60_000, 3, 7);
+        let (record, number) = Record::fresh(&asked(3, 7));
         assert_eq!(number, 0);
         let table = vec![0; NUMBERS];
         Node { record, table }
@@ -292,7 +303,7 @@ fn bad_rows_are_refused() {
 fn records_are_judged() {
     let zeros = (Record::default(), BAD_RECORD);
     for (count, mask) in [(0, 0), (9, 1), (3, 8), (256 + 3, 7), (8, 256), (8, 1 << 32)] {
-        assert_eq!(Record::fresh(ADDRESS, 1, 2, count, mask), zeros);
+        assert_eq!(Record::fresh(&asked(count, mask)), zeros);
     }
     let mut node = Node::fresh();
     assert_eq!(node.record.set_links(8), Err(BAD_LINK));

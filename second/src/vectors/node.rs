@@ -16,7 +16,7 @@ mod state;
 mod story;
 mod tables;
 
-pub use story::{Op, Story};
+pub use story::{Op, Story, ADDRESS, EX1};
 
 use super::Files;
 

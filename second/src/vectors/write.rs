@@ -16,10 +16,11 @@ mod spans;
 
 use std::collections::BTreeSet;
 
+pub use answers::Asked;
 pub use draft::Draft;
 
 use super::{counted, hex, Files};
-use crate::writer::{answer, lower, rewrite};
+use crate::writer::{lower, rewrite};
 
 /// One question to the writer.
 #[derive(Clone)]
@@ -33,11 +34,7 @@ pub enum Case {
         out_len: usize,
     },
     Answer {
-        session: u32,
-        initiator: Vec<u8>,
-        ttl: u32,
-        address: [u8; 16],
-        port: u16,
+        asked: Asked,
         out_len: usize,
     },
     Rewrite {
@@ -65,19 +62,13 @@ pub(super) fn files() -> Files {
     }
 }
 
-/// Every description of the stored files, and what must come of writing it.
-pub fn writes() -> Vec<(Draft, Outcome)> {
-    cases()
-        .into_iter()
-        .filter_map(|case| match case {
-            Case::Write(draft) => Some(draft),
-            _ => None,
-        })
-        .map(|draft| {
-            let outcome = draft.outcome();
-            (draft, outcome)
-        })
-        .collect()
+/// Every description of the stored files.
+pub fn drafts() -> Vec<Draft> {
+    let draft = |case| match case {
+        Case::Write(draft) => Some(draft),
+        _ => None,
+    };
+    cases().into_iter().filter_map(draft).collect()
 }
 
 /// Every case once, in the order of the stored files.
@@ -160,19 +151,7 @@ impl Case {
                 let rest = [places, vec![*count], output(*out_len)];
                 [vec![2], counted(message), rest.concat()].concat()
             }
-            Case::Answer {
-                session,
-                initiator,
-                ttl,
-                address,
-                port,
-                out_len,
-            } => {
-                let length = u8::try_from(initiator.len()).expect("at most 255 bytes");
-                let before = [&[3][..], &session.to_be_bytes(), &[length], initiator];
-                let after = [&ttl.to_be_bytes()[..], address, &port.to_be_bytes()];
-                [before.concat(), after.concat(), output(*out_len)].concat()
-            }
+            Case::Answer { asked, out_len } => [vec![3], asked.stored(), output(*out_len)].concat(),
             Case::Rewrite { message, out_len } => {
                 [vec![4], counted(message), output(*out_len)].concat()
             }
@@ -207,17 +186,7 @@ impl Case {
                 let (at, end) = (usize::from(*at), usize::from(*end));
                 (lower(message, at, end, *count, *out_len), *out_len)
             }
-            Case::Answer {
-                session,
-                initiator,
-                ttl,
-                address,
-                port,
-                out_len,
-            } => {
-                let outcome = answer(*session, initiator, *ttl, address, *port, *out_len);
-                (outcome, *out_len)
-            }
+            Case::Answer { asked, out_len } => (asked.outcome(*out_len), *out_len),
             Case::Rewrite { message, out_len } => (rewrite(message, *out_len), *out_len),
         }
     }

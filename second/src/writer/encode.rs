@@ -4,7 +4,7 @@
 use std::mem;
 
 use super::items::{array, bytes, null, number, text};
-use super::layout::*;
+use crate::block::layout::*;
 use crate::cbor::{is_utf8, item};
 use crate::message::{ACCEPT, DECLINE, DIVERT, DOMAIN, MOST_OF_A_NAME, TCP, UDP, URI, V4, V6};
 

@@ -23,7 +23,8 @@ pub fn null() -> Vec<u8> {
     vec![0xF6]
 }
 
-fn head(major: u8, argument: u64) -> Vec<u8> {
+/// The head of major types 0 to 6.
+pub fn head(major: u8, argument: u64) -> Vec<u8> {
     let mut buffer = [0; 9];
     let end = put_head(&mut buffer, 0, major, argument);
     buffer[..end].to_vec()

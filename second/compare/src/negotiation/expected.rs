@@ -1,9 +1,10 @@
 //! What the second program's step does, said as include/grasp.h says it.
 
+use archive::STATE_FIELDS;
 use second::message;
 use second::negotiation::{self, State, NOT_ALLOWED};
 
-use super::{side_number, side_of, STATE_FIELDS};
+use super::{side_number, side_of};
 use crate::guarded::Guarded;
 
 /// Puts the state after the message and gives 0, or gives the number of the refusal.

@@ -1,13 +1,14 @@
 //! The lists of steps that both are given.
 
-use std::vec::IntoIter;
+use std::iter::repeat_with;
 
+use archive::STATE_FIELDS;
 use second::random::Random;
 use second::vectors::damage::damaged;
 use second::vectors::negotiation::generated::generated;
-use second::vectors::negotiation::{talks, Talk as Stored};
+use second::vectors::negotiation::{self, Talk as Stored};
 
-use super::{Move, Talk, STATE_FIELDS};
+use super::{Move, Talk};
 
 /// The steps of a generated list.
 const STEPS: usize = 24;
@@ -30,43 +31,28 @@ const NUMBERS: &[u64] = &[
 ];
 
 /// The stored lists, then generated ones without end.
-pub struct Talks {
-    stored: IntoIter<Stored>,
-    random: Random,
+pub fn talks(seed: u64) -> impl Iterator<Item = Talk> {
+    let mut random = Random::new(seed);
+    let stored = negotiation::talks().into_iter().map(|talk| told(&talk));
+    stored.chain(repeat_with(move || varied(&mut random)))
 }
 
-impl Talks {
-    pub fn new(seed: u64) -> Talks {
-        Talks {
-            stored: talks().into_iter(),
-            random: Random::new(seed),
-        }
+/// A generated list with other sides and messages, and half of the times other states.
+fn varied(random: &mut Random) -> Talk {
+    let mut talk = told(&generated(random, STEPS));
+    for each in &mut talk.steps {
+        vary(random, each);
     }
-}
-
-impl Iterator for Talks {
-    type Item = Talk;
-
-    fn next(&mut self) -> Option<Talk> {
-        if let Some(stored) = self.stored.next() {
-            return Some(told(&stored));
-        }
-        let random = &mut self.random;
-        let mut talk = told(&generated(random, STEPS));
-        for each in &mut talk.moves {
-            vary(random, each);
-        }
-        Some(if random.once_in(2) {
-            tampered(random, talk)
-        } else {
-            talk
-        })
+    if random.once_in(2) {
+        tampered(random, talk)
+    } else {
+        talk
     }
 }
 
 fn told(stored: &Stored) -> Talk {
-    let moves = stored.ops.iter().map(Move::of).collect();
-    Talk { moves }
+    let steps = stored.ops.iter().map(Move::of).collect();
+    Talk { steps }
 }
 
 /// Another side or a damaged message, at times.
@@ -92,14 +78,14 @@ fn wide(random: &mut Random, number: u64) -> u64 {
 /// The same with other numbers put before some steps: an open state that the generated messages
 /// speak of, or one with numbers that are none of ours.
 fn tampered(random: &mut Random, talk: Talk) -> Talk {
-    let mut moves = Vec::new();
-    for each in talk.moves {
+    let mut steps = Vec::new();
+    for each in talk.steps {
         if random.once_in(3) {
-            moves.push(Move::Put(state(random)));
+            steps.push(Move::Put(state(random)));
         }
-        moves.push(each);
+        steps.push(each);
     }
-    Talk { moves }
+    Talk { steps }
 }
 
 fn state(random: &mut Random) -> [u64; STATE_FIELDS] {

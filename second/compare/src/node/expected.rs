@@ -1,24 +1,19 @@
 //! What the second program's node does, said as include/grasp.h says it.
 
-use second::node::{self, Given, Record, BAD_RECORD};
+use archive::TABLE_BYTES;
+use second::cbor::big_endian;
+use second::node::{self, Fresh, Given, Record, BAD_RECORD};
+use second::vectors::in_bytes;
 
-use super::host::TABLE_BYTES;
-use super::step::{numbers_of, table_bytes};
-use super::{Fresh, Host, Node};
+use super::step::numbers_of;
+use super::{Host, Node};
 
 /// The second program.
 pub struct Second;
 
 impl Node for Second {
     fn fresh(host: &mut Host, fresh: &Fresh) -> u8 {
-        let Fresh {
-            address,
-            port,
-            ttl,
-            interfaces,
-            links,
-        } = fresh;
-        let (record, number) = Record::fresh(*address, *port, *ttl, *interfaces, *links);
+        let (record, number) = Record::fresh(fresh);
         if number == 0 {
             host.numbers.put(&numbers_of(&record));
         }
@@ -46,7 +41,7 @@ impl Node for Second {
         match node::call(&mut record, &mut table, given) {
             Ok(answer) => {
                 host.numbers.put(&numbers_of(&record));
-                host.table.put(&table_bytes(&table));
+                host.table.put(&in_bytes(&table));
                 host.out.put(&answer.output);
                 host.answer.put(&[
                     u64::from(answer.verdict.number()),
@@ -82,11 +77,6 @@ fn table(host: &Host) -> Vec<u64> {
     if host.length != TABLE_BYTES {
         return vec![];
     }
-    let number = |bytes: &[u8]| {
-        bytes
-            .iter()
-            .fold(0, |more, &byte| more << 8 | u64::from(byte))
-    };
     let bytes = &host.table.content()[..TABLE_BYTES];
-    bytes.chunks_exact(8).map(number).collect()
+    bytes.chunks_exact(8).map(big_endian).collect()
 }

@@ -1,16 +1,17 @@
 //! The histories that both are given.
 
-use std::vec::IntoIter;
+use std::iter::repeat_with;
 
-use second::node::Given;
+use archive::{RECORD_CLOCK, RECORD_FIELDS, TABLE_BYTES};
+use second::node::{Fresh, Given};
 use second::random::Random;
 use second::vectors::damage::damaged;
 use second::vectors::message::generated::{long_message, message};
 use second::vectors::node::generated::{crowded, put, usual};
 use second::vectors::node::{stories, Story};
 
-use super::host::{MOST_TABLE, RECORD_FIELDS, ROW_BYTES, TABLE_BYTES};
-use super::{Fresh, History, Step};
+use super::host::{MOST_TABLE, ROW_BYTES};
+use super::{History, Step};
 
 /// Numbers at the edges of what a record, an interface or a mask may be.
 const EDGES: &[u64] = &[
@@ -59,29 +60,10 @@ const LENGTHS: &[usize] = &[
 const OUTPUTS: &[usize] = &[0, 35, 2_047, 2_048, 2_049, 2_100, 4_096];
 
 /// The stored stories, then generated histories without end.
-pub struct Histories {
-    stored: IntoIter<Story>,
-    random: Random,
-}
-
-impl Histories {
-    pub fn new(seed: u64) -> Histories {
-        Histories {
-            stored: stories().into_iter(),
-            random: Random::new(seed),
-        }
-    }
-}
-
-impl Iterator for Histories {
-    type Item = History;
-
-    fn next(&mut self) -> Option<History> {
-        Some(match self.stored.next() {
-            Some(story) => told(&story),
-            None => generated(&mut self.random),
-        })
-    }
+pub fn histories(seed: u64) -> impl Iterator<Item = History> {
+    let mut random = Random::new(seed);
+    let stored = stories().into_iter().map(|story| told(&story));
+    stored.chain(repeat_with(move || generated(&mut random)))
 }
 
 fn told(story: &Story) -> History {
@@ -143,10 +125,10 @@ fn vary_fresh(random: &mut Random, fresh: &mut Fresh) {
         fresh.address = std::array::from_fn(|_| random.byte());
     }
     if random.once_in(60) {
-        fresh.links = wide(random, fresh.links);
+        fresh.mask = wide(random, fresh.mask);
     }
     if random.once_in(60) {
-        fresh.interfaces = wide(random, fresh.interfaces);
+        fresh.count = wide(random, fresh.count);
     }
 }
 
@@ -207,7 +189,7 @@ fn tampered(random: &mut Random, history: History) -> History {
             continue;
         };
         let mut numbers = good;
-        numbers[4] = given.clock.saturating_sub(random.below(2) as u64);
+        numbers[RECORD_CLOCK] = given.clock.saturating_sub(random.below(2) as u64);
         let (before, after) = match random.below(4) {
             0 => tamper(random, numbers),
             _ => (vec![], vec![]),
@@ -224,7 +206,7 @@ fn tampered(random: &mut Random, history: History) -> History {
 /// The numbers of a good record with the history's interfaces.
 fn good_numbers(history: &History) -> [u64; RECORD_FIELDS] {
     let interfaces = match history.steps.first() {
-        Some(Step::Fresh(fresh)) => fresh.interfaces.clamp(1, 8),
+        Some(Step::Fresh(fresh)) => fresh.count.clamp(1, 8),
         _ => 1,
     };
     [7_017, 60_000, interfaces, (1 << interfaces) - 1, 0, 5]
@@ -264,19 +246,19 @@ fn tamper(random: &mut Random, numbers: [u64; RECORD_FIELDS]) -> (Vec<Step>, Vec
 }
 
 fn odd_fresh(random: &mut Random) -> Fresh {
-    let interfaces = 1 + random.below(8) as u64;
+    let count = 1 + random.below(8) as u64;
     let mut fresh = Fresh {
         address: [0x20; 16],
         port: random.number() as u16,
         ttl: random.number() as u32,
-        interfaces,
-        links: random.bits() & ((1 << interfaces) - 1),
+        count,
+        mask: random.bits() & ((1 << count) - 1),
     };
     if random.once_in(2) {
-        fresh.interfaces = wide(random, interfaces);
+        fresh.count = wide(random, count);
     }
     if random.once_in(3) {
-        fresh.links = wide(random, fresh.links);
+        fresh.mask = wide(random, fresh.mask);
     }
     fresh
 }

@@ -1,22 +1,17 @@
 //! What a host keeps and lends to the library.
 
+use archive::{ANSWER_FIELDS, RECORD_FIELDS, RECORD_TALLY, TABLE_BYTES};
 use second::history::Called;
 use second::message::MOST_BYTES;
-use second::node::{Answer, Verdict};
+use second::node::{Answer, Fresh, Given, Verdict, ROWS};
 use second::vectors::hex;
 
-use super::{Fresh, Step};
-use crate::check::Difference;
+use super::Step;
+use crate::difference::Difference;
 use crate::guarded::Guarded;
 
-/// The numbers of a record and of an answer, and where some of them stand.
-pub const RECORD_FIELDS: usize = 6;
-pub const ANSWER_FIELDS: usize = 4;
-pub const TALLY: usize = 5;
-
-/// The bytes of a table and of a row, and the most that are lent.
-pub const TABLE_BYTES: usize = 2_048;
-pub const ROW_BYTES: usize = 32;
+/// The bytes of a row, and the most of a table that are lent.
+pub const ROW_BYTES: usize = TABLE_BYTES / ROWS;
 pub const MOST_TABLE: usize = 2_560;
 
 /// The memory, the length of the lent table, and what the last call returned.
@@ -35,7 +30,7 @@ pub struct Host {
 pub trait Node {
     fn fresh(host: &mut Host, fresh: &Fresh) -> u8;
     fn set_links(host: &mut Host, links: u64) -> u8;
-    fn call(host: &mut Host, given: &second::node::Given) -> u8;
+    fn call(host: &mut Host, given: &Given) -> u8;
 }
 
 const VERDICTS: [Verdict; 9] = [
@@ -70,30 +65,25 @@ impl Host {
     }
 
     pub fn tally(&self) -> u64 {
-        self.numbers.content()[TALLY]
+        self.numbers.content()[RECORD_TALLY]
     }
 
     /// The first difference after the same step.
     pub fn difference(&self, second: &Host) -> Option<Difference> {
-        if self.returned != second.returned {
-            return Some(Difference {
-                call: String::from("what is returned"),
-                library: self.returned.to_string(),
-                second: second.returned.to_string(),
-            });
-        }
-        if self.address != second.address {
-            return Some(Difference {
+        let returned = Difference::of_returned(self.returned, second.returned);
+        let address = || {
+            (self.address != second.address).then(|| Difference {
                 call: String::from("the address"),
                 library: hex(&self.address),
                 second: hex(&second.address),
-            });
-        }
+            })
+        };
         let answer = || self.answer.difference(&second.answer, "the answer");
         let numbers = || self.numbers.difference(&second.numbers, "the record");
         let table = || self.table.difference(&second.table, "the table");
         let out = || self.out.difference(&second.out, "the output");
-        answer().or_else(numbers).or_else(table).or_else(out)
+        let first = returned.or_else(address).or_else(answer);
+        first.or_else(numbers).or_else(table).or_else(out)
     }
 
     /// The node call that a step was, as demand 3 sees it.

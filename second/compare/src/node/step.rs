@@ -2,23 +2,14 @@
 
 use std::fmt::{self, Display, Formatter};
 
-use second::node::{Given, Record};
-use second::vectors::hex;
+use archive::{ANSWER_FIELDS, RECORD_FIELDS, TABLE_BYTES};
+use second::node::{Fresh, Given, Record};
 use second::vectors::node::Op;
+use second::vectors::{hex, in_bytes};
 
-use super::host::{ANSWER_FIELDS, MOST_TABLE, RECORD_FIELDS, ROW_BYTES, TABLE_BYTES};
+use super::host::{MOST_TABLE, ROW_BYTES};
 use super::{Host, Node};
 use crate::guarded::Guarded;
-
-/// What a fresh record is asked for with.
-#[derive(Clone)]
-pub struct Fresh {
-    pub address: [u8; 16],
-    pub port: u16,
-    pub ttl: u32,
-    pub interfaces: u64,
-    pub links: u64,
-}
 
 /// One of the three calls, or something that is done to the memory between them.
 #[derive(Clone)]
@@ -51,28 +42,11 @@ pub fn numbers_of(record: &Record) -> [u64; RECORD_FIELDS] {
     ]
 }
 
-/// The bytes of numbers as the lent table has them.
-pub fn table_bytes(numbers: &[u64]) -> Vec<u8> {
-    numbers.iter().flat_map(|n| n.to_be_bytes()).collect()
-}
-
 impl Step {
     /// The same as the step of a story.
     pub fn of(op: &Op) -> Step {
         match op {
-            Op::Fresh {
-                address,
-                port,
-                ttl,
-                count,
-                mask,
-            } => Step::Fresh(Fresh {
-                address: *address,
-                port: *port,
-                ttl: *ttl,
-                interfaces: *count,
-                links: *mask,
-            }),
+            Op::Fresh(fresh) => Step::Fresh(*fresh),
             Op::Call(given) => Step::Call(given.clone()),
             Op::Links(mask) => Step::Links(*mask),
             Op::Record(record) => Step::Record(record.address, numbers_of(record)),
@@ -83,7 +57,7 @@ impl Step {
 
     /// Other numbers in a row.
     pub fn row(row: usize, numbers: &[u64; 4]) -> Step {
-        Step::Bytes(ROW_BYTES * row, table_bytes(numbers))
+        Step::Bytes(ROW_BYTES * row, in_bytes(numbers))
     }
 
     /// Does it with the functions of this node.
@@ -122,8 +96,8 @@ impl Display for Step {
             Step::Fresh(fresh) => {
                 write!(out, "grasp_fresh, table of zeros: {}", hex(&fresh.address))?;
                 write!(out, " port {:x} ttl {:x}", fresh.port, fresh.ttl)?;
-                write!(out, " interfaces {:x}", fresh.interfaces)?;
-                write!(out, " links {:x}", fresh.links)
+                write!(out, " interfaces {:x}", fresh.count)?;
+                write!(out, " links {:x}", fresh.mask)
             }
             Step::Links(links) => write!(out, "grasp_set_links: {links:x}"),
             Step::Call(given) => {

@@ -25,7 +25,7 @@ fn outcomes(history: &History) -> Vec<(u8, u64)> {
 #[test]
 fn generated_histories_meet_every_answer() {
     let stored = second::vectors::node::stories().len();
-    let histories = Histories::new(1).skip(stored).take(SOME);
+    let histories = histories(1).skip(stored).take(SOME);
     let met: BTreeSet<(u8, u64)> = histories.flat_map(|each| outcomes(&each)).collect();
     let refusals = (1..=17).map(|number| (number, 0));
     let wanted: BTreeSet<(u8, u64)> = (1..=9).map(|number| (0, number)).chain(refusals).collect();
@@ -34,8 +34,8 @@ fn generated_histories_meet_every_answer() {
 
 #[test]
 fn demand_3_speaks_of_most_histories() {
-    let histories = Histories::new(1).take(SOME);
-    let spoken = histories.filter(|each| each.interfaces().is_some());
+    let histories = histories(1).take(SOME);
+    let spoken = histories.filter(|each| interfaces(&each.steps).is_some());
     assert!(spoken.count() > SOME / 2);
 }
 

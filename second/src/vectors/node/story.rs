@@ -1,10 +1,10 @@
 //! What a story is made of, how it is stored and what comes of it.
 
-use super::super::{counted, hex};
+use super::super::{counted, hex, in_bytes};
 use super::state::{State, MOST_NUMBERS};
 use crate::history::{Called, History};
 use crate::message::MOST_BYTES;
-use crate::node::{Answer, Given, Record};
+use crate::node::{Answer, Fresh, Given, Record};
 
 /// The most bytes of an output.
 const MOST_OUTPUT: usize = 2_100;
@@ -19,13 +19,7 @@ pub const EX1: &[u8] = b"\x81\x63EX1";
 /// A step of a story; the last three are no calls and put numbers where they are told.
 #[derive(Clone)]
 pub enum Op {
-    Fresh {
-        address: [u8; 16],
-        port: u16,
-        ttl: u32,
-        count: u64,
-        mask: u64,
-    },
+    Fresh(Fresh),
     Call(Given),
     Links(u64),
     Record(Record),
@@ -63,14 +57,15 @@ impl Story {
     }
 
     pub fn at(address: [u8; 16], port: u16, ttl: u32, count: u64, mask: u64) -> Story {
-        let fresh = Op::Fresh {
+        let fresh = Fresh {
             address,
             port,
             ttl,
             count,
             mask,
         };
-        Story { ops: vec![fresh] }
+        let ops = vec![Op::Fresh(fresh)];
+        Story { ops }
     }
 
     /// A call of the node without names.
@@ -122,30 +117,28 @@ impl Op {
     /// Its number and what it takes.
     fn stored(&self) -> Vec<u8> {
         match self {
-            Op::Fresh {
-                address,
-                port,
-                ttl,
-                count,
-                mask,
-            } => [vec![1], record(address, *port, *ttl, &[*count, *mask])].concat(),
+            Op::Fresh(fresh) => {
+                let rest = [fresh.count, fresh.mask];
+                let asked = record(&fresh.address, fresh.port, fresh.ttl, &rest);
+                [vec![1], asked].concat()
+            }
             Op::Call(given) => {
-                let start = numbers(&[given.clock, given.interface]);
+                let start = in_bytes(&[given.clock, given.interface]);
                 let contents = [counted(&given.names), counted(&given.message)];
                 assert!(given.out_len <= MOST_OUTPUT);
                 let out_len = (given.out_len as u16).to_be_bytes().to_vec();
                 [vec![2], start, contents.concat(), out_len].concat()
             }
-            Op::Links(mask) => [vec![3], numbers(&[*mask])].concat(),
+            Op::Links(mask) => [vec![3], in_bytes(&[*mask])].concat(),
             Op::Record(other) => {
                 let start = record(&other.address, other.port, other.ttl, &[]);
                 let narrow = vec![byte(other.count), byte(other.mask)];
-                let rest = numbers(&[other.clock, other.tally]);
+                let rest = in_bytes(&[other.clock, other.tally]);
                 [vec![4], start, narrow, rest].concat()
             }
             Op::Row(row, said) => {
                 assert!(4 * usize::from(*row) < MOST_NUMBERS);
-                [vec![5, *row], numbers(said)].concat()
+                [vec![5, *row], in_bytes(said)].concat()
             }
             Op::Length(length) => {
                 assert!(usize::from(*length) <= MOST_NUMBERS);
@@ -157,14 +150,8 @@ impl Op {
     /// Its line, if it is a call, and the node call for demand 3.
     fn run(&self, state: &mut State) -> (String, Option<Called>) {
         match self {
-            Op::Fresh {
-                address,
-                port,
-                ttl,
-                count,
-                mask,
-            } => {
-                let (record, number) = Record::fresh(*address, *port, *ttl, *count, *mask);
+            Op::Fresh(fresh) => {
+                let (record, number) = Record::fresh(fresh);
                 *state = State::new();
                 state.record = record;
                 let answer = if number == 0 { Ok(()) } else { Err(number) };
@@ -216,14 +203,10 @@ fn answered(answer: &Result<Answer, u8>, state: &State) -> String {
     }
 }
 
-fn numbers(numbers: &[u64]) -> Vec<u8> {
-    numbers.iter().flat_map(|n| n.to_be_bytes()).collect()
-}
-
 /// A record's address, port and ttl, then its other numbers.
 fn record(address: &[u8; 16], port: u16, ttl: u32, rest: &[u64]) -> Vec<u8> {
     let start = [&address[..], &port.to_be_bytes(), &ttl.to_be_bytes()];
-    [start.concat(), numbers(rest)].concat()
+    [start.concat(), in_bytes(rest)].concat()
 }
 
 /// The count or the mask of a record that is put: the program's type holds no greater one.

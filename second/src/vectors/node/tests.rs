@@ -83,8 +83,8 @@ fn generated_stories_meet_demand_3() {
     assert!(relays > 10_000);
 }
 
-#[test]
-fn operations_are_stored_as_said() {
+/// A story with every operation.
+fn of_all_operations() -> Story {
     let mut story = Story::at(ADDRESS, 258, 259, 3, 7);
     story.call(5, 1, b"\x81\x00");
     story.links(6);
@@ -99,6 +99,11 @@ fn operations_are_stored_as_said() {
         clock: 5,
         tally: 6,
     }));
+    story
+}
+
+#[test]
+fn operations_are_stored_as_said() {
     let number = |number: u8| [0, 0, 0, 0, 0, 0, 0, number];
     let stored = [
         &[1][..],
@@ -121,7 +126,12 @@ fn operations_are_stored_as_said() {
         &[number(5), number(6)].concat(),
     ]
     .concat();
-    assert_eq!(story.stored(), stored);
+    assert_eq!(of_all_operations().stored(), stored);
+}
+
+#[test]
+fn operations_are_answered_by_a_line() {
+    let mut story = of_all_operations();
     story.ops.push(Op::Call(given(6, 0, b"\x81\x00")));
     let lines = String::from_utf8(story.run().lines).expect("text");
     let lines: Vec<&str> = lines.lines().collect();

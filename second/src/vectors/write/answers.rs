@@ -1,11 +1,12 @@
 //! Responses that answer a Discovery.
 
-use super::Case;
+use super::{Case, Outcome};
 use crate::random::Random;
+use crate::writer::answer;
 
 /// An answer's arguments but the output's length.
 #[derive(Clone)]
-struct Asked {
+pub struct Asked {
     session: u32,
     initiator: Vec<u8>,
     ttl: u32,
@@ -29,21 +30,33 @@ fn example() -> Asked {
 
 impl Asked {
     fn within(&self, out_len: usize) -> Case {
-        let Asked {
+        let asked = self.clone();
+        Case::Answer { asked, out_len }
+    }
+
+    /// The arguments, with the initiator's length in a byte.
+    pub(super) fn stored(&self) -> Vec<u8> {
+        let length = u8::try_from(self.initiator.len()).expect("at most 255 bytes");
+        let before = [&self.session.to_be_bytes()[..], &[length], &self.initiator];
+        let after = [
+            &self.ttl.to_be_bytes()[..],
+            &self.address,
+            &self.port.to_be_bytes(),
+        ];
+        [before.concat(), after.concat()].concat()
+    }
+
+    /// What must come of it.
+    pub(super) fn outcome(&self, out_len: usize) -> Outcome {
+        let (session, initiator) = (self.session, &self.initiator);
+        answer(
             session,
             initiator,
-            ttl,
-            address,
-            port,
-        } = self.clone();
-        Case::Answer {
-            session,
-            initiator,
-            ttl,
-            address,
-            port,
+            self.ttl,
+            &self.address,
+            self.port,
             out_len,
-        }
+        )
     }
 
     /// The answer's length, from the widths of its heads.

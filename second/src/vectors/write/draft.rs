@@ -1,10 +1,10 @@
 //! Descriptions to build cases from.
 
-use super::super::counted;
 use super::super::message::term::Term;
+use super::super::{counted, in_bytes};
 use super::{output, Case, Outcome, MOST_LISTED, MOST_OUTPUT};
+use crate::block::layout::*;
 use crate::random::Random;
-use crate::writer::layout::*;
 use crate::writer::{describe, write};
 
 /// What the writer is given.
@@ -216,14 +216,13 @@ impl Draft {
     /// The fields, the list, the source and the output's length.
     pub(super) fn stored(&self) -> Vec<u8> {
         assert!(self.list.len() <= MOST_LISTED);
-        let numbers = |numbers: &[u64]| numbers.iter().flat_map(|n| n.to_be_bytes()).collect();
-        let fields: Vec<u8> = numbers(&self.fields);
+        let fields = in_bytes(&self.fields);
         let many = (self.list.len() as u16).to_be_bytes().to_vec();
         let source = counted(&self.source);
         [
             fields,
             many,
-            numbers(&self.list),
+            in_bytes(&self.list),
             source,
             output(self.out_len),
         ]

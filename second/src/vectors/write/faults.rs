@@ -5,7 +5,7 @@ use super::super::message::parts::{accept, array, decline, declined, end, invali
 use super::draft::Slot;
 use super::kinds::samples;
 use super::{Case, Draft};
-use crate::writer::layout::*;
+use crate::block::layout::*;
 
 /// Every sample with a number for its kind that is none.
 pub fn unknown_kinds() -> Vec<Case> {

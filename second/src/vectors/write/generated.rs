@@ -3,10 +3,10 @@
 use super::super::message::generated::message;
 use super::draft::Slot;
 use super::{Case, Draft, MOST_OUTPUT};
+use crate::block::layout::*;
 use crate::message::read;
 use crate::random::Random;
 use crate::vectors::damage;
-use crate::writer::layout::*;
 
 /// The most locators or pairs, mostly and at times, and the most bytes of a random message.
 const FEW: [usize; 4] = [1, 1, 1, 3];

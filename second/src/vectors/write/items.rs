@@ -6,7 +6,7 @@ use super::super::message::parts::*;
 use super::super::unhex;
 use super::draft::Slot;
 use super::{Case, Draft};
-use crate::writer::layout::*;
+use crate::block::layout::*;
 
 /// Bytes that are not one well-formed item, by each refusal of the walk.
 const NOT_ONE: &[&str] = &[

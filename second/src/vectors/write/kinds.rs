@@ -5,9 +5,9 @@ use super::super::message::parts::*;
 use super::super::message::shapes;
 use super::super::unhex;
 use super::{Case, Draft};
+use crate::block::layout::*;
 use crate::message::read;
 use crate::random::Random;
-use crate::writer::layout::*;
 
 /// A message of every kind and with every option, few enough to change each number of.
 pub fn samples() -> Vec<Draft> {

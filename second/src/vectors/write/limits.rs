@@ -4,7 +4,7 @@ use super::super::message::parts::*;
 use super::super::message::texts::{BAD, GOOD};
 use super::draft::Slot;
 use super::{Case, Draft};
-use crate::writer::layout::*;
+use crate::block::layout::*;
 
 /// Sessions, ttls and waiting times at every head width and past the limit.
 pub fn numbers() -> Vec<Case> {

@@ -4,7 +4,7 @@ use super::super::message::parts::{array, number, response, v6};
 use super::draft::Slot;
 use super::kinds::samples;
 use super::{Case, Draft, MOST_OUTPUT};
-use crate::writer::layout::*;
+use crate::block::layout::*;
 
 /// Each sample and a description near it that no message has, with outputs of these lengths.
 pub fn lengths() -> Vec<Case> {

@@ -5,8 +5,8 @@ use super::super::message::parts::*;
 use super::super::LONGEST;
 use super::draft::Slot;
 use super::{Case, Draft, MOST_OUTPUT};
+use crate::block::layout::*;
 use crate::message::MOST_BYTES;
-use crate::writer::layout::*;
 
 /// Messages with a part that may be long.
 fn drafts() -> Vec<(Draft, Slot)> {

@@ -3,7 +3,7 @@
 use super::super::message::parts::*;
 use super::draft::Slot;
 use super::{Case, Draft};
-use crate::writer::layout::*;
+use crate::block::layout::*;
 
 /// Messages with all sorts of spans.
 fn with_spans() -> Vec<Draft> {

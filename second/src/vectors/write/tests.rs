@@ -4,7 +4,7 @@ use super::super::encode::shortest_head;
 use super::super::message::parts::{array, null, number};
 use super::super::message::term::Term;
 use super::*;
-use crate::writer::layout::*;
+use crate::block::layout::*;
 use crate::writer::{describe, Description, NO_MESSAGE, SHORT_OUTPUT};
 
 /// A span's bytes, if they lie in the source; no bytes lie anywhere.
@@ -152,8 +152,9 @@ fn demanded(draft: &Draft) -> Result<Vec<u8>, u8> {
 #[test]
 fn descriptions_read_back() {
     let (mut written, mut refused, mut short) = (0, 0, 0);
-    for (place, (draft, outcome)) in writes().into_iter().enumerate() {
-        assert_eq!(outcome, demanded(&draft), "description {place}");
+    for (place, draft) in drafts().iter().enumerate() {
+        let outcome = draft.outcome();
+        assert_eq!(outcome, demanded(draft), "description {place}");
         match outcome {
             Ok(_) => written += 1,
             Err(NO_MESSAGE) => refused += 1,

@@ -1,78 +1,14 @@
-//! The proved library, as include/grasp.h has it. All unsafe code is here.
+//! What the proved library answers, through the archive for C. All unsafe code is here.
 
-use second::node::{Given, BAD_RECORD};
+use archive::*;
+use second::block::layout::{LIST, LIST_AT, LIST_MANY, PAIRS};
+use second::node::{Fresh, Given, BAD_RECORD};
 use second::vectors::write::Draft;
-
-use second::writer::layout::{LIST, LIST_AT, LIST_MANY};
 
 use crate::answer::{untouched, Answer, Description, LocatorAnswer, PairAnswer, ReadAnswer};
 use crate::guarded::Guarded;
-use crate::node::{Fresh, Host, Node};
+use crate::node::{Host, Node};
 use crate::writing::Written;
-
-extern "C" {
-    fn grasp_read(bytes: *const u8, len: usize, fields: *mut u64) -> u8;
-    fn grasp_locator(bytes: *const u8, len: usize, at: usize, fields: *mut u64) -> usize;
-    fn grasp_pair(bytes: *const u8, len: usize, at: usize, fields: *mut u64) -> usize;
-    fn grasp_write(
-        source: *const u8,
-        len: usize,
-        list: *const u64,
-        numbers: usize,
-        fields: *const u64,
-        out: *mut u8,
-        size: usize,
-        length: *mut u64,
-    ) -> u8;
-    fn grasp_fresh(
-        address: *const u8,
-        port: u16,
-        ttl: u32,
-        interfaces: u64,
-        links: u64,
-        numbers: *mut u64,
-    ) -> u8;
-    fn grasp_set_links(address: *const u8, numbers: *mut u64, links: u64) -> u8;
-    fn grasp_node_call(
-        address: *const u8,
-        numbers: *mut u64,
-        table: *mut u8,
-        table_len: usize,
-        clock: u64,
-        interface: u64,
-        names: *const u8,
-        names_len: usize,
-        message: *const u8,
-        len: usize,
-        out: *mut u8,
-        size: usize,
-        answer: *mut u64,
-    ) -> u8;
-    fn grasp_record_fresh(
-        node: *mut Record,
-        address: *const u8,
-        port: u16,
-        ttl: u32,
-        interfaces: u64,
-        links: u64,
-    ) -> u8;
-    fn grasp_record_set_links(node: *mut Record, links: u64) -> u8;
-    fn grasp_record_call(
-        node: *mut Record,
-        table: *mut u8,
-        table_len: usize,
-        clock: u64,
-        interface: u64,
-        names: *const u8,
-        names_len: usize,
-        message: *const u8,
-        len: usize,
-        out: *mut u8,
-        size: usize,
-        answer: *mut u64,
-    ) -> u8;
-    fn grasp_step(state: *mut u64, bytes: *const u8, len: usize, side: u64) -> u8;
-}
 
 /// What grasp_read answers.
 fn read(bytes: &[u8]) -> ReadAnswer {
@@ -109,7 +45,7 @@ pub fn description(bytes: &[u8]) -> Description {
         let mut at = read.field(LIST_AT) as usize;
         // An element takes more than a byte, so a false number of them is still seen.
         for _ in 0..read.field(LIST_MANY).min(bytes.len() as u64) {
-            if read.field(LIST) == 3 {
+            if read.field(LIST) == PAIRS {
                 pairs.push(pair(bytes, at));
                 at = pairs[pairs.len() - 1].number;
             } else {
@@ -126,9 +62,9 @@ pub fn description(bytes: &[u8]) -> Description {
 }
 
 /// The library's node with the record as its address and six numbers.
-pub struct Archive;
+pub struct OverNumbers;
 
-impl Node for Archive {
+impl Node for OverNumbers {
     fn fresh(host: &mut Host, fresh: &Fresh) -> u8 {
         let numbers = host.numbers.content_mut().as_mut_ptr();
         // SAFETY: the address has 16 bytes and the record six numbers.
@@ -137,8 +73,8 @@ impl Node for Archive {
                 host.address.as_ptr(),
                 fresh.port,
                 fresh.ttl,
-                fresh.interfaces,
-                fresh.links,
+                fresh.count,
+                fresh.mask,
                 numbers,
             )
         }
@@ -200,51 +136,36 @@ fn lend(host: &mut Host, given: &Given, call: impl FnOnce(Lent) -> u8) -> u8 {
     })
 }
 
-/// A node's record as C has it.
-#[repr(C)]
-#[derive(Clone, Copy, Default, PartialEq, Eq)]
-struct Record {
-    address: [u8; 16],
-    port: u16,
-    ttl: u32,
-    interfaces: u8,
-    links: u8,
-    clock: u64,
-    tally: u64,
+/// The host's record as C has it; numbers that are too wide are in none.
+fn record_of(host: &Host) -> Option<Record> {
+    let &[port, ttl, interfaces, links, clock, tally] = host.numbers.content() else {
+        return None;
+    };
+    Some(Record {
+        address: host.address,
+        port: u16::try_from(port).ok()?,
+        ttl: u32::try_from(ttl).ok()?,
+        interfaces: u8::try_from(interfaces).ok()?,
+        links: u8::try_from(links).ok()?,
+        clock,
+        tally,
+    })
 }
 
-impl Record {
-    /// The host's; numbers that are too wide are in none.
-    fn of(host: &Host) -> Option<Record> {
-        let &[port, ttl, interfaces, links, clock, tally] = host.numbers.content() else {
-            return None;
-        };
-        Some(Record {
-            address: host.address,
-            port: u16::try_from(port).ok()?,
-            ttl: u32::try_from(ttl).ok()?,
-            interfaces: u8::try_from(interfaces).ok()?,
-            links: u8::try_from(links).ok()?,
-            clock,
-            tally,
-        })
+/// Gives the host what a call has made of the record that was.
+fn keep(host: &mut Host, was: Record, node: Record) {
+    if node == was {
+        return;
     }
-
-    /// Gives the host what a call has made of the record that was.
-    fn put(self, was: Record, host: &mut Host) {
-        if self == was {
-            return;
-        }
-        host.address = self.address;
-        host.numbers.put(&[
-            u64::from(self.port),
-            u64::from(self.ttl),
-            u64::from(self.interfaces),
-            u64::from(self.links),
-            self.clock,
-            self.tally,
-        ]);
-    }
+    host.address = node.address;
+    host.numbers.put(&[
+        u64::from(node.port),
+        u64::from(node.ttl),
+        u64::from(node.interfaces),
+        u64::from(node.links),
+        node.clock,
+        node.tally,
+    ]);
 }
 
 /// The library's node with the record changed in place.
@@ -255,7 +176,7 @@ impl Node for InPlace {
         // A record with another address, so that the new one is seen.
         let was = Record {
             address: fresh.address.map(|byte| !byte),
-            ..Record::of(host).unwrap_or_default()
+            ..record_of(host).unwrap_or_default()
         };
         let mut node = was;
         // SAFETY: the record is as C has it, and the address has 16 bytes.
@@ -265,27 +186,27 @@ impl Node for InPlace {
                 fresh.address.as_ptr(),
                 fresh.port,
                 fresh.ttl,
-                fresh.interfaces,
-                fresh.links,
+                fresh.count,
+                fresh.mask,
             )
         };
-        node.put(was, host);
+        keep(host, was, node);
         number
     }
 
     fn set_links(host: &mut Host, links: u64) -> u8 {
-        let Some(was) = Record::of(host) else {
+        let Some(was) = record_of(host) else {
             return BAD_RECORD;
         };
         let mut node = was;
         // SAFETY: as above.
         let number = unsafe { grasp_record_set_links(&mut node, links) };
-        node.put(was, host);
+        keep(host, was, node);
         number
     }
 
     fn call(host: &mut Host, given: &Given) -> u8 {
-        let Some(was) = Record::of(host) else {
+        let Some(was) = record_of(host) else {
             return BAD_RECORD;
         };
         let mut node = was;
@@ -308,7 +229,7 @@ impl Node for InPlace {
                 )
             }
         });
-        node.put(was, host);
+        keep(host, was, node);
         number
     }
 }
