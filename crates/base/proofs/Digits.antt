@@ -33,7 +33,11 @@ unfolding bigEndian bytesOf
 read-back zero v rest h = omega arith
 read-back (suc n) v rest h =
     let e : 8 * suc n ≡ 8 * n + 8 = omega arith in
-    rw (append-assoc, read-back n (v / 256) (v % 256 ∷ rest) (shr-lt (8 * n) 8 (rw e at h)), getD-at (bytesOf n (v / 256)) (v % 256) rest 0 n (length-bytes n (v / 256)))
+    rw (
+      append-assoc,
+      read-back n (v / 256) (v % 256 ∷ rest) (shr-lt (8 * n) 8 (rw e at h)),
+      getD-at (bytesOf n (v / 256)) (v % 256) rest 0 n (length-bytes n (v / 256)),
+    )
     (div-add-mod' v 256)
 
 -- bytes are those of the number that they are read as

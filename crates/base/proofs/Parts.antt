@@ -25,7 +25,8 @@ bytes-drop n s b i = rw (getD-drop n s i 0) (b (n + i))
 
 pub bytes-take : (n : ℕ) (s : List ℕ) → Bytes s → Bytes (take n s)
 bytes-take n s b i =
-    elim (decLt i n) [ yes h ↦ rw (getD-take n s i 0 h) (b i) | no h ↦ rw (List·getD-eq-default (take n s) 0 {n = i} (simp length-take (omega arith))) (lit< tt) ]
+    elim (decLt i
+    n) [ yes h ↦ rw (getD-take n s i 0 h) (b i) | no h ↦ rw (List·getD-eq-default (take n s) 0 {n = i} (simp length-take (omega arith))) (lit< tt) ]
 
 -- two lists stored one after the other
 pub sets-append : (l : List ℕ) (at : ℕ) (a b : List ℕ) → sets (sets l at a) (at + length a) b ≡ sets l at (a ++ b)

@@ -15,7 +15,8 @@ pub both {ℓ κ} : {A : Type ℓ} (P : A → Type κ) (t : Bool) {x y : A} → 
 both P t p q = pick-case P t (λ _. p) (λ _. q)
 
 -- what relates both pairs of choices by one test, each where its test holds
-pub one-test-case : {A B : Type 0} (R : A → B → Type 0) (t : Bool) {x y : A} {x′ y′ : B} → (t ≡ true → R x x′) → (t ≡ false → R y y′) → R (pick t x y) (pick t x′ y′)
+pub one-test-case : {A B : Type 0} (R : A → B → Type 0) (t : Bool) {x y : A} {x′ y′ : B} → (t ≡ true → R x x′) → (t ≡ false → R y y′)
+    → R (pick t x y) (pick t x′ y′)
 unfolding pick
 one-test-case R true f g = f refl
 one-test-case R false f g = g refl

@@ -12,7 +12,8 @@ use Rattle.base.specs.Lists.{Every, Distinct}
 use Rattle.base.proofs.Lists.{every-and, every-imp}
 
 -- all but at most one of the list, none of which is m
-without : (P : ℕ → Type 0) (m : ℕ) (l : List ℕ) → Distinct l → Every P l → (rest : List ℕ) × Distinct rest × Every (λ y. P y × (y ≢ m)) rest × (length l ≤ suc (length rest))
+without : (P : ℕ → Type 0) (m : ℕ) (l : List ℕ) → Distinct l → Every P l
+    → (rest : List ℕ) × Distinct rest × Every (λ y. P y × (y ≢ m)) rest × (length l ≤ suc (length rest))
 without P m [] d h = ([], tt, tt, zero-le)
 without P m (x ∷ xs) d h =
     let other : Every (λ y. P y × (x ≢ y)) xs = every-and P (λ y. x ≢ y) xs (h .1) (d .0) in

@@ -1,4 +1,5 @@
--- `Pick`: the choice by a test. `BigEndian`: numbers spelled in bytes. `Bits`: masks. `Lists`: what holds of each element, and of each two. `Bytes`: bytes compared.
+-- `Pick`: the choice by a test. `BigEndian`: numbers spelled in bytes. `Bits`: masks. `Lists`: what holds of each
+-- element, and of each two. `Bytes`: bytes compared.
 pub mod Pick
 pub mod BigEndian
 pub mod Bits

@@ -1,4 +1,5 @@
--- The walk passes every encoding: where so many levels may open, an item of no more levels is passed, whatever follows it.
+-- The walk passes every encoding: where so many levels may open, an item of no more levels is passed, whatever follows
+-- it.
 -- Assumes nothing.
 use mathlib.Core.Path.{_≡_, refl, sym, ap, _∙_}
 use mathlib.Core.List.{List, [], _∷_, _++_, append-assoc}
@@ -23,11 +24,13 @@ use Rattle.cbor.proofs.Runs.{runs, runs-end, runs-close, runs-step}
 module _ (most : ℕ) where
   -- one step, by the bytes h that its head begins and what the step makes of the head
   module _ (at n : ℕ) (h t st : List ℕ) (major arg len : ℕ) (is : headAt (h ++ t) ≡ HeadRead.Head major arg len) where
-    step : (x : Step) → stepOf (most - length st) (length (h ++ t)) major arg len ≡ x → runs most at (h ++ t) (suc n ∷ st) ≡ next (runs most) at (h ++ t) (n ∷ st) x
+    step : (x : Step) → stepOf (most - length st) (length (h ++ t)) major arg len ≡ x
+        → runs most at (h ++ t) (suc n ∷ st) ≡ next (runs most) at (h ++ t) (n ∷ st) x
     unfolding stepAt stepFrom
     step x e = runs-step most at n (h ++ t) st ∙ rw (is, e)
 
-    leaf : stepOf (most - length st) (length (h ++ t)) major arg len ≡ Step.Passed (length h) → runs most at (h ++ t) (suc n ∷ st) ≡ runs most (at + length h) t (n ∷ st)
+    leaf : stepOf (most - length st) (length (h ++ t)) major arg len ≡ Step.Passed (length h)
+        → runs most at (h ++ t) (suc n ∷ st) ≡ runs most (at + length h) t (n ∷ st)
     unfolding next
     leaf e = step (Step.Passed (length h)) e ∙ rw (drop-append-seam h t)
 
@@ -38,7 +41,8 @@ module _ (most : ℕ) where
 
   -- a string: its bytes are passed with its head
   text : (at k major width : ℕ) (bs r st : List ℕ) → 2 ≤ major → major < 4 → Right major width (length bs)
-      → runs most at ((headBytes major width (length bs) ++ bs) ++ r) (suc k ∷ st) ≡ runs most (at + length (headBytes major width (length bs) ++ bs)) r (k ∷ st)
+      → runs most at ((headBytes major width (length bs) ++ bs) ++ r) (suc k ∷ st)
+      ≡ runs most (at + length (headBytes major width (length bs) ++ bs)) r (k ∷ st)
   unfolding stepOf pick
   text at k major width bs r st lo hi right =
       let h = headBytes major width (length bs) in
@@ -88,7 +92,8 @@ module _ (most : ℕ) where
         rw (append-assoc, length-append, ← add-assoc, suc-add)
         (pass x at (count xs + m) (encodes xs ++ r) st (g .0) (omega arith) ∙ passes xs m (at + length (encode x)) r st (g .1) (omega arith))
 
-pub item-accepts : (levels : ℕ) (x : Item) (rest : List ℕ) → Good x → depth x ≤ leftUnder levels → firstItem levels (encode x ++ rest) ≡ ItemRead.Ends (length (encode x))
+pub item-accepts : (levels : ℕ) (x : Item) (rest : List ℕ) → Good x → depth x ≤ leftUnder levels
+    → firstItem levels (encode x ++ rest) ≡ ItemRead.Ends (length (encode x))
 unfolding firstItem
 item-accepts levels x rest g d =
     let most = leftUnder levels in

@@ -1,5 +1,5 @@
--- What the definitions of `specs/` give at most: a head, and a head with its string, is at least one byte and lies within the bytes, and
--- a level opens only where one may.
+-- What the definitions of `specs/` give at most: a head, and a head with its string, is at least one byte and lies
+-- within the bytes, and a level opens only where one may.
 -- Assumes nothing.
 use mathlib.Core.List.{List, [], _∷_}
 use Prim.Native.Nat.{ℕ, _-_, _≤_}

@@ -25,7 +25,8 @@ use Rattle.cbor.proofs.HeadExact.{head-read}
 -- a head of one byte
 headed : (first major arg : ℕ) (s : List ℕ) → arg < 24 → first ≡ major * 32 + arg → headAt (first ∷ s) ≡ HeadRead.Head major arg 1
 unfolding headBytes infoOf bytesOf leastOf pick
-headed first major arg s low e = rw e (head-read major 0 arg s (record { sized = Sized.in-first low; simple = λ _ w. absurd (omega arith); short = λ _. zero-le }))
+headed first major arg s low e =
+    rw e (head-read major 0 arg s (record { sized = Sized.in-first low; simple = λ _ w. absurd (omega arith); short = λ _. zero-le }))
 
 -- a number other than 0 stands in the list
 there : (s : List ℕ) (at : ℕ) → 1 ≤ getD s at 0 → at < length s
@@ -115,8 +116,14 @@ module _ (s : List ℕ) (at : ℕ) where
     unfolding stepAt stepFrom stepOf pick
     string-passed lo hi low room =
         let first = getD s at 0 in
-        rw
-        (one-byte (there s at (omega arith)) low, length-drop at s, ne-eqb (first / 32) 7 (λ e. omega arith), lt-leb 4 (first / 32) (omega arith), le-leb 2 (first / 32) (omega arith), le-leb (first % 32) (length s - at - 1) room)
+        rw (
+          one-byte (there s at (omega arith)) low,
+          length-drop at s,
+          ne-eqb (first / 32) 7 (λ e. omega arith),
+          lt-leb 4 (first / 32) (omega arith),
+          le-leb 2 (first / 32) (omega arith),
+          le-leb (first % 32) (length s - at - 1) room,
+        )
 
     pub array-opened : 128 ≤ getD s at 0 → getD s at 0 < 152 → left ≢ 0 → stepAt left (drop at s) ≡ Step.Opened 1 (getD s at 0 - 128) false
     unfolding stepAt stepFrom stepOf opens pick

@@ -1,5 +1,5 @@
--- What the walk has passed before its answer: `parse`, whole items and then the end, or the first fault. So it accepts nothing but encodings: `item-exact`,
--- where it answers `Ends e`, the first e bytes are the encoding of an item.
+-- What the walk has passed before its answer: `parse`, whole items and then the end, or the first fault. So it accepts
+-- nothing but encodings: `item-exact`, where it answers `Ends e`, the first e bytes are the encoding of an item.
 -- Assumes nothing.
 use mathlib.Core.Path.{_≡_, refl, sym, ap, _∙_, subst}
 use mathlib.Core.Logic.{_⊎_, inl, inr}
@@ -135,7 +135,8 @@ module _ (most : ℕ) (x : ItemRead) where
   -- s goes as the stack says up to the end, or up to the first fault, at p
   abbrev pub Goes : List ℕ → List ℕ → ℕ → Type 0
   Goes [] s p = Ended x p
-  Goes (n ∷ stack) s p = Level (Goes stack) n (most - length stack) s p ⊎ ((k : ℕ) × (k < n) × Level (Failed x (most - length stack)) k (most - length stack) s p)
+  Goes (n ∷ stack) s p =
+      Level (Goes stack) n (most - length stack) s p ⊎ ((k : ℕ) × (k < n) × Level (Failed x (most - length stack)) k (most - length stack) s p)
 
   -- a fault here
   fault-here : (n : ℕ) (s stack : List ℕ) (p : ℕ) → Failed x (most - length stack) s p → Goes (suc n ∷ stack) s p
@@ -176,8 +177,11 @@ module _ (most : ℕ) (x : ItemRead) where
             after-item (node .item) n s (l .rest) stack (l .after) (node .good) (omega (arith, node .deeper, l .shallow)) split (l .below),
           )
       opened p sum (inr (j, lt, l)) =
-          let e : most - length (n ∷ stack) ≡ most - length stack - 1 = omega arith in
-          (len + p, omega arith, fault-here n s stack (len + p) (around x (most - length stack) s len (itemsOf k pairs) j p (ok .0 .1) (ok .1) is lt (rw e at l)))
+          let e : most - length (n ∷ stack) ≡ most - length stack - 1 = omega arith in (
+            len + p,
+            omega arith,
+            fault-here n s stack (len + p) (around x (most - length stack) s len (itemsOf k pairs) j p (ok .0 .1) (ok .1) is lt (rw e at l)),
+          )
 
   pub parse : (f at : ℕ) (s stack : List ℕ) → Bytes s → enough s stack ≤ f → run most f at s stack ≡ x
       → (p : ℕ) × (endOf x ≡ at + p) × Goes stack s p
@@ -194,7 +198,8 @@ module _ (most : ℕ) (x : ItemRead) where
       (stepAt (most - length stack) s) (step-ok _ s) (step-is _ s b) q
 
 -- one item alone
-only : (left : ℕ) (s rest : List ℕ) (e : ℕ) (xs : Items) → Goods xs → count xs ≡ 1 → depths xs ≤ left → s ≡ encodes xs ++ rest → e ≡ length (encodes xs) → ItemIs left s e
+only : (left : ℕ) (s rest : List ℕ) (e : ℕ) (xs : Items) → Goods xs → count xs ≡ 1 → depths xs ≤ left → s ≡ encodes xs ++ rest → e ≡ length (encodes xs)
+    → ItemIs left s e
 unfolding encode depth count
 only left s rest e Items.done g c d is sum = absurd (omega arith)
 only left s rest e (Items.more x Items.done) g c d is sum =

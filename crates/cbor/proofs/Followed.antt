@@ -53,7 +53,8 @@ head-stays (first ∷ s) t = both By (eqb (first % 32) 31) (lit≤ tt, lit≤ tt
         (λ e.
         let within = ltb-false (length s) width e in
         rw (le-ltb (length (s ++ t)) width (omega (arith, length-append s t)), big-endian-stays width s t within)
-        (judged-case (λ x. HeadStays x x) major (argOf first width s) width (λ _ _ _. (lit≤ tt, lit≤ tt, λ _. refl)) (λ _ _. (lit≤ tt, lit≤ tt, λ _. refl)) (λ _ _. refl)))
+        (judged-case (λ x. HeadStays x x) major (argOf first width s) width (λ _ _ _. (lit≤ tt, lit≤ tt, λ _. refl))
+        (λ _ _. (lit≤ tt, lit≤ tt, λ _. refl)) (λ _ _. refl)))
 
 -- ---- steps
 abbrev StepStays : Step → Step → Type 0
@@ -65,10 +66,12 @@ step-of-stays : (left room room′ major arg len : ℕ) → room ≤ room′ →
 unfolding stepOf opens pick
 step-of-stays left room room′ major arg len more =
     one-test StepStays (eqb major 7) refl
-    (one-test StepStays (leb 4 major) (one-test StepStays (eqb left 0) (lit≤ tt, lit≤ tt, λ _. refl) (one-test StepStays (eqb major 4) refl (one-test StepStays (eqb major 5) refl refl)))
+    (one-test StepStays (leb 4 major)
+    (one-test StepStays (eqb left 0) (lit≤ tt, lit≤ tt, λ _. refl) (one-test StepStays (eqb major 4) refl (one-test StepStays (eqb major 5) refl refl)))
     (one-test StepStays (leb 2 major) string refl))
   where
-    string : StepStays (pick (leb arg (room - len)) (Step.Passed (len + arg)) (Step.Refused 2 room)) (pick (leb arg (room′ - len)) (Step.Passed (len + arg)) (Step.Refused 2 room′))
+    string : StepStays (pick (leb arg (room - len)) (Step.Passed (len + arg)) (Step.Refused 2 room))
+        (pick (leb arg (room′ - len)) (Step.Passed (len + arg)) (Step.Refused 2 room′))
     string =
         pick-case (λ x. StepStays x (pick (leb arg (room′ - len)) (Step.Passed (len + arg)) (Step.Refused 2 room′))) (leb arg (room - len))
         (λ e. rw (le-leb arg (room′ - len) (omega (arith, leb-true arg (room - len) e))) refl)
@@ -89,7 +92,8 @@ Stays (ItemRead.Ends e) y = y ≡ ItemRead.Ends e
 
 module _ (most : ℕ) (t : List ℕ) where
   stepped : (f g at left : ℕ) (s stack : List ℕ)
-      → ((len : ℕ) (new : List ℕ) → 1 ≤ len → len ≤ length s → length new ≤ 1 → Stays (run most f (at + len) (drop len s) (new ++ stack)) (run most g (at + len) (drop len s ++ t) (new ++ stack)))
+      → ((len : ℕ) (new : List ℕ) → 1 ≤ len → len ≤ length s → length new ≤ 1
+      → Stays (run most f (at + len) (drop len s) (new ++ stack)) (run most g (at + len) (drop len s ++ t) (new ++ stack)))
       → (x y : Step) → StepOk left (length s) x → StepStays x y → Stays (next (run most f) at s stack x) (next (run most g) at (s ++ t) stack y)
   unfolding next
   stepped f g at left s stack rec (Step.Refused number place) y ok h = (h .0, h .1, λ other. ap (next (run most g) at (s ++ t) stack) (h .2 other))

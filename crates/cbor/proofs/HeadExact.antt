@@ -1,4 +1,5 @@
--- Heads read and written (RFC 8949, section 3): `head-read`, a written head is read back, and `head-exactly`, which heads are read of bytes.
+-- Heads read and written (RFC 8949, section 3): `head-read`, a written head is read back, and `head-exactly`, which
+-- heads are read of bytes.
 -- Assumes nothing.
 use mathlib.Core.Path.{_≡_, refl, sym, ap, _∙_, subst}
 use mathlib.Core.Logic.{_↔_}
@@ -134,14 +135,19 @@ record Info (first : ℕ) (s : List ℕ) (width : ℕ) : Type 0 where
   digits : bytesOf width (argOf first width s) ≡ take width s
   sized : Sized width (argOf first width s)
 
-info-is : (first : ℕ) (s : List ℕ) → first % 32 < 28 → FirstBytes (widthOf (first % 32)) s → widthOf (first % 32) ≤ length s → Info first s (widthOf (first % 32))
+info-is : (first : ℕ) (s : List ℕ) → first % 32 < 28 → FirstBytes (widthOf (first % 32)) s → widthOf (first % 32) ≤ length s
+    → Info first s (widthOf (first % 32))
 unfolding widthOf infoOf argOf bytesOf pick
 info-is first s lt =
     pick-case P (ltb info 24) (λ e b h. record { same = refl; digits = refl; sized = Sized.in-first (ltb-true info 24 e) })
     (λ e₀. pick-case P (eqb info 24) (λ e b h. record { same = sym (eqb-true info 24 e); digits = spelled 1 s b h; sized = Sized.one (big-endian-lt 1 s b) })
     (λ e₁. pick-case P (eqb info 25) (λ e b h. record { same = sym (eqb-true info 25 e); digits = spelled 2 s b h; sized = Sized.two (big-endian-lt 2 s b) })
     (λ e₂. pick-case P (eqb info 26) (λ e b h. record { same = sym (eqb-true info 26 e); digits = spelled 4 s b h; sized = Sized.four (big-endian-lt 4 s b) })
-    (λ e₄ b h. record { same = omega (arith, ltb-false info 24 e₀, eqb-false info 24 e₁, eqb-false info 25 e₂, eqb-false info 26 e₄); digits = spelled 8 s b h; sized = Sized.eight (big-endian-lt 8 s b) }))))
+    (λ e₄ b h. record {
+      same = omega (arith, ltb-false info 24 e₀, eqb-false info 24 e₁, eqb-false info 25 e₂, eqb-false info 26 e₄);
+      digits = spelled 8 s b h;
+      sized = Sized.eight (big-endian-lt 8 s b);
+    }))))
   where
     info : ℕ
     info = first % 32
@@ -162,7 +168,8 @@ pub whole : (first : ℕ) (s : List ℕ) → Bytes (first ∷ s) → first % 32 
 whole first s b = headed first s (omega (arith, b 0)) (λ i _. b (suc i))
 
 -- one without fault is one that is written
-faultless : {s : List ℕ} {major arg width : ℕ} → Whole s major arg width → ((major ≡ 7) → width ≡ 1 → 32 ≤ arg) → ((major ≡ 7 → ⊥) → leastOf width ≤ arg) → HeadIs s major arg (1 + width)
+faultless : {s : List ℕ} {major arg width : ℕ} → Whole s major arg width → ((major ≡ 7) → width ≡ 1 → 32 ≤ arg) → ((major ≡ 7 → ⊥) → leastOf width ≤ arg)
+    → HeadIs s major arg (1 + width)
 faultless {width = width} w simple short =
     record { width = width; kind = w .kind; right = record { sized = w .sized; simple = simple; short = short }; bytes = w .bytes; within = w .within }
 

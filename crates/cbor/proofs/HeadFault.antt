@@ -1,4 +1,5 @@
--- A head is refused exactly where it is at fault (RFC 8949, section 3): `head-fault`, a refusal names the fault, and, for each fault, that it is refused.
+-- A head is refused exactly where it is at fault (RFC 8949, section 3): `head-fault`, a refusal names the fault, and,
+-- for each fault, that it is refused.
 -- Assumes nothing.
 use mathlib.Core.Path.{_≡_, refl, sym, ap, _∙_, subst}
 use mathlib.Core.List.{List, [], _∷_, _++_}
@@ -79,7 +80,8 @@ pub low-simple-refused : {s : List ℕ} (value : ℕ) (rest : List ℕ) → s �
 unfolding judged placeOf pick
 low-simple-refused value rest e low = ap headAt e ∙ written 7 1 value rest (Sized.one (omega arith)) ∙ rw (lt-ltb value 32 low)
 
-pub long-refused : {s : List ℕ} (major width arg : ℕ) (rest : List ℕ) → s ≡ headBytes major width arg ++ rest → major < 7 → Sized width arg → arg < leastOf width
+pub long-refused : {s : List ℕ} (major width arg : ℕ) (rest : List ℕ) → s ≡ headBytes major width arg ++ rest → major < 7 → Sized width arg
+    → arg < leastOf width
     → headAt s ≡ HeadRead.Refused 5 (placeOf 5 0 (length s))
 unfolding judged placeOf pick
 long-refused major width arg rest e m sized low =

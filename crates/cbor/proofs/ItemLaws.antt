@@ -17,7 +17,8 @@ use Rattle.cbor.proofs.Refuses.{refusal-sound, refusal-complete}
 
 -- for readers
 
--- An item is accepted exactly if the bytes up to its end are the encoding of one without fault, of no more levels than may open.
+-- An item is accepted exactly if the bytes up to its end are the encoding of one without fault, of no more levels than
+-- may open.
 pub accepted-exactly : (levels : ℕ) (s : List ℕ) (e : ℕ) → Bytes s → firstItem levels s ≡ ItemRead.Ends e ↔ ItemIs (leftUnder levels) s e
 accepted-exactly levels s e b = (item-exact levels s e b, item-found levels s e)
 
@@ -29,7 +30,8 @@ accepted-once i j = unique (i .item) (j .item) [] [] (i .good) (j .good) (ap (λ
 pub accepted-followed : (levels : ℕ) (s t : List ℕ) (e : ℕ) → firstItem levels s ≡ ItemRead.Ends e → firstItem levels (s ++ t) ≡ ItemRead.Ends e
 accepted-followed levels s t e q = subst (λ (x : ItemRead). Stays x (firstItem levels (s ++ t))) q (item-stays levels s t)
 
--- A refusal is given exactly where an unfinished item, all of whose heads are good, is followed by a head at fault: the leftmost.
+-- A refusal is given exactly where an unfinished item, all of whose heads are good, is followed by a head at fault: the
+-- leftmost.
 pub refused-exactly : (levels : ℕ) (s : List ℕ) (number place : ℕ) → Bytes s
     → firstItem levels s ≡ ItemRead.Refused number place ↔ FirstFault (leftUnder levels) s number place
 refused-exactly levels s number place b = (refusal-sound levels s number place b, refusal-complete levels s number place)

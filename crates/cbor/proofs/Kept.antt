@@ -27,7 +27,8 @@ HeadKept size (HeadRead.Head major arg len) y = len ≤ size → y ≡ HeadRead.
 
 -- by the width that its first byte gives
 judged-kept : (size major arg width : ℕ) (y : HeadRead) → (1 + width ≤ size → y ≡ judged major arg width) → HeadKept size (judged major arg width) y
-judged-kept size major arg width y = judged-case (λ z. (1 + width ≤ size → y ≡ z) → HeadKept size z y) major arg width (λ _ _ _ _. tt) (λ _ _ _. tt) (λ _ _ same. same)
+judged-kept size major arg width y =
+    judged-case (λ z. (1 + width ≤ size → y ≡ z) → HeadKept size z y) major arg width (λ _ _ _ _. tt) (λ _ _ _. tt) (λ _ _ same. same)
 
 head-by-kept : (first : ℕ) (x v w : List ℕ) (i : Initial) → HeadKept (suc (length x)) (headBy first (x ++ v) i) (headBy first (x ++ w) i)
 unfolding headBy headFrom argOf pick
@@ -60,7 +61,13 @@ module _ (u v w : List ℕ) (p : ℕ) where
       pick-case Kept (ltb 1 major)
       (λ e. pick-case Kept (ltb major 4)
       (λ f. pick-case Kept (leb arg (length (drop p u ++ v) - len))
-      (λ _ _ few. rw (front (omega arith), same (omega (arith, size)), e, f, le-leb arg (length (drop p u ++ w) - len) (omega (arith, size, length-append (drop p u) w))))
+      (λ _ _ few. rw (
+        front (omega arith),
+        same (omega (arith, size)),
+        e,
+        f,
+        le-leb arg (length (drop p u ++ w) - len) (omega (arith, size, length-append (drop p u) w)),
+      ))
       (λ _ high. absurd (omega arith)))
       (λ f _ few. rw (front (omega arith), same (omega (arith, size)), e, f)))
       (λ e _ few. rw (front (omega arith), same (omega (arith, size)), e))

@@ -1,7 +1,8 @@
 -- For readers: `ItemLaws`, the first whole item held against the standard; `PutExact`, heads written.
 pub mod ItemLaws
 pub mod PutExact
--- For callers' proofs: heads read and written, bytes stored, items accepted, refused and passed over, tokens, their bounds, and where they stay as they were.
+-- For callers' proofs: heads read and written, bytes stored, items accepted, refused and passed over, tokens, their
+-- bounds, and where they stay as they were.
 pub mod HeadExact
 pub mod HeadFault
 pub mod Accepts

@@ -1,5 +1,5 @@
--- The walk passes over items: over a token that opens nothing, over an array by its items, over any item whose size is read; and where it passes over one
--- from the start, it ends there. No fact on the elements is asked.
+-- The walk passes over items: over a token that opens nothing, over an array by its items, over any item whose size is
+-- read; and where it passes over one from the start, it ends there. No fact on the elements is asked.
 -- Assumes nothing.
 use mathlib.Core.Path.{_≡_, refl, sym, _∙_, subst}
 use mathlib.Core.Logic.{_⊎_, inl, inr}
@@ -24,7 +24,8 @@ use Rattle.cbor.specs.Token.{nothingAt, tokenOf, tokenFrom, tokenAt, siz
 use Rattle.cbor.proofs.Runs.{runs, runs-end, runs-close, runs-step}
 use Rattle.cbor.proofs.Tokens.{token-has}
 
--- the walk passes over n items, from p to e of s, wherever s stands and whatever is open around them, where so many levels may open
+-- the walk passes over n items, from p to e of s, wherever s stands and whatever is open around them, where so many
+-- levels may open
 pub record Passes (left n : ℕ) (s : List ℕ) (p e : ℕ) : Type 0 where
   pub walk : (most from k : ℕ) (stack : List ℕ) → most ≡ left + length stack
       → runs most (from + p) (drop p s) ((n + k) ∷ stack) ≡ runs most (from + e) (drop e s) (k ∷ stack)
@@ -41,7 +42,9 @@ passes-then {n = n} {n′} h h′ =
 -- what is passed in a part is passed in the whole
 pub passes-within : {left n : ℕ} {s : List ℕ} {p e : ℕ} → Passes left n (drop p s) 0 e → Passes left n s p (p + e)
 passes-within {s = s} {p} {e} h =
-    record { walk = λ most from k stack levels. rw (← add-assoc from p e, ← drop-drop e p s) (rw (add-zero (from + p)) at (h .walk most (from + p) k stack levels)) }
+    record {
+      walk = λ most from k stack levels. rw (← add-assoc from p e, ← drop-drop e p s) (rw (add-zero (from + p)) at (h .walk most (from + p) k stack levels));
+    }
 
 -- ---- a step
 module _ (left : ℕ) (s : List ℕ) (p : ℕ) where
@@ -60,14 +63,16 @@ module _ (left : ℕ) (s : List ℕ) (p : ℕ) where
       record { walk = λ most from k stack levels. rw (← add-assoc from p len, ← drop-drop len p s) (after most from k stack (Step.Passed len) levels answer) }
 
 -- a step that opens a level, and the items of the level
-step-opens : (left : ℕ) (s : List ℕ) (p len n e : ℕ) → stepAt (suc left) (drop p s) ≡ Step.Opened len n false → Passes left n s (p + len) e → Passes (suc left) 1 s p e
+step-opens : (left : ℕ) (s : List ℕ) (p len n e : ℕ) → stepAt (suc left) (drop p s) ≡ Step.Opened len n false → Passes left n s (p + len) e
+    → Passes (suc left) 1 s p e
 unfolding next itemsOf pick
 step-opens left s p len n e answer h =
     record {
       walk =
           λ most from k stack levels.
           after (suc left) s p most from k stack (Step.Opened len n false) levels answer
-          ∙ rw (add-assoc from p len, drop-drop len p s) (rw (add-zero n) at (h .walk most from 0 (k ∷ stack) (omega arith)) ∙ runs-close most (from + e) (drop e s) (k ∷ stack));
+          ∙ rw (add-assoc from p len, drop-drop len p s)
+          (rw (add-zero n) at (h .walk most from 0 (k ∷ stack) (omega arith)) ∙ runs-close most (from + e) (drop e s) (k ∷ stack));
     }
 
 -- ---- a token
@@ -165,7 +170,8 @@ module _ (left most from e k : ℕ) (s stack : List ℕ) where
   unfolding next
   stepped f p c above (Step.Refused number place) go q = cc
   stepped f p c above (Step.Passed len) go q = rw (add-assoc from p len, drop-drop len p s) (go len [] (rw (drop-drop len p s) at q))
-  stepped f p c above (Step.Opened len n pairs) go q = rw (add-assoc from p len, drop-drop len p s) (go len (itemsOf n pairs ∷ []) (rw (drop-drop len p s) at q))
+  stepped f p c above (Step.Opened len n pairs) go q =
+      rw (add-assoc from p len, drop-drop len p s) (go len (itemsOf n pairs ∷ []) (rw (drop-drop len p s) at q))
 
   module _ (levels : most ≡ left + length stack) where
     -- turn by turn

@@ -1,4 +1,5 @@
--- The shortest head written (RFC 8949, section 4.1): it is read back, no head of that argument is shorter, and where it stands in the buffer.
+-- The shortest head written (RFC 8949, section 4.1): it is read back, no head of that argument is shorter, and where it
+-- stands in the buffer.
 -- Assumes nothing.
 use mathlib.Core.Path.{_≡_, sym, _∙_}
 use mathlib.Core.Logic.{_⊎_}

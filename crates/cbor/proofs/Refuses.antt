@@ -1,5 +1,5 @@
--- The walk refuses exactly at the first fault: `refusal-sound`, a refusal is that of an unfinished item followed by a head at fault, and
--- `refusal-complete`, such bytes are refused so.
+-- The walk refuses exactly at the first fault: `refusal-sound`, a refusal is that of an unfinished item followed by a
+-- head at fault, and `refusal-complete`, such bytes are refused so.
 -- Assumes nothing.
 use mathlib.Core.Path.{_≡_, ap, ap₂, _∙_, subst}
 use mathlib.Core.Logic.{inl, inr}
@@ -35,7 +35,8 @@ alone most number place s p (inr (k, lt, l)) = none (l .items) (omega (arith, l 
     none Items.done c e sum = rw (e, sum, zero-add) (subst (λ (n : ℕ). FirstFault n (l .rest) number (l .after)) (omega arith) (l .below))
     none (Items.more x xs) c e sum = absurd (omega arith)
 
-pub refusal-sound : (levels : ℕ) (s : List ℕ) (number place : ℕ) → Bytes s → firstItem levels s ≡ ItemRead.Refused number place → FirstFault (leftUnder levels) s number place
+pub refusal-sound : (levels : ℕ) (s : List ℕ) (number place : ℕ) → Bytes s → firstItem levels s ≡ ItemRead.Refused number place
+    → FirstFault (leftUnder levels) s number place
 unfolding firstItem
 refusal-sound levels s number place b q =
     let most = leftUnder levels in
@@ -65,7 +66,8 @@ fault-step left s number (Fault.deep major width arg rest e right lo hi none) =
     rw (ap headAt e ∙ head-read major width arg rest right) (deep-refused left (length s) major arg _ lo hi none)
 fault-step left s number (Fault.short major width arg rest e right lo hi less) =
     rw (ap headAt e ∙ head-read major width arg rest right)
-    (short-refused left (length s) major arg (length (headBytes major width arg)) lo hi (omega (arith, ap length e ∙ length-append (headBytes major width arg) rest)))
+    (short-refused left (length s) major arg (length (headBytes major width arg)) lo hi
+    (omega (arith, ap length e ∙ length-append (headBytes major width arg) rest)))
 
 -- what the head of one that lacks an item opens
 opened : (left room major arg len : ℕ) → 4 ≤ major → major < 7 → 1 ≤ left → stepOf left room major arg len ≡ opens major arg len
@@ -111,7 +113,8 @@ module _ (most number : ℕ) where
           → length (encodeBegun (b ∷ bs)) ≡ length (headBytes (b .major) (b .width) (b .arg)) + (length (encodes (b .items)) + length (encodeBegun bs))
       heads b bs = simp length-append
 
-pub refusal-complete : (levels : ℕ) (s : List ℕ) (number place : ℕ) → FirstFault (leftUnder levels) s number place → firstItem levels s ≡ ItemRead.Refused number place
+pub refusal-complete : (levels : ℕ) (s : List ℕ) (number place : ℕ) → FirstFault (leftUnder levels) s number place
+    → firstItem levels s ≡ ItemRead.Refused number place
 unfolding firstItem
 refusal-complete levels s number place f =
     let most = leftUnder levels in

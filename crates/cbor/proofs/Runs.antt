@@ -1,5 +1,6 @@
--- The walk of `specs/Item.antt` with its count of turns out of the way: `runs` has as many as it needs, and obeys the three equations that
--- `run` states, `runs-end`, `runs-close` and `runs-step`. And `runs-many`: a count that exceeds the bytes left may be any other such count.
+-- The walk of `specs/Item.antt` with its count of turns out of the way: `runs` has as many as it needs, and obeys the
+-- three equations that `run` states, `runs-end`, `runs-close` and `runs-step`. And `runs-many`: a count that exceeds
+-- the bytes left may be any other such count.
 -- Assumes nothing.
 use mathlib.Core.Path.{_≡_, refl, ap, _∙_}
 use mathlib.Core.List.{List, [], _∷_, _++_, append-assoc}
@@ -18,7 +19,8 @@ runs most at s stack = run most (enough s stack) at s stack
 -- two walks are related after a step where they are so on fewer bytes and at most one level more
 module _ (R : ItemRead → ItemRead → Type 0) (at : ℕ) (s st st′ : List ℕ) (go go′ : ℕ → List ℕ → List ℕ → ItemRead) where
   pub next-both : (left : ℕ) (x : Step) → StepOk left (length s) x → ((number place : ℕ) → R (ItemRead.Refused number place) (ItemRead.Refused number place))
-      → ((len : ℕ) (new : List ℕ) → 1 ≤ len → len ≤ length s → length new ≤ 1 → R (go (at + len) (drop len s) (new ++ st)) (go′ (at + len) (drop len s) (new ++ st′)))
+      → ((len : ℕ) (new : List ℕ) → 1 ≤ len → len ≤ length s → length new ≤ 1
+      → R (go (at + len) (drop len s) (new ++ st)) (go′ (at + len) (drop len s) (new ++ st′)))
       → R (next go at s st x) (next go′ at s st′ x)
   unfolding next
   next-both left (Step.Refused number place) h same agree = same number (at + place)

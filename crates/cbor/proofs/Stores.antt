@@ -31,7 +31,8 @@ unfolding bytesOf
 bytes-last l at n v = sets-last l at (bytesOf n (v / 256)) (v % 256) ∙ rw (length-bytes n (v / 256))
 
 -- a turn of the loop: the lowest byte stored, the others left to be
-pub spell-turn : (l : List ℕ) (at left rest : ℕ) → 0 < left → sets (set l (at + (left - 1)) (rest % 256)) at (bytesOf (left - 1) (rest / 256)) ≡ sets l at (bytesOf left rest)
+pub spell-turn : (l : List ℕ) (at left rest : ℕ) → 0 < left
+    → sets (set l (at + (left - 1)) (rest % 256)) at (bytesOf (left - 1) (rest / 256)) ≡ sets l at (bytesOf left rest)
 spell-turn l at left rest h =
     let e : suc (left - 1) ≡ left = omega arith in
     sym (bytes-last l at (left - 1) rest) ∙ rw e
@@ -50,7 +51,8 @@ pub sized-len : (arg len : ℕ) → len ≡ 1 + shortest arg → arg < 2 ^ 64 �
 sized-len arg len e h = let w : len - 1 ≡ shortest arg = omega arith in rw w (shortest-right 0 arg (lit< tt) h .sized)
 
 -- the first byte stored, and then the argument's
-put-head : (l : List ℕ) (at major arg : ℕ) → sets (set l at (major * 32 + infoOf (shortest arg) arg)) (at + 1) (bytesOf (shortest arg) arg) ≡ sets l at (head major arg)
+put-head : (l : List ℕ) (at major arg : ℕ)
+    → sets (set l at (major * 32 + infoOf (shortest arg) arg)) (at + 1) (bytesOf (shortest arg) arg) ≡ sets l at (head major arg)
 unfolding head headBytes
 put-head l at major arg = rw (add-one at)
 
@@ -78,7 +80,8 @@ module _ (l : List ℕ) (at major arg : ℕ) where
       let r = all-over l at (head major arg) h in
       (both (λ (n : ℕ). length l + 1 ≡ n) (ltb 6 major) refl (r .0), both (λ (t : List ℕ). l ≡ t) (ltb 6 major) refl (r .1))
 
-  pub stored : major ≤ 6 → at + length (head major arg) ≤ length l → (at + length (head major arg) ≡ headEnd l at major arg) × (sets l at (head major arg) ≡ headPut l at major arg)
+  pub stored : major ≤ 6 → at + length (head major arg) ≤ length l
+      → (at + length (head major arg) ≡ headEnd l at major arg) × (sets l at (head major arg) ≡ headPut l at major arg)
   unfolding headEnd headPut pick
   stored m h = rw (le-ltb 6 major m) (all-stored l at (head major arg) h)
 

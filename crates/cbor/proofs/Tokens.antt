@@ -33,7 +33,8 @@ unfolding headAt argOf widthOf pick
 head-long [] = tt
 head-long (first ∷ s) =
     first-case HeadLong first s (λ _ _. tt) (λ _. tt) (λ _ _. tt)
-    (λ _ _. judged-case HeadLong (first / 32) (argOf first (widthOf (first % 32)) s) (widthOf (first % 32)) (λ _ _ _. tt) (λ _ _. tt) (λ _ _ over. let one = wide over in omega arith))
+    (λ _ _. judged-case HeadLong (first / 32) (argOf first (widthOf (first % 32)) s) (widthOf (first % 32)) (λ _ _ _. tt) (λ _ _. tt)
+    (λ _ _ over. let one = wide over in omega arith))
   where
     By : ℕ → Type 0
     By width = 23 < argOf first width s → 1 ≤ width
@@ -41,7 +42,8 @@ head-long (first ∷ s) =
     wide : By (widthOf (first % 32))
     wide =
         pick-case By (ltb (first % 32) 24) (λ e over. absurd (omega (arith, ltb-true (first % 32) 24 e)))
-        (λ _. both By (eqb (first % 32) 24) (λ _. lit≤ tt) (both By (eqb (first % 32) 25) (λ _. lit≤ tt) (both By (eqb (first % 32) 26) (λ _. lit≤ tt) (λ _. lit≤ tt))))
+        (λ _. both By (eqb (first % 32) 24) (λ _. lit≤ tt)
+        (both By (eqb (first % 32) 25) (λ _. lit≤ tt) (both By (eqb (first % 32) 26) (λ _. lit≤ tt) (λ _. lit≤ tt))))
 
 -- where it stands, and what it has at least: a byte, two where the argument is above 23, and a string's own
 pub record TokenHas (size at : ℕ) (t : Token) : Type 0 where
@@ -55,7 +57,14 @@ pub record TokenHas (size at : ℕ) (t : Token) : Type 0 where
 nothing-has : (size at : ℕ) → TokenHas size at (nothingAt at)
 unfolding nothingAt
 nothing-has size at =
-    record { here = refl; start = zero-le; end = zero-le; some = λ k. absurd (omega arith); wide = λ k. absurd (omega arith); string = λ _ k. absurd (omega arith) }
+    record {
+      here = refl;
+      start = zero-le;
+      end = zero-le;
+      some = λ k. absurd (omega arith);
+      wide = λ k. absurd (omega arith);
+      string = λ _ k. absurd (omega arith);
+    }
 
 has-from : (size at room : ℕ) (x : HeadRead) → room ≡ size - at → HeadOk room x → HeadLong x → TokenHas size at (tokenFrom at room x)
 unfolding tokenFrom tokenOf
@@ -64,7 +73,14 @@ has-from size at room (HeadRead.Head major arg len) r (some, fits) l =
     pick-case Has _
     (λ e. pick-case Has _
     (λ f. pick-case Has _
-    (λ g. record { here = refl; start = omega arith; end = omega (arith, leb-true arg (room - len) g); some = λ _. omega arith; wide = λ k. omega (arith, l k); string = λ _ _. refl })
+    (λ g. record {
+      here = refl;
+      start = omega arith;
+      end = omega (arith, leb-true arg (room - len) g);
+      some = λ _. omega arith;
+      wide = λ k. omega (arith, l k);
+      string = λ _ _. refl;
+    })
     (λ _. nothing-has size at))
     (λ f. leaf (λ _ k. omega (arith, ltb-false major 4 f))))
     (λ e. leaf (λ k _. omega (arith, ltb-false 1 major e)))
@@ -74,7 +90,14 @@ has-from size at room (HeadRead.Head major arg len) r (some, fits) l =
 
     leaf : (1 < major → major < 4 → ⊥) → Has (record { at = at; major = major; arg = arg; body = at + len; next = at + len })
     leaf other =
-        record { here = refl; start = le-refl (at + len); end = omega arith; some = λ _. omega arith; wide = λ k. omega (arith, l k); string = λ j k. absurd (other j k) }
+        record {
+          here = refl;
+          start = le-refl (at + len);
+          end = omega arith;
+          some = λ _. omega arith;
+          wide = λ k. omega (arith, l k);
+          string = λ j k. absurd (other j k);
+        }
 
 pub token-has : (s : List ℕ) (at : ℕ) → TokenHas (length s) at (tokenAt s at)
 unfolding tokenAt
@@ -99,7 +122,8 @@ pub token-told : (s : List ℕ) (at : ℕ) (t : Token) (major arg len n : ℕ) �
 unfolding tokenAt tokenFrom
 token-told s at t major arg len n e same f = token-is s at t (rw (e, length-drop at s, ← same) f)
 
-pub head-fits : (s : List ℕ) (at major arg len : ℕ) (y : HeadRead) → y ≡ headAt (take (length s - at) (drop at s)) → y ≡ HeadRead.Head major arg len → len ≤ length s - at
+pub head-fits : (s : List ℕ) (at major arg len : ℕ) (y : HeadRead) → y ≡ headAt (take (length s - at) (drop at s)) → y ≡ HeadRead.Head major arg len
+    → len ≤ length s - at
 head-fits s at major arg len y e q =
     rw (length-drop at s) at (subst (HeadOk (length (drop at s))) (ap headAt (sym (rest-is at s)) ∙ sym e ∙ q) (head-ok (drop at s)) .1)
 
@@ -136,7 +160,8 @@ shifted-from by at room (HeadRead.Refused number place) = record { major = refl;
 shifted-from by at room (HeadRead.Head major arg len) =
     one-test Same (ltb 1 major)
     (one-test Same (ltb major 4)
-    (one-test Same (leb arg (room - len)) (record { major = refl; arg = refl; next = λ _. omega arith }) (record { major = refl; arg = refl; next = λ ne. absurd (ne refl) }))
+    (one-test Same (leb arg (room - len)) (record { major = refl; arg = refl; next = λ _. omega arith })
+    (record { major = refl; arg = refl; next = λ ne. absurd (ne refl) }))
     (record { major = refl; arg = refl; next = λ _. omega arith }))
     (record { major = refl; arg = refl; next = λ _. omega arith })
   where
@@ -160,7 +185,8 @@ pub size-none : (levels : ℕ) (s : List ℕ) (at : ℕ) → length s ≤ at →
 unfolding sizeAt sizeFrom firstItem run enough next stepAt stepFrom headAt
 size-none levels s at h = record { is = rw (drop-past s at h); within = zero-le }
 
-pub size-found : (levels : ℕ) (s : List ℕ) (at : ℕ) (x y : ItemRead) → y ≡ firstItem levels (take (length s - at) (drop at s)) → y ≡ x → SizeIs levels s at (sizeFrom x)
+pub size-found : (levels : ℕ) (s : List ℕ) (at : ℕ) (x y : ItemRead) → y ≡ firstItem levels (take (length s - at) (drop at s)) → y ≡ x
+    → SizeIs levels s at (sizeFrom x)
 unfolding sizeAt
 size-found levels s at x y e q =
     let same : x ≡ firstItem levels (drop at s) = sym q ∙ e ∙ ap (firstItem levels) (rest-is at s) in

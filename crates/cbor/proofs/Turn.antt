@@ -1,5 +1,5 @@
--- A turn of `item::first`'s loop, on plain values. `Inv` is the loop's invariant: the walk from the position on, with the counts in use as
--- its stack, is the walk of the whole.
+-- A turn of `item::first`'s loop, on plain values. `Inv` is the loop's invariant: the walk from the position on, with
+-- the counts in use as its stack, is the walk of the whole.
 -- Assumes nothing.
 use mathlib.Core.Path.{_≡_, refl, sym, ap, _∙_, subst}
 use mathlib.Core.Logic.{_⊎_, inl, inr}

@@ -72,7 +72,8 @@ after m w a a′ t r t′ r′ q =
 front : (bs cs r r′ : List ℕ) → length cs ≡ length bs → bs ++ r ≡ cs ++ r′ → bs ≡ cs
 front bs cs r r′ e q = sym (take-at bs r (length bs) refl) ∙ ap (take (length bs)) q ∙ take-at cs r′ (length bs) e
 
--- ---- an item of a known head is the one whose encoding begins alike. What it holds is known to be the same where that begins alike
+-- ---- an item of a known head is the one whose encoding begins alike. What it holds is known to be the same where that
+-- begins alike
 same-positive : (w n : ℕ) (y : Item) → Kind y 0 w n → Item.number false w n ≡ y
 same-positive w n _ Kind.positive = refl
 
@@ -83,7 +84,8 @@ same-simple : (w n : ℕ) (y : Item) → Kind y 7 w n → Item.simple w n ≡ y
 same-simple w n _ Kind.simple = refl
 
 module _ (w : ℕ) (r r′ : List ℕ) where
-  same-bytes : (bs : List ℕ) (y : Item) (n : ℕ) → n ≡ length bs → Kind y 2 w n → encode (Item.string false w bs) ++ r ≡ encode y ++ r′ → Item.string false w bs ≡ y
+  same-bytes : (bs : List ℕ) (y : Item) (n : ℕ) → n ≡ length bs → Kind y 2 w n → encode (Item.string false w bs) ++ r ≡ encode y ++ r′
+      → Item.string false w bs ≡ y
   unfolding encode
   same-bytes bs _ _ e (Kind.bytes {bs = cs}) q = ap (Item.string false w) (front bs cs r r′ e (after 2 w (length bs) (length cs) bs r cs r′ q))
 
@@ -101,7 +103,8 @@ module _ (w : ℕ) (r r′ : List ℕ) where
     unfolding encode
     same-array _ _ e (Kind.array {xs = ys}) g q = ap (Item.array w) (same ys (g .1) e (after 4 w (count xs) (count ys) (encodes xs) r (encodes ys) r′ q))
 
-    same-map : (y : Item) (n : ℕ) → n ≡ count xs / 2 → Kind y 5 w n → count xs / 2 * 2 ≡ count xs → Good y → encode (Item.map w xs) ++ r ≡ encode y ++ r′ → Item.map w xs ≡ y
+    same-map : (y : Item) (n : ℕ) → n ≡ count xs / 2 → Kind y 5 w n → count xs / 2 * 2 ≡ count xs → Good y → encode (Item.map w xs) ++ r ≡ encode y ++ r′
+        → Item.map w xs ≡ y
     unfolding encode
     same-map _ _ e (Kind.map {xs = ys}) even g q =
         ap (Item.map w)

@@ -17,7 +17,8 @@ run-within most zero at s stack = zero-le
 run-within most (suc f) at s [] = omega arith
 run-within most (suc f) at s (zero ∷ stack) = run-within most f at s stack
 run-within most (suc f) at s (suc n ∷ stack) =
-    next-both (λ (x _ : ItemRead). sizeFrom x ≤ at + length s) at s (n ∷ stack) (n ∷ stack) (run most f) (run most f) _ (stepAt (most - length stack) s) (step-ok _ s)
+    next-both (λ (x _ : ItemRead). sizeFrom x ≤ at + length s) at s (n ∷ stack) (n ∷ stack) (run most f) (run most f) _
+    (stepAt (most - length stack) s) (step-ok _ s)
     (λ _ _. zero-le) (λ len new lo hi one. omega (arith, run-within most f (at + len) (drop len s) (new ++ n ∷ stack), length-drop len s))
 
 pub size-within : (levels : ℕ) (s : List ℕ) → sizeFrom (firstItem levels s) ≤ length s

@@ -1,4 +1,5 @@
--- Which head is at fault, said without reading: an unfinished item, all of whose heads are good, and then a head with a fault.
+-- Which head is at fault, said without reading: an unfinished item, all of whose heads are good, and then a head with a
+-- fault.
 use Prim.Native.Nat.{ℕ, _+_, _-_, _*_, _%_, _<_, _≤_}
 use mathlib.Core.List.{List, [], _∷_, _++_}
 use mathlib.Core.Path.{_≡_}
@@ -13,11 +14,15 @@ pub data Fault (left : ℕ) (s : List ℕ) : ℕ → Type 0 where
   missing : s ≡ [] → Fault left s 2
   reserved : (first : ℕ) (rest : List ℕ) → s ≡ first ∷ rest → 28 ≤ first % 32 → first % 32 < 31 → Fault left s 3
   indefinite : (first : ℕ) (rest : List ℕ) → s ≡ first ∷ rest → first % 32 ≡ 31 → Fault left s 4
-  cut : (first : ℕ) (rest : List ℕ) → s ≡ first ∷ rest → first % 32 < 28 → length rest < widthOf (first % 32) → Fault left s 2
+  cut : (first : ℕ) (rest : List ℕ) → s ≡ first ∷ rest → first % 32 < 28 → length rest < widthOf (first % 32)
+      → Fault left s 2
   low-simple : (value : ℕ) (rest : List ℕ) → s ≡ headBytes 7 1 value ++ rest → value < 32 → Fault left s 3
-  long : (major width arg : ℕ) (rest : List ℕ) → s ≡ headBytes major width arg ++ rest → major < 7 → Sized width arg → arg < leastOf width → Fault left s 5
-  deep : (major width arg : ℕ) (rest : List ℕ) → s ≡ headBytes major width arg ++ rest → Right major width arg → 4 ≤ major → major < 7 → left ≡ 0 → Fault left s 6
-  short : (major width arg : ℕ) (rest : List ℕ) → s ≡ headBytes major width arg ++ rest → Right major width arg → 2 ≤ major → major < 4 → length rest < arg → Fault left s 2
+  long : (major width arg : ℕ) (rest : List ℕ) → s ≡ headBytes major width arg ++ rest → major < 7 → Sized width arg
+      → arg < leastOf width → Fault left s 5
+  deep : (major width arg : ℕ) (rest : List ℕ) → s ≡ headBytes major width arg ++ rest → Right major width arg
+      → 4 ≤ major → major < 7 → left ≡ 0 → Fault left s 6
+  short : (major width arg : ℕ) (rest : List ℕ) → s ≡ headBytes major width arg ++ rest → Right major width arg
+      → 2 ≤ major → major < 4 → length rest < arg → Fault left s 2
 
 -- an array, a map or a tag whose items aren't all there: its head, and the items that are
 pub record Begun : Type 0 where

@@ -1,5 +1,6 @@
--- The first whole item at the start of some bytes. The heads are read from left to right. A stack has, for each array, map and
--- tag that is open, how many items it still lacks, the innermost first; under them all stands the one item that is looked for.
+-- The first whole item at the start of some bytes. The heads are read from left to right. A stack has, for each array,
+-- map and tag that is open, how many items it still lacks, the innermost first; under them all stands the one item that
+-- is looked for.
 use Prim.Native.Nat.{ℕ, zero, suc, _+_, _-_, _*_}
 use mathlib.Core.List.{List, [], _∷_}
 use mathlib.Core.Bool.{Bool, true, false}
@@ -21,9 +22,11 @@ leftUnder levels = mostLevels - levels
 
 -- the head of an array, a map or a tag: what it opens
 unfoldable pub opens : ℕ → ℕ → ℕ → Step
-opens major arg len = pick (eqb major 4) (Step.Opened len arg false) (pick (eqb major 5) (Step.Opened len arg true) (Step.Opened len 1 false))
+opens major arg len = pick (eqb major 4) (Step.Opened len arg false)
+    (pick (eqb major 5) (Step.Opened len arg true) (Step.Opened len 1 false))
 
--- a head where so many levels may open, with so many bytes from its first one on: 6 where none may, 2 for a string whose bytes end early
+-- a head where so many levels may open, with so many bytes from its first one on: 6 where none may, 2 for a string
+-- whose bytes end early
 unfoldable pub stepOf : ℕ → ℕ → ℕ → ℕ → ℕ → Step
 stepOf left room major arg len =
     pick (eqb major 7) (Step.Passed len)
@@ -50,7 +53,8 @@ next go at s stack (Step.Refused number place) = ItemRead.Refused number (at + p
 next go at s stack (Step.Passed len) = go (at + len) (drop len s) stack
 next go at s stack (Step.Opened len n pairs) = go (at + len) (drop len s) (itemsOf n pairs ∷ stack)
 
--- The walk, in so many turns at most; 0, which is no refusal, stands for turns that run out (`refused-numbers` of proofs/ItemLaws: they never do).
+-- The walk, in so many turns at most; 0, which is no refusal, stands for turns that run out (`refused-numbers` of
+-- proofs/ItemLaws: they never do).
 unfoldable pub run : ℕ → ℕ → ℕ → List ℕ → List ℕ → ItemRead
 run most zero at s stack = ItemRead.Refused 0 0
 run most (suc turns) at s [] = ItemRead.Ends at
@@ -65,7 +69,8 @@ enough s stack = suc (2 * length s + length stack)
 unfoldable pub firstItem : ℕ → List ℕ → ItemRead
 firstItem levels s = run (leftUnder levels) (enough s (1 ∷ [])) 0 s (1 ∷ [])
 
--- So many bytes, by their first item: the answer to its refusal, to 7 where bytes follow the item, or the one that is due where it fills them.
+-- So many bytes, by their first item: the answer to its refusal, to 7 where bytes follow the item, or the one that is
+-- due where it fills them.
 abbrev pub framedBy : {A : Type 0} → (ℕ → ℕ → A) → A → ℕ → ItemRead → A
 framedBy refused due size (ItemRead.Refused number place) = refused number place
 framedBy refused due size (ItemRead.Ends end) = pick (eqb end size) due (refused 7 end)

@@ -1,5 +1,5 @@
--- What the functions answer: `Head`, `Item`, `Token`, `Put`; `Turn`, the private ones of the walk. What the standard says: `Tree`, items as data and their encoding; `Fault`, which
--- head is at fault.
+-- What the functions answer: `Head`, `Item`, `Token`, `Put`; `Turn`, the private ones of the walk. What the standard
+-- says: `Tree`, items as data and their encoding; `Fault`, which head is at fault.
 pub mod Head
 pub mod Item
 pub mod Turn

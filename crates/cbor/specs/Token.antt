@@ -1,4 +1,5 @@
--- The heads of an item one after the other: `tokenAt`, a head with its string; `sizeAt`, an item of any sort passed over.
+-- The heads of an item one after the other: `tokenAt`, a head with its string; `sizeAt`, an item of any sort passed
+-- over.
 use Prim.Native.Nat.{ℕ, _+_, _-_, _≤_}
 use mathlib.Core.List.{List}
 use mathlib.Core.Path.{_≡_}

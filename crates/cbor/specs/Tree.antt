@@ -1,4 +1,5 @@
--- CBOR items as data (RFC 8949, section 3), each head with how many bytes of argument follow its first byte, and their encoding.
+-- CBOR items as data (RFC 8949, section 3), each head with how many bytes of argument follow its first byte, and their
+-- encoding.
 use Prim.Native.Nat.{ℕ, suc, _+_, _*_, _/_, _^_, _<_, _≤_, max}
 use mathlib.Core.List.{List, _∷_, [], _++_}
 use mathlib.Core.Bool.{Bool, cond}
@@ -26,7 +27,8 @@ pub data Sized : ℕ → ℕ → Type 0 where
   four : {n : ℕ} → n < 2 ^ 32 → Sized 4 n
   eight : {n : ℕ} → n < 2 ^ 64 → Sized 8 n
 
--- a head without fault: well-formed (a simple value in two bytes is at least 32), and of major types 0 to 6 the shortest
+-- a head without fault: well-formed (a simple value in two bytes is at least 32), and of major types 0 to 6 the
+-- shortest
 pub record Right (major width arg : ℕ) : Type 0 where
   pub sized : Sized width arg
   pub simple : major ≡ 7 → width ≡ 1 → 32 ≤ arg

@@ -22,5 +22,6 @@ TurnIs step (Turn.Refused number place) = step ≡ Step.Refused number place
 -- what is said of a common head is what `stepAt` gives
 unfoldable pub CommonIs : ℕ → List ℕ → Common → Type 0
 CommonIs left s (Common.Passed len) = stepAt left s ≡ Step.Passed len
-CommonIs left s (Common.Opened n) = (m : ℕ) × (pairs : Bool) × (stepAt left s ≡ Step.Opened 1 m pairs) × (n ≡ itemsOf m pairs)
+CommonIs left s (Common.Opened n) =
+    (m : ℕ) × (pairs : Bool) × (stepAt left s ≡ Step.Opened 1 m pairs) × (n ≡ itemsOf m pairs)
 CommonIs left s Common.Other = Unit {0}

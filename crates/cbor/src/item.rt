@@ -33,8 +33,8 @@ pub enum Turn {
     Refused { number: u8, place: usize },
 }
 
-// A head that most messages are made of: passed, `len` bytes with nothing inside; an array, a map or a tag opened, a head of one byte that
-// holds n items; or any other, of which nothing is said.
+// A head that most messages are made of: passed, `len` bytes with nothing inside; an array, a map or a tag opened, a
+// head of one byte that holds n items; or any other, of which nothing is said.
 pub enum Common {
     Passed(usize),
     Opened(u64),
@@ -46,7 +46,8 @@ pub fn first(levels: usize, s: &[u8]) -> ItemRead
     ensures { λ r. ⌜ r ≡ firstItem levels (now (s .entry)) ⌝ }
 {
     let most = left_under(levels);
-    // What each open level but the innermost still lacks, the outermost first; the innermost one's count is a local, which every head changes.
+    // What each open level but the innermost still lacks, the outermost first; the innermost one's count is a local,
+    // which every head changes.
     let mut outer = [0u64; 8];
     let mut depth: usize = 0;
     let mut lacking: u64 = 1;
@@ -103,7 +104,8 @@ fn turn_at(left: usize, s: &[u8], at: usize) -> Turn
     }
 }
 
-// The head at `at`, where so many levels may open, told by its first byte or two, so that most turns of the walk are short.
+// The head at `at`, where so many levels may open, told by its first byte or two, so that most turns of the walk are
+// short.
 fn common_at(left: usize, s: &[u8], at: usize) -> Common
     ensures { λ r. ⌜ CommonIs left (drop at (now (s .entry))) r ⌝ }
 {
@@ -161,7 +163,8 @@ fn common_other(first: u8) -> Common
     Common::Other
 }
 
-// The head at `at` with `rest` bytes after its first one, where it is an unsigned number in one or two bytes of argument.
+// The head at `at` with `rest` bytes after its first one, where it is an unsigned number in one or two bytes of
+// argument.
 fn common_number(s: &[u8], at: usize, rest: usize) -> Common
     requires { ⌜ at + 1 + rest ≡ length (now s) ⌝ }
     ensures { λ r. ⌜ ((left : ℕ) → CommonIs left (drop at (now (s .entry))) r) ⌝ }

@@ -26,8 +26,8 @@ pub fn head_len(arg: u64) -> usize
     9
 }
 
-// The shortest head of major types 0 to 6 stored from `at` on; the answer is the position after it. Where it doesn't fit,
-// the answer is one past the end and nothing is stored.
+// The shortest head of major types 0 to 6 stored from `at` on; the answer is the position after it. Where it doesn't
+// fit, the answer is one past the end and nothing is stored.
 pub fn head(out: &mut [u8], at: usize, major: u8, arg: u64) -> usize
     ensures { λ r. ⌜ r ≡ headEnd (now (out .entry)) at major arg ⌝ }
     ensures { λ r. ⌜ now (out .exit) ≡ headPut (now (out .entry)) at major arg ⌝ }

@@ -28,7 +28,8 @@ module _ (l : List ℕ) (k : ℕ) where
   unfolding locatorRowAt
   locator-row-is p q r s t = rw (p, q, r, s, t)
 
-  pub objective-row-is : {a b c d e f : ℕ} → a ≡ getD l k 0 → b ≡ getD l (k + 1) 0 → c ≡ getD l (k + 2) 0 → d ≡ getD l (k + 3) 0 → e ≡ getD l (k + 5) 0 → f ≡ getD l (k + 6) 0
+  pub objective-row-is : {a b c d e f : ℕ} → a ≡ getD l k 0 → b ≡ getD l (k + 1) 0 → c ≡ getD l (k + 2) 0 → d ≡ getD l (k + 3) 0 → e ≡ getD l (k + 5) 0
+      → f ≡ getD l (k + 6) 0
       → record { name = record { at = a; len = b }; flags = c; count = d; value = record { at = e; len = f } } ≡ objectiveRowAt l k
   unfolding objectiveRowAt
   objective-row-is p q r s t u = rw (p, q, r, s, t, u)

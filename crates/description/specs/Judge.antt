@@ -1,5 +1,5 @@
--- Which descriptions speak of a message: every span lies in the source, rows are whole and of known kinds, each value is one item by
--- itself, and a list is given only where the kind has one. All else is for the reader to judge.
+-- Which descriptions speak of a message: every span lies in the source, rows are whole and of known kinds, each value
+-- is one item by itself, and a list is given only where the kind has one. All else is for the reader to judge.
 use Prim.Native.Nat.{ℕ, zero, suc, _+_, _*_, _/_, _%_}
 use mathlib.Core.Bool.{Bool, true, false}
 use mathlib.Core.List.{List}
@@ -18,7 +18,8 @@ use Rattle.options.specs.declared.Outcome.{Outcome}
 use Rattle.options.specs.declared.Outcome.the-variants as E
 use Rattle.description.specs.declared.Description.{Description}
 use Rattle.description.specs.declared.Description.the-variants as D
-use Rattle.description.specs.Meaning.{locatorRow, pairRow, objectiveRow, objectiveRowOf, locatorRowAt, objectiveRowAt}
+use Rattle.description.specs.Meaning.{locatorRow, pairRow, objectiveRow}
+use Rattle.description.specs.Meaning.{objectiveRowOf, locatorRowAt, objectiveRowAt}
 
 -- what was read of n bytes is one item and nothing else
 unfoldable pub alone : ℕ → ItemRead → Bool
@@ -51,7 +52,8 @@ okLocatorRow source p = pick (ltb (p .kind) 103) false (pick (ltb 106 (p .kind))
 -- the four numbers after a kind of 0 are 0 too
 unfoldable pub blankLocatorRow : LocatorRow → Bool
 blankLocatorRow p =
-    pick (eqb (p .content .at) 0) (pick (eqb (p .content .len) 0) (pick (eqb (p .protocol) 0) (eqb (p .port) 0) false) false) false
+    pick (eqb (p .content .at) 0)
+    (pick (eqb (p .content .len) 0) (pick (eqb (p .protocol) 0) (eqb (p .port) 0) false) false) false
 
 -- five zeros for no locator, or a locator
 unfoldable pub okNoneOr : List ℕ → LocatorRow → Bool
@@ -78,7 +80,8 @@ okRows source list = okEach locatorRow (okRow source list) list
 unfoldable pub okPair : List ℕ → List ℕ → ℕ → Bool
 okPair source list i =
     pick (eqb (getD list (pairRow * i + 4) 0) 0)
-    (pick (okObjectiveRow source (objectiveRowAt list (pairRow * i))) (okNoneOr source (locatorRowAt list (pairRow * i + objectiveRow))) false)
+    (pick (okObjectiveRow source (objectiveRowAt list (pairRow * i)))
+    (okNoneOr source (locatorRowAt list (pairRow * i + objectiveRow))) false)
     false
 
 -- a list of pairs

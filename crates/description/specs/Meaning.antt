@@ -1,5 +1,5 @@
--- Which message a description over a source and a list of rows speaks of. Total: what lies outside the source is left out; the judge
--- (`specs/Judge.antt`) refuses such descriptions.
+-- Which message a description over a source and a list of rows speaks of. Total: what lies outside the source is left
+-- out; the judge (`specs/Judge.antt`) refuses such descriptions.
 use Prim.Native.Nat.{ℕ, zero, suc, _+_, _*_, _/_}
 use mathlib.Core.Bool.{Bool, true, false}
 use mathlib.Core.List.{List, [], _∷_, _++_}
@@ -44,7 +44,8 @@ objectiveRowOf o = record { name = o .name; flags = o .flags; count = o .count; 
 
 -- the objective that it speaks of
 unfoldable pub objOf : List ℕ → ObjectiveRow → Obj (List ℕ)
-objOf source o = record { name = held source (o .name); flags = o .flags; count = o .count; value = held source (o .value) }
+objOf source o =
+    record { name = held source (o .name); flags = o .flags; count = o .count; value = held source (o .value) }
 
 -- the locator that a row speaks of; protocol 0 and port 65,536 stand for null in a URI
 unfoldable pub locatorRowLoc : List ℕ → LocatorRow → Loc
@@ -82,7 +83,8 @@ unfoldable pub extraOf : List ℕ → GivenExtra → Option (Obj (List ℕ))
 extraOf source X.Without = none
 extraOf source (X.With o) = some (objOf source (objectiveRowOf o))
 
--- an objective in seven numbers, from place k on: place and length of its name, flags, count, 0, place and length of its value
+-- an objective in seven numbers, from place k on: place and length of its name, flags, count, 0, place and length of
+-- its value
 unfoldable pub objectiveRowAt : List ℕ → ℕ → ObjectiveRow
 objectiveRowAt list k =
     record {
@@ -98,7 +100,10 @@ locOrNone source p = pick (eqb (p .kind) 0) none (some (locatorRowLoc source p))
 
 -- the pair of row i
 unfoldable pub rowPair : List ℕ → List ℕ → ℕ → Pair (List ℕ)
-rowPair source list i = (objOf source (objectiveRowAt list (pairRow * i)), locOrNone source (locatorRowAt list (pairRow * i + objectiveRow)))
+rowPair source list i = (
+  objOf source (objectiveRowAt list (pairRow * i)),
+  locOrNone source (locatorRowAt list (pairRow * i + objectiveRow)),
+)
 
 -- those of all rows
 unfoldable pub pairsOf : List ℕ → List ℕ → List (Pair (List ℕ))

@@ -9,7 +9,8 @@ use crate::rows::LOCATOR_ROW;
 use crate::spans;
 use options::Span;
 
-// How many items of a Response its locators are, or its divert is. That doesn't depend on the source, so `[]` stands for it.
+// How many items of a Response its locators are, or its divert is. That doesn't depend on the source, so `[]` stands
+// for it.
 pub fn target_items(list: &[u64], divert: bool) -> u64
     ensures { λ r. ⌜ r ≡ targetItems (targetsOf [] (now (list .entry)) divert) ⌝ }
 {

@@ -1,5 +1,5 @@
-// What is to be written: a message described by numbers and by spans of a source, its locators or pairs as rows of a list; and which descriptions
-// speak of a message.
+// What is to be written: a message described by numbers and by spans of a source, its locators or pairs as rows of a
+// list; and which descriptions speak of a message.
 use options::Outcome;
 use options::Span;
 
@@ -22,10 +22,11 @@ pub enum GivenExtra {
     With(GivenObjective),
 }
 
-// A message to be written. Spans are bytes of the source. The locators of a Response, or of its divert, and the pairs of a Flood are the rows of
-// the list. A locator's row is five numbers: kind (103 to 106), place and length of its address or text, protocol, port; for 106 protocol 0 and
-// port 65,536 stand for null. A pair's row is twelve: place and length of the name, flags, count, 0, place and length of the value, then the
-// locator's five, or five zeros for none. An item of 0 bytes is none.
+// A message to be written. Spans are bytes of the source. The locators of a Response, or of its divert, and the pairs
+// of a Flood are the rows of the list. A locator's row is five numbers: kind (103 to 106), place and length of its
+// address or text, protocol, port; for 106 protocol 0 and port 65,536 stand for null. A pair's row is twelve: place and
+// length of the name, flags, count, 0, place and length of the value, then the locator's five, or five zeros for none.
+// An item of 0 bytes is none.
 pub enum Description {
     Noop,
     Discovery {

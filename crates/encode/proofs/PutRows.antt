@@ -32,7 +32,8 @@ module _ {A : Type 0} (encode : A → List ℕ) (row : ℕ → A) where
   unfolding firstRows listOf flatMap
   rows-none l at = still l at
 
-  pub rows-turn : {l l′ l″ : List ℕ} {at m r : ℕ} (i : ℕ) → Wrote l l′ at (firstRows i) m → Wrote l′ l″ m (encode (row i)) r → Wrote l l″ at (firstRows (i + 1)) r
+  pub rows-turn : {l l′ l″ : List ℕ} {at m r : ℕ} (i : ℕ) → Wrote l l′ at (firstRows i) m → Wrote l′ l″ m (encode (row i)) r
+      → Wrote l l″ at (firstRows (i + 1)) r
   unfolding firstRows listOf
   rows-turn i v w = rw (add-one i, flat-more) (then v w)
 

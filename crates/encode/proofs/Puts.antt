@@ -102,7 +102,8 @@ front-step {l} {l′} {bs} {r} e p =
       same =
           ap length p
           ∙ pick-case (λ (t : List ℕ). length t ≡ length l) (leb (length bs) (length l))
-          (λ q. length-append bs (drop (length bs) l) ∙ omega (arith, leb-true (length bs) (length l) q, length-drop (length bs) l)) (λ _. length-replicate {A = ℕ} (length l) 0);
+          (λ q. length-append bs (drop (length bs) l) ∙ omega (arith, leb-true (length bs) (length l) q, length-drop (length bs) l))
+          (λ _. length-replicate {A = ℕ} (length l) 0);
       fits = λ h.
           let k : length bs ≤ length l = omega arith in
           let e′ : r ≡ length bs = rw (le-leb (length bs) (length l) k) at e in

@@ -21,7 +21,8 @@ use options::Span;
 
 // The message of a description.
 pub(crate) fn put_message(out: &mut [u8], source: &[u8], list: &[u64], m: Description) -> usize
-    ensures { λ r. ⌜ Wrote (now (out .entry)) (now (out .exit)) 0 (encodeMsg (msgOf (now (source .entry)) (now (list .entry)) m)) r ⌝ }
+    ensures { λ r. ⌜ Wrote (now (out .entry)) (now (out .exit)) 0
+        (encodeMsg (msgOf (now (source .entry)) (now (list .entry)) m)) r ⌝ }
 {
     match m {
         Description::Noop => put_noop(out),
@@ -77,7 +78,8 @@ pub(crate) fn put_noop(out: &mut [u8]) -> usize
 }
 
 pub(crate) fn put_given(out: &mut [u8], at: usize, source: &[u8], o: GivenObjective) -> usize
-    ensures { λ r. ⌜ Wrote (now (out .entry)) (now (out .exit)) at (encodeObj (objOf (now (source .entry)) (objectiveRowOf o))) r ⌝ }
+    ensures { λ r. ⌜ Wrote (now (out .entry)) (now (out .exit)) at
+        (encodeObj (objOf (now (source .entry)) (objectiveRowOf o))) r ⌝ }
 {
     let entry = rows::objective_row_of(o);
     objective::put_objective_row(out, at, source, entry)
@@ -90,7 +92,8 @@ pub(crate) fn put_discovery(
     initiator: Span,
     o: GivenObjective,
 ) -> usize
-    ensures { λ r. ⌜ Wrote (now (out .entry)) (now (out .exit)) 0 (encodeMsg (Msg.discovery session (held (now (source .entry)) initiator) (objOf (now (source .entry)) (objectiveRowOf o)))) r ⌝ }
+    ensures { λ r. ⌜ Wrote (now (out .entry)) (now (out .exit)) 0 (encodeMsg (Msg.discovery session
+        (held (now (source .entry)) initiator) (objOf (now (source .entry)) (objectiveRowOf o)))) r ⌝ }
 {
     let a = put_preamble(out, 4, 1, session);
     let b = put::part_string(out, a, 2, source, initiator);
@@ -107,7 +110,9 @@ pub(crate) fn put_response(
     divert: bool,
     extra: GivenExtra,
 ) -> usize
-    ensures { λ r. ⌜ Wrote (now (out .entry)) (now (out .exit)) 0 (encodeMsg (Msg.response session (held (now (source .entry)) initiator) ttl (targetsOf (now (source .entry)) (now (list .entry)) divert) (extraOf (now (source .entry)) extra))) r ⌝ }
+    ensures { λ r. ⌜ Wrote (now (out .entry)) (now (out .exit)) 0
+        (encodeMsg (Msg.response session (held (now (source .entry)) initiator) ttl
+        (targetsOf (now (source .entry)) (now (list .entry)) divert) (extraOf (now (source .entry)) extra))) r ⌝ }
 {
     let targets = counts::target_items(list, divert);
     let more = counts::how_many(extra);
@@ -125,7 +130,8 @@ pub(crate) fn put_targets(
     list: &[u64],
     divert: bool,
 ) -> usize
-    ensures { λ r. ⌜ Wrote (now (out .entry)) (now (out .exit)) at (encodeTargets (targetsOf (now (source .entry)) (now (list .entry)) divert)) r ⌝ }
+    ensures { λ r. ⌜ Wrote (now (out .entry)) (now (out .exit)) at
+        (encodeTargets (targetsOf (now (source .entry)) (now (list .entry)) divert)) r ⌝ }
 {
     if divert {
         let rows = (list.len() / LOCATOR_ROW) as u64;
@@ -137,7 +143,8 @@ pub(crate) fn put_targets(
 }
 
 pub(crate) fn put_extra(out: &mut [u8], at: usize, source: &[u8], extra: GivenExtra) -> usize
-    ensures { λ r. ⌜ Wrote (now (out .entry)) (now (out .exit)) at (maybeObj (extraOf (now (source .entry)) extra)) r ⌝ }
+    ensures { λ r.
+        ⌜ Wrote (now (out .entry)) (now (out .exit)) at (maybeObj (extraOf (now (source .entry)) extra)) r ⌝ }
 {
     match extra {
         GivenExtra::Without => at,
@@ -153,14 +160,16 @@ pub(crate) fn put_exchange(
     session: u32,
     o: GivenObjective,
 ) -> usize
-    ensures { λ r. ⌜ Wrote (now (out .entry)) (now (out .exit)) 0 (exchange kind session (objOf (now (source .entry)) (objectiveRowOf o))) r ⌝ }
+    ensures { λ r. ⌜ Wrote (now (out .entry)) (now (out .exit)) 0
+        (exchange kind session (objOf (now (source .entry)) (objectiveRowOf o))) r ⌝ }
 {
     let a = put_preamble(out, 3, kind, session);
     put_given(out, a, source, o)
 }
 
 pub(crate) fn put_end(out: &mut [u8], source: &[u8], session: u32, outcome: Outcome) -> usize
-    ensures { λ r. ⌜ Wrote (now (out .entry)) (now (out .exit)) 0 (encodeMsg (Msg.end session (endOf (now (source .entry)) outcome))) r ⌝ }
+    ensures { λ r. ⌜ Wrote (now (out .entry)) (now (out .exit)) 0
+        (encodeMsg (Msg.end session (endOf (now (source .entry)) outcome))) r ⌝ }
 {
     match outcome {
         Outcome::Accept => put_accept(out, session),
@@ -178,7 +187,8 @@ pub(crate) fn put_accept(out: &mut [u8], session: u32) -> usize
 }
 
 pub(crate) fn put_decline(out: &mut [u8], session: u32) -> usize
-    ensures { λ r. ⌜ Wrote (now (out .entry)) (now (out .exit)) 0 (encodeMsg (Msg.end session Syntax.Outc.decline)) r ⌝ }
+    ensures { λ r.
+        ⌜ Wrote (now (out .entry)) (now (out .exit)) 0 (encodeMsg (Msg.end session Syntax.Outc.decline)) r ⌝ }
 {
     let a = put_preamble(out, 3, 6, session);
     let b = put::head(out, a, 4, 1);
@@ -186,7 +196,8 @@ pub(crate) fn put_decline(out: &mut [u8], session: u32) -> usize
 }
 
 pub(crate) fn put_reason(out: &mut [u8], source: &[u8], session: u32, text: Span) -> usize
-    ensures { λ r. ⌜ Wrote (now (out .entry)) (now (out .exit)) 0 (encodeMsg (Msg.end session (Syntax.Outc.reason (held (now (source .entry)) text)))) r ⌝ }
+    ensures { λ r. ⌜ Wrote (now (out .entry)) (now (out .exit)) 0
+        (encodeMsg (Msg.end session (Syntax.Outc.reason (held (now (source .entry)) text)))) r ⌝ }
 {
     let a = put_preamble(out, 3, 6, session);
     let b = put::head(out, a, 4, 2);
@@ -209,7 +220,8 @@ pub(crate) fn put_flood(
     initiator: Span,
     ttl: u32,
 ) -> usize
-    ensures { λ r. ⌜ Wrote (now (out .entry)) (now (out .exit)) 0 (encodeMsg (Msg.flood session (held (now (source .entry)) initiator) ttl (pairsOf (now (source .entry)) (now (list .entry))))) r ⌝ }
+    ensures { λ r. ⌜ Wrote (now (out .entry)) (now (out .exit)) 0 (encodeMsg (Msg.flood session
+        (held (now (source .entry)) initiator) ttl (pairsOf (now (source .entry)) (now (list .entry))))) r ⌝ }
 {
     let rows = (list.len() / PAIR_ROW) as u64;
     let a = put_preamble(out, 4 + rows, 9, session);
@@ -219,7 +231,8 @@ pub(crate) fn put_flood(
 }
 
 pub(crate) fn put_invalid(out: &mut [u8], source: &[u8], session: u32, item: Span) -> usize
-    ensures { λ r. ⌜ Wrote (now (out .entry)) (now (out .exit)) 0 (encodeMsg (Msg.invalid session (held (now (source .entry)) item))) r ⌝ }
+    ensures { λ r. ⌜ Wrote (now (out .entry)) (now (out .exit)) 0
+        (encodeMsg (Msg.invalid session (held (now (source .entry)) item))) r ⌝ }
 {
     let more = counts::one_more(source, item);
     let a = put_preamble(out, 2 + more, 99, session);

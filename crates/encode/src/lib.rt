@@ -12,11 +12,12 @@ mod objective;
 mod pair;
 pub mod put;
 
-// The message of a description at the front of the buffer; the answer is its length. Where the buffer is shorter, it is cleared and the
-// answer is one more than its length.
+// The message of a description at the front of the buffer; the answer is its length. Where the buffer is shorter, it is
+// cleared and the answer is one more than its length.
 pub fn message(out: &mut [u8], source: &[u8], list: &[u64], m: Description) -> usize
     ensures { λ r. ⌜ r ≡ frontEnd (now (out .entry)) (encodeMsg (msgOf (now (source .entry)) (now (list .entry)) m)) ⌝ }
-    ensures { λ r. ⌜ now (out .exit) ≡ frontPut (now (out .entry)) (encodeMsg (msgOf (now (source .entry)) (now (list .entry)) m)) ⌝ }
+    ensures { λ r. ⌜ now (out .exit)
+        ≡ frontPut (now (out .entry)) (encodeMsg (msgOf (now (source .entry)) (now (list .entry)) m)) ⌝ }
 {
     let end = kinds::put_message(out, source, list, m);
     if out.len() < end {

@@ -15,7 +15,8 @@ use options::Span;
 
 // The locators of the list.
 pub(crate) fn put_rows(out: &mut [u8], at: usize, source: &[u8], list: &[u64]) -> usize
-    ensures { λ r. ⌜ Wrote (now (out .entry)) (now (out .exit)) at (flatMap encodeLoc (locsOf (now (source .entry)) (now (list .entry)))) r ⌝ }
+    ensures { λ r. ⌜ Wrote (now (out .entry)) (now (out .exit)) at
+        (flatMap encodeLoc (locsOf (now (source .entry)) (now (list .entry)))) r ⌝ }
 {
     let rows = list.len() / LOCATOR_ROW;
     let mut end = at;
@@ -29,14 +30,16 @@ pub(crate) fn put_rows(out: &mut [u8], at: usize, source: &[u8], list: &[u64]) -
 
 pub(crate) fn put_row(out: &mut [u8], at: usize, source: &[u8], list: &[u64], i: usize) -> usize
     requires { ⌜ locatorRow * i + locatorRow ≤ length (now list) ⌝ }
-    ensures { λ r. ⌜ Wrote (now (out .entry)) (now (out .exit)) at (encodeLoc (rowLoc (now (source .entry)) (now (list .entry)) i)) r ⌝ }
+    ensures { λ r. ⌜ Wrote (now (out .entry)) (now (out .exit)) at
+        (encodeLoc (rowLoc (now (source .entry)) (now (list .entry)) i)) r ⌝ }
 {
     let p = rows::locator_row_at(list, LOCATOR_ROW * i);
     put_locator_row(out, at, source, p)
 }
 
 pub(crate) fn put_locator_row(out: &mut [u8], at: usize, source: &[u8], p: LocatorRow) -> usize
-    ensures { λ r. ⌜ Wrote (now (out .entry)) (now (out .exit)) at (encodeLoc (locatorRowLoc (now (source .entry)) p)) r ⌝ }
+    ensures { λ r.
+        ⌜ Wrote (now (out .entry)) (now (out .exit)) at (encodeLoc (locatorRowLoc (now (source .entry)) p)) r ⌝ }
 {
     let kind = p.kind;
     if kind == 103 {
@@ -63,7 +66,8 @@ pub(crate) fn put_fixed(
     p: LocatorRow,
 ) -> usize
     requires { ⌜ major < 7 ⌝ }
-    ensures { λ r. ⌜ Wrote (now (out .entry)) (now (out .exit)) at (fixed kind major (held (now (source .entry)) (p .content)) (p .protocol) (p .port)) r ⌝ }
+    ensures { λ r. ⌜ Wrote (now (out .entry)) (now (out .exit)) at
+        (fixed kind major (held (now (source .entry)) (p .content)) (p .protocol) (p .port)) r ⌝ }
 {
     let a = put_reached(out, at, kind, major, source, p.content);
     let b = put::head(out, a, 0, p.protocol);
@@ -80,7 +84,8 @@ pub(crate) fn put_reached(
     s: Span,
 ) -> usize
     requires { ⌜ major < 7 ⌝ }
-    ensures { λ r. ⌜ Wrote (now (out .entry)) (now (out .exit)) at (reached kind major (held (now (source .entry)) s)) r ⌝ }
+    ensures { λ r.
+        ⌜ Wrote (now (out .entry)) (now (out .exit)) at (reached kind major (held (now (source .entry)) s)) r ⌝ }
 {
     let a = put::head(out, at, 4, 4);
     let b = put::head(out, a, 0, kind);

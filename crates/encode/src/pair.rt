@@ -15,7 +15,8 @@ use description::rows::PAIR_ROW;
 
 // The pairs of the list.
 pub(crate) fn put_pairs(out: &mut [u8], at: usize, source: &[u8], list: &[u64]) -> usize
-    ensures { λ r. ⌜ Wrote (now (out .entry)) (now (out .exit)) at (flatMap encodePair (pairsOf (now (source .entry)) (now (list .entry)))) r ⌝ }
+    ensures { λ r. ⌜ Wrote (now (out .entry)) (now (out .exit)) at
+        (flatMap encodePair (pairsOf (now (source .entry)) (now (list .entry)))) r ⌝ }
 {
     let rows = list.len() / PAIR_ROW;
     let mut end = at;
@@ -29,7 +30,8 @@ pub(crate) fn put_pairs(out: &mut [u8], at: usize, source: &[u8], list: &[u64]) 
 
 pub(crate) fn put_pair(out: &mut [u8], at: usize, source: &[u8], list: &[u64], i: usize) -> usize
     requires { ⌜ pairRow * i + pairRow ≤ length (now list) ⌝ }
-    ensures { λ r. ⌜ Wrote (now (out .entry)) (now (out .exit)) at (encodePair (rowPair (now (source .entry)) (now (list .entry)) i)) r ⌝ }
+    ensures { λ r. ⌜ Wrote (now (out .entry)) (now (out .exit)) at
+        (encodePair (rowPair (now (source .entry)) (now (list .entry)) i)) r ⌝ }
 {
     let o = rows::objective_row_at(list, PAIR_ROW * i);
     let p = rows::locator_row_at(list, PAIR_ROW * i + OBJECTIVE_ROW);
@@ -45,7 +47,8 @@ pub(crate) fn put_locator_row_or_empty(
     source: &[u8],
     p: LocatorRow,
 ) -> usize
-    ensures { λ r. ⌜ Wrote (now (out .entry)) (now (out .exit)) at (locOrEmpty (locOrNone (now (source .entry)) p)) r ⌝ }
+    ensures { λ r.
+        ⌜ Wrote (now (out .entry)) (now (out .exit)) at (locOrEmpty (locOrNone (now (source .entry)) p)) r ⌝ }
 {
     let kind = p.kind;
     if kind == 0 {

@@ -1,5 +1,6 @@
-// The steps of the encoder. Each puts some bytes from `at` on and answers where they end; a step that would end after the buffer
-// answers more than the buffer's length. So no step asks for room, and the end of the last one tells whether all of them fit.
+// The steps of the encoder. Each puts some bytes from `at` on and answers where they end; a step that would end after
+// the buffer answers more than the buffer's length. So no step asks for room, and the end of the last one tells whether
+// all of them fit.
 ghost use mathlib.Core.List.{[], _∷_};
 ghost use Prim.Native.Nat.{_<_};
 ghost use Rattle.options.specs.Text.{held};

@@ -25,7 +25,8 @@ begun next row n at list =
     let e : n - 0 ≡ n = omega arith in
     record { within = omega arith; same-length = refl; same = rw e }
 
-module _ (next : ℕ → ℕ) (row : ℕ → ℕ → List ℕ → List ℕ) (n at₀ : ℕ) (list₀ : List ℕ) (i at : ℕ) (list : List ℕ) (f : Filling next row n at₀ list₀ i at list) where
+module _ (next : ℕ → ℕ) (row : ℕ → ℕ → List ℕ → List ℕ) (n at₀ : ℕ) (list₀ : List ℕ) (i at : ℕ) (list : List ℕ)
+    (f : Filling next row n at₀ list₀ i at list) where
   pub filled : n ≤ i → list ≡ rowsFrom next row n 0 at₀ list₀
   unfolding rowsFrom
   filled h = let e : n - i ≡ 0 = omega (arith, f .within) in rw e at (f .same)
@@ -72,4 +73,8 @@ module _ (list₀ : List ℕ) (at : ℕ) (ns : List ℕ) (i : ℕ) (list : List 
   put-turn h =
       let e : at + (i + 1) ≡ suc (at + i) = omega arith in
       let n : i + 1 ≡ suc i = omega arith in
-      record { within = omega arith; same-length = length-set list (at + i) (getD ns i 0) ∙ p .same-length; same = rw (e, n) (rw (drop-cons ns i 0 h) at (p .same)) }
+      record {
+        within = omega arith;
+        same-length = length-set list (at + i) (getD ns i 0) ∙ p .same-length;
+        same = rw (e, n) (rw (drop-cons ns i 0 h) at (p .same));
+      }

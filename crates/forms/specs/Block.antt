@@ -20,7 +20,8 @@ mostPlaces = 19
 
 -- places 0 to 4: kind, session, initiator, ttl or waiting time
 unfoldable pub frontBlock : ℕ → ℕ → Span → ℕ → List ℕ
-frontBlock kind session initiator ttl = kind ∷ session ∷ initiator .at ∷ initiator .len ∷ ttl ∷ replicate (mostPlaces - 5) 0
+frontBlock kind session initiator ttl =
+    kind ∷ session ∷ initiator .at ∷ initiator .len ∷ ttl ∷ replicate (mostPlaces - 5) 0
 
 -- places 5 to 12: an objective
 unfoldable pub withObjective : List ℕ → Objective → List ℕ
@@ -50,7 +51,8 @@ targetsBlock b (Targets.Divert series) = withSeries b 2 series
 
 -- a Response
 unfoldable pub responseBlock : ℕ → Span → ℕ → Targets → Extra → List ℕ
-responseBlock session initiator ttl targets extra = targetsBlock (withExtra (frontBlock 2 session initiator ttl) extra) targets
+responseBlock session initiator ttl targets extra =
+    targetsBlock (withExtra (frontBlock 2 session initiator ttl) extra) targets
 
 -- places 16 to 18: accept (1), decline (2), decline with a reason (3); the reason, or Invalid's item
 unfoldable pub withSpan : List ℕ → ℕ → Span → List ℕ
@@ -81,5 +83,6 @@ blockOf (M.Negotiate session o) = exchangeBlock 5 session o
 blockOf (M.End session outcome) = endBlock session outcome
 blockOf (M.Wait session time) = frontBlock 7 session (spanOf 0 0) time
 blockOf (M.Synch session o) = exchangeBlock 8 session o
-blockOf (M.Flood session initiator ttl first pairs) = withSeries (withObjective (frontBlock 9 session initiator ttl) (first .objective)) 3 pairs
+blockOf (M.Flood session initiator ttl first pairs) =
+    withSeries (withObjective (frontBlock 9 session initiator ttl) (first .objective)) 3 pairs
 blockOf (M.Invalid session item) = invalidBlock session item

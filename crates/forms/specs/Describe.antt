@@ -29,7 +29,8 @@ isDivert (Targets.Divert series) = true
 unfoldable pub descriptionOf : Message → Description
 descriptionOf M.Noop = D.Noop
 descriptionOf (M.Discovery session initiator o) = D.Discovery session initiator (givenOf o)
-descriptionOf (M.Response session initiator ttl targets extra) = D.Response session initiator ttl (isDivert targets) (givenExtra extra)
+descriptionOf (M.Response session initiator ttl targets extra) =
+    D.Response session initiator ttl (isDivert targets) (givenExtra extra)
 descriptionOf (M.RequestNegotiation session o) = D.RequestNegotiation session (givenOf o)
 descriptionOf (M.RequestSynchronization session o) = D.RequestSynchronization session (givenOf o)
 descriptionOf (M.Negotiate session o) = D.Negotiate session (givenOf o)

@@ -21,7 +21,8 @@ use Rattle.forms.specs.declared.described.Described.{Described}
 use Rattle.forms.specs.declared.described.Described.the-variants.{Nothing, As}
 use Rattle.forms.specs.Block.{mostPlaces}
 
--- ---- the places that a description has; the place of a count's head (10) and that of the first locator or pair (14) are the reader's alone
+-- ---- the places that a description has; the place of a count's head (10) and that of the first locator or pair (14)
+-- are the reader's alone
 -- the kind and the session
 abbrev pub sessionPlaces : List ℕ
 sessionPlaces = 0 ∷ 1 ∷ []
@@ -72,11 +73,17 @@ allFit f mask = allFrom (fieldFits f mask) mostPlaces 0
 
 -- the places of an objective that isn't there, 5 to 12, hold 0
 unfoldable pub isBlank : List ℕ → Bool
-isBlank f = allFit f (maskWith (sessionPlaces ++ initiatorPlaces ++ ttlPlace ++ 13 ∷ 14 ∷ 15 ∷ outcomePlace ++ itemPlaces))
+isBlank f =
+    allFit f (maskWith (sessionPlaces ++ initiatorPlaces ++ ttlPlace ++ 13 ∷ 14 ∷ 15 ∷ outcomePlace ++ itemPlaces))
 
 -- the objective of a block
 unfoldable pub givenObjective : List ℕ → Narrow → GivenObjective
-givenObjective f n = record { name = spanOf (getD f 6 0) (getD f 7 0); flags = n .flags; count = n .count; value = spanOf (getD f 11 0) (getD f 12 0) }
+givenObjective f n = record {
+  name = spanOf (getD f 6 0) (getD f 7 0);
+  flags = n .flags;
+  count = n .count;
+  value = spanOf (getD f 11 0) (getD f 12 0);
+}
 
 -- kinds 1, 3, 4, 5 and 8
 unfoldable pub describedObjective : ℕ → Narrow → Span → GivenObjective → Described
@@ -98,8 +105,10 @@ unfoldable pub describedResponse : List ℕ → ℕ → Narrow → Described
 describedResponse f numbers n =
     let initiator = spanOf (getD f 2 0) (getD f 3 0) in
     unless (eqb (getD f 15 0) (numbers / locatorRow)) Nothing
-    (pick (eqb (getD f 5 0) 0) (unless (isBlank f) Nothing (describedTargets (getD f 13 0) n initiator GivenExtra.Without))
-    (unless (eqb (getD f 5 0) 1) Nothing (describedTargets (getD f 13 0) n initiator (GivenExtra.With (givenObjective f n)))))
+    (pick (eqb (getD f 5 0) 0)
+    (unless (isBlank f) Nothing (describedTargets (getD f 13 0) n initiator GivenExtra.Without))
+    (unless (eqb (getD f 5 0) 1) Nothing
+    (describedTargets (getD f 13 0) n initiator (GivenExtra.With (givenObjective f n)))))
 
 -- an End: accept (1), decline (2), decline with a reason (3)
 unfoldable pub describedEnd : List ℕ → Narrow → Described
@@ -126,9 +135,11 @@ describedKind f numbers n =
     (pick (eqb (getD f 0 0) 7) (As (D.Wait (n .session) (n .ttl)))
     (pick (eqb (getD f 0 0) 9) (describedFlood f numbers n)
     (pick (eqb (getD f 0 0) 99) (As (D.Invalid (n .session) (spanOf (getD f 17 0) (getD f 18 0))))
-    (unless (eqb (getD f 5 0) 1) Nothing (describedObjective (getD f 0 0) n (spanOf (getD f 2 0) (getD f 3 0)) (givenObjective f n))))))))
+    (unless (eqb (getD f 5 0) 1) Nothing
+    (describedObjective (getD f 0 0) n (spanOf (getD f 2 0) (getD f 3 0)) (givenObjective f n))))))))
 
--- what a block says beside a list of so many numbers: nothing where a place that the kind lacks isn't 0, or a number is too wide
+-- what a block says beside a list of so many numbers: nothing where a place that the kind lacks isn't 0, or a number is
+-- too wide
 unfoldable pub describedBy : List ℕ → ℕ → Described
 describedBy f numbers =
     unless (allFit f (allowedIn (getD f 0 0))) Nothing
@@ -136,4 +147,5 @@ describedBy f numbers =
     (pick (ltb mostNumber (getD f 4 0)) Nothing
     (pick (ltb 255 (getD f 8 0)) Nothing
     (pick (ltb 255 (getD f 9 0)) Nothing
-    (describedKind f numbers (record { session = getD f 1 0; ttl = getD f 4 0; flags = getD f 8 0; count = getD f 9 0 }))))))
+    (describedKind f numbers
+    (record { session = getD f 1 0; ttl = getD f 4 0; flags = getD f 8 0; count = getD f 9 0 }))))))

@@ -29,7 +29,8 @@ seriesEnd size series list = pick (ltb (length list / size) (series .many)) (len
 
 -- the list with the rows of a series in front; one that is too short stays as it is
 unfoldable pub seriesFilled : ℕ → (ℕ → ℕ) → (ℕ → ℕ → List ℕ → List ℕ) → Series → List ℕ → List ℕ
-seriesFilled size next row series list = pick (ltb (length list / size) (series .many)) list (rowsFrom next row (series .many) 0 (series .at) list)
+seriesFilled size next row series list =
+    pick (ltb (length list / size) (series .many)) list (rowsFrom next row (series .many) 0 (series .at) list)
 
 -- ---- locators
 -- the place after a locator that was read

@@ -1,6 +1,8 @@
 // What was read, as a block of numbers in fixed places.
 ghost use mathlib.Core.Path.{_≡_};
-ghost use Rattle.forms.specs.Block.{frontBlock, withObjective, discoveryBlock, exchangeBlock, withExtra, withSeries, targetsBlock, responseBlock, withSpan, outcomeBlock, endBlock, invalidBlock, blockOf};
+ghost use Rattle.forms.specs.Block.{frontBlock, withObjective, discoveryBlock, exchangeBlock};
+ghost use Rattle.forms.specs.Block.{withExtra, withSeries, targetsBlock, responseBlock, withSpan};
+ghost use Rattle.forms.specs.Block.{outcomeBlock, endBlock, invalidBlock, blockOf};
 use message::Extra;
 use message::Message;
 use message::Series;
@@ -13,9 +15,9 @@ use options::objective::Objective;
 const NONE: Span = Span { at: 0, len: 0 };
 
 // The block of a message: kind, session, initiator (place, length), ttl or waiting time; 1 for an objective, its name
-// (place, length), flags, count, the place of the count's head, its value (place, length); 1 for locators, 2 for a divert,
-// 3 for pairs, the place of the first, how many; 1 for accept, 2 for decline, 3 for decline with a reason; the reason or
-// Invalid's item (place, length). What the kind lacks is 0. It is filled in place, so that it isn't copied.
+// (place, length), flags, count, the place of the count's head, its value (place, length); 1 for locators, 2 for a
+// divert, 3 for pairs, the place of the first, how many; 1 for accept, 2 for decline, 3 for decline with a reason; the
+// reason or Invalid's item (place, length). What the kind lacks is 0. It is filled in place, so that it isn't copied.
 pub fn fill(b: &mut [u64; 19], m: Message)
     ensures { λ r. ⌜ now (b .exit) ≡ blockOf m ⌝ }
 {

@@ -1,4 +1,5 @@
-// A message that was read, as a description for the writer: its numbers and spans, and its locators or pairs as rows of a list.
+// A message that was read, as a description for the writer: its numbers and spans, and its locators or pairs as rows of
+// a list.
 ghost use mathlib.Core.Path.{_≡_};
 ghost use Rattle.message.specs.Shape.{exchangeOf};
 ghost use Rattle.message.specs.declared.Message.{Message};

@@ -2,7 +2,9 @@
 ghost use mathlib.Core.Path.{_≡_};
 ghost use Prim.Native.Nat.{_<_};
 ghost use Rattle.options.specs.Text.{spanOf};
-ghost use Rattle.forms.specs.Described.{allowedIn, fieldFits, allFit, isBlank, givenObjective, describedTargets, describedResponse, describedEnd, describedFlood, describedObjective, describedKind, describedBy};
+ghost use Rattle.forms.specs.Described.{allowedIn, fieldFits, allFit, isBlank, givenObjective};
+ghost use Rattle.forms.specs.Described.{describedTargets, describedResponse, describedEnd};
+ghost use Rattle.forms.specs.Described.{describedFlood, describedObjective, describedKind, describedBy};
 use description::Description;
 use description::GivenExtra;
 use description::GivenObjective;

@@ -3,7 +3,8 @@ ghost use mathlib.Core.Path.{_≡_};
 ghost use Prim.Native.Nat.{_+_, _*_, _≤_};
 ghost use lib.ListN.{length};
 ghost use lib.Seq.{sets};
-ghost use Rattle.forms.specs.Rows.{rowsIn, seriesEnd, seriesFilled, locatorNext, locatorStored, pairNext, pairStored, rowsEnd, rowsFilled};
+ghost use Rattle.forms.specs.Rows.{rowsIn, seriesEnd, seriesFilled, locatorNext, locatorStored};
+ghost use Rattle.forms.specs.Rows.{pairNext, pairStored, rowsEnd, rowsFilled};
 ghost use Rattle.description.specs.Meaning.{locatorRow, pairRow};
 use description::rows::LOCATOR_ROW;
 use description::rows::PAIR_ROW;
@@ -22,8 +23,8 @@ pub enum Rows {
     Pairs(Series),
 }
 
-// Fills the list with the rows of the message that was read of s; the answer is how many numbers they are. Where the list is
-// too short the answer is one more than it has, and it stays as it is.
+// Fills the list with the rows of the message that was read of s; the answer is how many numbers they are. Where the
+// list is too short the answer is one more than it has, and it stays as it is.
 pub fn fill(s: &[u8], m: Message, list: &mut [u64]) -> usize
     ensures { λ r. ⌜ r ≡ rowsEnd m (now (list .entry)) ⌝ }
     ensures { λ r. ⌜ now (list .exit) ≡ rowsFilled (now (s .entry)) m (now (list .entry)) ⌝ }
@@ -59,7 +60,8 @@ fn rows_in(m: Message) -> Rows
 
 fn fill_locators(s: &[u8], series: Series, list: &mut [u64]) -> usize
     ensures { λ r. ⌜ r ≡ seriesEnd locatorRow series (now (list .entry)) ⌝ }
-    ensures { λ r. ⌜ now (list .exit) ≡ seriesFilled locatorRow (locatorNext (now (s .entry))) (locatorStored (now (s .entry))) series (now (list .entry)) ⌝ }
+    ensures { λ r. ⌜ now (list .exit) ≡ seriesFilled locatorRow (locatorNext (now (s .entry)))
+        (locatorStored (now (s .entry))) series (now (list .entry)) ⌝ }
 {
     let many = series.many;
     let room = list.len() / LOCATOR_ROW;
@@ -93,7 +95,8 @@ fn fill_locator(s: &[u8], at: usize, i: usize, list: &mut [u64]) -> usize
 
 fn fill_pairs(s: &[u8], series: Series, list: &mut [u64]) -> usize
     ensures { λ r. ⌜ r ≡ seriesEnd pairRow series (now (list .entry)) ⌝ }
-    ensures { λ r. ⌜ now (list .exit) ≡ seriesFilled pairRow (pairNext (now (s .entry))) (pairStored (now (s .entry))) series (now (list .entry)) ⌝ }
+    ensures { λ r. ⌜ now (list .exit) ≡ seriesFilled pairRow (pairNext (now (s .entry)))
+        (pairStored (now (s .entry))) series (now (list .entry)) ⌝ }
 {
     let many = series.many;
     let room = list.len() / PAIR_ROW;

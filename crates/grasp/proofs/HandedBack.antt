@@ -1,5 +1,5 @@
--- What `grasp_fresh`, `grasp_set_links`, `grasp_node_call` and `grasp_step` hand back is what the next call takes, so that the lists of demand 3 speak of
--- C's calls too. For readers: each statement at the end stands alone.
+-- What `grasp_fresh`, `grasp_set_links`, `grasp_node_call` and `grasp_step` hand back is what the next call takes, so
+-- that the lists of demand 3 speak of C's calls too. For readers: each statement at the end stands alone.
 -- Assumes nothing.
 use Prim.Native.Nat.{ℕ, _^_, _≤_, _<_}
 use mathlib.Core.Path.{_≡_, refl}
@@ -29,7 +29,8 @@ use Rattle.grasp.specs.Negotiating.{numbersFrom, stateAfter}
 -- for readers
 
 -- The numbers of a fresh record that isn't refused say that record.
-pub fresh-back : (address : List ℕ) (port ttl interfaces mask : ℕ) (f : List ℕ) → port < 2 ^ 16 → ttl < 2 ^ 32 → fresh address port ttl interfaces mask .refusal ≡ 0
+pub fresh-back : (address : List ℕ) (port ttl interfaces mask : ℕ) (f : List ℕ) → port < 2 ^ 16 → ttl < 2 ^ 32
+    → fresh address port ttl interfaces mask .refusal ≡ 0
     → nodeOf address (numbersAfter (fresh address port ttl interfaces mask) f) ≡ fresh address port ttl interfaces mask .node
 unfolding fresh
 fresh-back address port ttl interfaces mask f p l none =
@@ -48,7 +49,8 @@ links-back address f mask =
     kept-back address f (setLinks r mask)
     (λ e. (
       linked-record-fits r mask (node-fits address f),
-      pick-case Addressed (recordBad r) (λ _ e. absurd (omega arith)) (λ good. both Addressed _ (λ e. absurd (omega arith)) (λ _. node-address address f good)) e,
+      pick-case Addressed (recordBad r) (λ _ e. absurd (omega arith))
+          (λ good. both Addressed _ (λ e. absurd (omega arith)) (λ _. node-address address f good)) e,
     ))
     (both Left _ (λ _. refl) (both Left _ (λ _. refl) (λ ne. absurd (ne refl))))
   where

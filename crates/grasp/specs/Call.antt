@@ -16,7 +16,8 @@ pub record Host : Type 0 where
 
 -- those five
 abbrev pub hostOf : ℕ → List ℕ → List ℕ → List ℕ → List ℕ → Host
-hostOf refusal numbers table output answer = record { refusal = refusal; numbers = numbers; table = table; output = output; answer = answer }
+hostOf refusal numbers table output answer =
+    record { refusal = refusal; numbers = numbers; table = table; output = output; answer = answer }
 
 -- what the call answers and leaves; on a refusal the record's numbers are as they were
 unfoldable pub hostCall : List ℕ → List ℕ → List ℕ → Call → List ℕ → Host

@@ -1,4 +1,5 @@
--- What the exported functions answer and leave: `Reading`, a message, a locator, a pair; `Writing`, a message written; `Negotiating`, a step; `Call`, the node call.
+-- What the exported functions answer and leave: `Reading`, a message, a locator, a pair; `Writing`, a message written;
+-- `Negotiating`, a step; `Call`, the node call.
 pub mod Reading
 pub mod Writing
 pub mod Negotiating

@@ -5,8 +5,9 @@ ghost use Rattle.grasp.specs.Call.{hostOf, hostCall};
 use host::call;
 use host::records;
 
-// 0 and the record's numbers, the table, the output and the answer (verdict, handed up, mask, length) as the call leaves them; or the number of the refusal,
-// and all of them as they were. The table is lent as 2,048 bytes; another length is 15 in its turn.
+// 0 and the record's numbers, the table, the output and the answer (verdict, handed up, mask, length) as the call
+// leaves them; or the number of the refusal, and all of them as they were. The table is lent as 2,048 bytes; another
+// length is 15 in its turn.
 #[no_mangle]
 pub extern "C" fn grasp_node_call(
     address: &[u8; 16],
@@ -19,7 +20,10 @@ pub extern "C" fn grasp_node_call(
     out: &mut [u8],
     answer: &mut [u64; 4],
 ) -> u8
-    ensures { λ r. ⌜ hostOf r (now (numbers .exit)) (now (bytes .exit)) (now (out .exit)) (now (answer .exit)) ≡ hostCall (now (address .entry)) (now (numbers .entry)) (now (bytes .entry)) (callOf clock interface (now (names .entry)) (now (message .entry)) (now (out .entry))) (now (answer .entry)) ⌝ }
+    ensures { λ r. ⌜ hostOf r (now (numbers .exit)) (now (bytes .exit)) (now (out .exit)) (now (answer .exit))
+        ≡ hostCall (now (address .entry)) (now (numbers .entry)) (now (bytes .entry))
+        (callOf clock interface (now (names .entry)) (now (message .entry)) (now (out .entry)))
+        (now (answer .entry)) ⌝ }
 {
     let node = records::node_of(address, numbers);
     let kept = call::call_into(node, bytes, clock, interface, names, message, out, answer);

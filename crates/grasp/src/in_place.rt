@@ -1,4 +1,5 @@
-// A node's record that the host keeps as a struct, changed in place: each function hands the record to a step by value and stores the one that comes back.
+// A node's record that the host keeps as a struct, changed in place: each function hands the record to a step by value
+// and stores the one that comes back.
 // A refusal leaves the record, and all else, as it was.
 ghost use mathlib.Core.Path.{_≡_};
 ghost use Rattle.node_state.specs.Record.{keeps, setLinks};
@@ -19,7 +20,8 @@ pub extern "C" fn grasp_record_fresh(
     interfaces: u64,
     links: u64,
 ) -> u8
-    ensures { λ r. ⌜ keeps r (now (node .exit)) ≡ freshOver (now (node .entry)) (now (address .entry)) port ttl interfaces links ⌝ }
+    ensures { λ r. ⌜ keeps r (now (node .exit))
+        ≡ freshOver (now (node .entry)) (now (address .entry)) port ttl interfaces links ⌝ }
 {
     let kept = records::fresh_over(*node, address, port, ttl, interfaces, links);
     *node = kept.node;
@@ -48,7 +50,10 @@ pub extern "C" fn grasp_record_call(
     out: &mut [u8],
     answer: &mut [u64; 4],
 ) -> u8
-    ensures { λ r. ⌜ leftOf r (now (node .exit)) (now (bytes .exit)) (now (out .exit)) (now (answer .exit)) ≡ callLeft (now (node .entry)) (now (bytes .entry)) (callOf clock interface (now (names .entry)) (now (message .entry)) (now (out .entry))) (now (answer .entry)) ⌝ }
+    ensures { λ r. ⌜ leftOf r (now (node .exit)) (now (bytes .exit)) (now (out .exit)) (now (answer .exit))
+        ≡ callLeft (now (node .entry)) (now (bytes .entry))
+        (callOf clock interface (now (names .entry)) (now (message .entry)) (now (out .entry)))
+        (now (answer .entry)) ⌝ }
 {
     let kept = call::call_into(*node, bytes, clock, interface, names, message, out, answer);
     *node = kept.node;

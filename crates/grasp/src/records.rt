@@ -1,4 +1,5 @@
-// A node's record, for C: its address, 16 bytes that the host keeps, and six numbers, its port, ttl, interfaces, links, clock and tally.
+// A node's record, for C: its address, 16 bytes that the host keeps, and six numbers, its port, ttl, interfaces, links,
+// clock and tally.
 ghost use mathlib.Core.Path.{_≡_};
 ghost use Rattle.node_state.specs.Record.{fresh, setLinks};
 ghost use Rattle.host.specs.Records.{nodeOf, numbersAfter};
@@ -16,7 +17,8 @@ pub extern "C" fn grasp_fresh(
     numbers: &mut [u64; 6],
 ) -> u8
     ensures { λ r. ⌜ r ≡ fresh (now (address .entry)) port ttl interfaces links .refusal ⌝ }
-    ensures { λ r. ⌜ now (numbers .exit) ≡ numbersAfter (fresh (now (address .entry)) port ttl interfaces links) (now (numbers .entry)) ⌝ }
+    ensures { λ r. ⌜ now (numbers .exit) ≡ numbersAfter (fresh (now (address .entry)) port ttl interfaces links)
+        (now (numbers .entry)) ⌝ }
 {
     let kept = Record::fresh(*address, port, ttl, interfaces, links);
     records::put(kept, numbers)
@@ -26,7 +28,8 @@ pub extern "C" fn grasp_fresh(
 #[no_mangle]
 pub extern "C" fn grasp_set_links(address: &[u8; 16], numbers: &mut [u64; 6], links: u64) -> u8
     ensures { λ r. ⌜ r ≡ setLinks (nodeOf (now (address .entry)) (now (numbers .entry))) links .refusal ⌝ }
-    ensures { λ r. ⌜ now (numbers .exit) ≡ numbersAfter (setLinks (nodeOf (now (address .entry)) (now (numbers .entry))) links) (now (numbers .entry)) ⌝ }
+    ensures { λ r. ⌜ now (numbers .exit) ≡ numbersAfter
+        (setLinks (nodeOf (now (address .entry)) (now (numbers .entry))) links) (now (numbers .entry)) ⌝ }
 {
     let node = records::node_of(address, numbers);
     let kept = node.set_links(links);

@@ -14,9 +14,12 @@ pub extern "C" fn grasp_write(
     out: &mut [u8],
     length: &mut u64,
 ) -> u8
-    ensures { λ r. ⌜ r ≡ writeNumber (now (source .entry)) (now (list .entry)) (now (fields .entry)) (now (out .entry)) ⌝ }
-    ensures { λ r. ⌜ now (out .exit) ≡ writeBytes (now (source .entry)) (now (list .entry)) (now (fields .entry)) (now (out .entry)) ⌝ }
-    ensures { λ r. ⌜ now (length .exit) ≡ writeLength (now (source .entry)) (now (list .entry)) (now (fields .entry)) (now (out .entry)) (now (length .entry)) ⌝ }
+    ensures { λ r.
+        ⌜ r ≡ writeNumber (now (source .entry)) (now (list .entry)) (now (fields .entry)) (now (out .entry)) ⌝ }
+    ensures { λ r. ⌜ now (out .exit) ≡ writeBytes (now (source .entry)) (now (list .entry)) (now (fields .entry))
+        (now (out .entry)) ⌝ }
+    ensures { λ r. ⌜ now (length .exit) ≡ writeLength (now (source .entry)) (now (list .entry)) (now (fields .entry))
+        (now (out .entry)) (now (length .entry)) ⌝ }
 {
     let described = described::described_by(fields, list.len());
     match described {

@@ -30,7 +30,8 @@ call-still r t c =
     (λ _ _. (refl, refl, refl)) (λ _ _ ne. absurd (ne refl)) (λ _ ne. absurd (ne refl)) (λ _ _ ne. absurd (ne refl))
 
 -- a call that isn't refused passes 12 to 17
-pub call-passed : (r : Record) (t : List ℕ) (c : Call) → answerFrom (nodeCall r t c .called) .refusal ≡ 0 → Passed r t (c .clock) (c .interface) (length (c .output))
+pub call-passed : (r : Record) (t : List ℕ) (c : Call) → answerFrom (nodeCall r t c .called) .refusal ≡ 0
+    → Passed r t (c .clock) (c .interface) (length (c .output))
 unfolding nodeCall refuse answerFrom replyNumbers
 call-passed r t c =
     pick-case (λ (a : After). answerFrom (a .called) .refusal ≡ 0 → Passed r t (c .clock) (c .interface) (length (c .output))) (eqb (bar r t c) 0)
@@ -47,15 +48,21 @@ module _ (r : Record) (bytes : List ℕ) (c : Call) (answer : List ℕ) (b : Cal
   left-refused : afterOf b t out ≡ nodeCall r (tableIn bytes) c → (a .refusal ≡ 0 → ⊥) → leftOf (a .refusal) r bytes out answer ≡ callLeft r bytes c answer
   unfolding callLeft pick
   left-refused e ne =
-      let same : out ≡ c .output = ap (λ (z : After). z .output) e ∙ call-still r (tableIn bytes) c (rw (is ∙ ap (λ (z : After). answerFrom (z .called)) e) at ne) .2 in
+      let same : out ≡ c .output =
+      ap (λ (z : After). z .output) e ∙ call-still r (tableIn bytes) c (rw (is ∙ ap (λ (z : After). answerFrom (z .called)) e) at ne) .2 in
       rw (← e, ← is, ne-eqb (a .refusal) 0 ne, same) refl
 
   -- a table of another length is refused
-  pub other-length : (length bytes ≡ tableBytes → ⊥) → afterOf b t out ≡ nodeCall r (0 ∷ []) c → leftOf (a .refusal) r bytes out answer ≡ callLeft r bytes c answer
+  pub other-length : (length bytes ≡ tableBytes → ⊥) → afterOf b t out ≡ nodeCall r (0 ∷ []) c
+      → leftOf (a .refusal) r bytes out answer ≡ callLeft r bytes c answer
   unfolding tableIn pick
   other-length ne e =
       left-refused (rw (ne-eqb (length bytes) tableBytes ne) e)
-      (λ none. omega (arith, table-sized (c .clock) (0 ∷ []) (call-passed r (0 ∷ []) c (ap (λ (z : After). answerFrom (z .called) .refusal) (sym e) ∙ ap (λ (z : A.CallNumbers). z .refusal) (sym is) ∙ none) .table)))
+      (λ none. omega (
+        arith,
+        table-sized (c .clock) (0 ∷ []) (call-passed r (0 ∷ []) c
+            (ap (λ (z : After). answerFrom (z .called) .refusal) (sym e) ∙ ap (λ (z : A.CallNumbers). z .refusal) (sym is) ∙ none) .table),
+      ))
 
   module _ (numbers : List ℕ) (sized : length bytes ≡ tableBytes) (numbers-are : numbers ≡ loaded bytes) (e : afterOf b t out ≡ nodeCall r numbers c) where
     in-bytes : afterOf b t out ≡ nodeCall r (tableIn bytes) c

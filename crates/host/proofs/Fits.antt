@@ -122,7 +122,8 @@ module _ (r : Record) (t : List ℕ) (c : Call) where
     unfolding nodeCall
     call-goes = both P _ (received-goes (readOf (c .message)) refl) (refuses _)
 
-  -- of the record and the table that it leaves, as of those that it was given, of those at its clock, and of those that a relay leaves
+  -- of the record and the table that it leaves, as of those that it was given, of those at its clock, and of those that
+  -- a relay leaves
   pub call-leaves : (P : Record → List ℕ → Type 0) → P node table
       → ((s : Spread) → RoleIn (c .message) (Role.Spreads s)
       → P (tallied node (ones (others node (c .interface)))) (putRow table (lowestFree table) (keyIn (c .message) s) (c .clock)))
@@ -181,7 +182,8 @@ state-fits f side =
     both StateFits _ tt
     (pick-case StateFits _ (λ _. tt)
     (λ session. pick-case StateFits _ (λ _. tt)
-    (λ count. both StateFits _ tt (both StateFits _ tt (both StateFits _ (omega (arith, ltb-false mostNumber (getD f 1 0) session), omega (arith, ltb-false 255 (getD f 2 0) count)) tt)))))
+    (λ count. both StateFits _ tt (both StateFits _ tt
+    (both StateFits _ (omega (arith, ltb-false mostNumber (getD f 1 0) session), omega (arith, ltb-false 255 (getD f 2 0) count)) tt)))))
 
 numbers-wide : (n : ℕ) (b : List ℕ) → Bytes b → Wide (numbersIn n b)
 unfolding numbersIn

@@ -1,4 +1,5 @@
--- What a call hands back to C is what the next call takes: no number is lost between them. For readers: each statement at the end stands alone.
+-- What a call hands back to C is what the next call takes: no number is lost between them. For readers: each statement
+-- at the end stands alone.
 -- Assumes nothing.
 use Prim.Native.Nat.{ℕ, _^_, _≤_, _<_}
 use mathlib.Core.Path.{_≡_, refl, sym, ap, _∙_, subst}
@@ -66,18 +67,25 @@ call-address r t c = call-leaves r t c (λ r′ _. r′ .address ≡ r .address)
 pub record-back : (r : Record) → RecordFits r → nodeOf (r .address) (nodeNumbers r) ≡ r
 unfolding nodeOf nodeNumbers pick
 record-back r f =
-    rw (lt-leb (2 ^ 16) (r .port) (f .port), lt-leb (2 ^ 32) (r .ttl) (f .ttl), lt-leb (2 ^ 8) (r .interfaces) (f .interfaces), lt-leb (2 ^ 8) (r .links) (f .links)) refl
+    rw (
+      lt-leb (2 ^ 16) (r .port) (f .port),
+      lt-leb (2 ^ 32) (r .ttl) (f .ttl),
+      lt-leb (2 ^ 8) (r .interfaces) (f .interfaces),
+      lt-leb (2 ^ 8) (r .links) (f .links),
+    ) refl
 
 -- A state's numbers say that state, for a step by either side.
 pub state-back : (s : State) (side : ℕ) → side ≤ 1 → StateFits s → stateOf (stateNumbers s) side ≡ s
 unfolding stateOf stateNumbers sideOf pick
 state-back Fresh side l f = rw (le-ltb 1 side l) refl
 state-back (Open session count Us) side l f = rw (le-ltb 1 side l, le-ltb mostNumber session (omega (arith, f .0)), le-ltb 255 count (omega (arith, f .1))) refl
-state-back (Open session count Them) side l f = rw (le-ltb 1 side l, le-ltb mostNumber session (omega (arith, f .0)), le-ltb 255 count (omega (arith, f .1))) refl
+state-back (Open session count Them) side l f =
+    rw (le-ltb 1 side l, le-ltb mostNumber session (omega (arith, f .0)), le-ltb 255 count (omega (arith, f .1))) refl
 state-back Closed side l f = rw (le-ltb 1 side l) refl
 
 -- The record that a fresh one, a setting of links and a node call give fits.
-pub fresh-record-fits : (address : List ℕ) (port ttl interfaces mask : ℕ) → port < 2 ^ 16 → ttl < 2 ^ 32 → RecordFits (fresh address port ttl interfaces mask .node)
+pub fresh-record-fits : (address : List ℕ) (port ttl interfaces mask : ℕ) → port < 2 ^ 16 → ttl < 2 ^ 32
+    → RecordFits (fresh address port ttl interfaces mask .node)
 unfolding fresh
 fresh-record-fits address port ttl interfaces mask p l =
     pick-case KeptFits (linksBad interfaces mask) (λ _. blank-fits)
@@ -98,7 +106,8 @@ pub call-record-fits : (r : Record) (t : List ℕ) (c : Call) → RecordFits r �
 unfolding clocked tallied
 call-record-fits r t c f = call-leaves r t c (λ r′ _. RecordFits r′) (counted-fits _ _ f) (λ _ _. counted-fits _ _ f) f
 
--- A table of 256 numbers of 64 bits stays one, by a node call whose clock has 64 bits and whose message is made of bytes, as C's are.
+-- A table of 256 numbers of 64 bits stays one, by a node call whose clock has 64 bits and whose message is made of
+-- bytes, as C's are.
 pub call-table-fits : (r : Record) (t : List ℕ) (c : Call) → c .clock < 2 ^ 64 → Bytes (c .message) → TableFits t → TableFits (nodeCall r t c .table)
 unfolding freed keyIn
 call-table-fits r t c clock bytes w =
@@ -120,16 +129,19 @@ step-fits s message sender next fits moved = let (m, read, allowed) = moved-exac
     go read (Allowed.end n some) f = tt
 
 -- The numbers that are put are those of the record that is kept.
-pub kept-back : (address f : List ℕ) (k : RecordAnswer) → (k .refusal ≡ 0 → RecordFits (k .node) × (k .node .address ≡ address)) → ((k .refusal ≡ 0 → ⊥) → k .node ≡ nodeOf address f)
+pub kept-back : (address f : List ℕ) (k : RecordAnswer) → (k .refusal ≡ 0 → RecordFits (k .node) × (k .node .address ≡ address))
+    → ((k .refusal ≡ 0 → ⊥) → k .node ≡ nodeOf address f)
     → nodeOf address (numbersAfter k f) ≡ k .node
 unfolding numbersAfter
 kept-back address f k given refused =
     pick-case (λ (l : List ℕ). nodeOf address l ≡ k .node) (eqb (k .refusal) 0)
     (λ e. let (fits, same) = given (eqb-true (k .refusal) 0 e) in rw (← same) (record-back (k .node) fits)) (λ e. sym (refused (eqb-false (k .refusal) 0 e)))
 
--- A node call leaves what the node call on the table that its bytes hold leaves: the number of the refusal and the record.
+-- A node call leaves what the node call on the table that its bytes hold leaves: the number of the refusal and the
+-- record.
 pub left-back : (r : Record) (bytes : List ℕ) (c : Call) (answer : List ℕ) → length bytes ≡ tableBytes
-    → (callLeft r bytes c answer .refusal ≡ answerFrom (nodeCall r (loaded bytes) c .called) .refusal) × (callLeft r bytes c answer .node ≡ nodeCall r (loaded bytes) c .called .node)
+    → (callLeft r bytes c answer .refusal ≡ answerFrom (nodeCall r (loaded bytes) c .called) .refusal)
+    × (callLeft r bytes c answer .node ≡ nodeCall r (loaded bytes) c .called .node)
 unfolding callLeft
 left-back r bytes c answer sized =
     rw (table-in bytes sized)

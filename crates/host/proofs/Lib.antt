@@ -1,4 +1,5 @@
--- For readers: `Numbers`, the relay table between its bytes and its numbers; `HandedBack`, what a call hands back is what the next call takes.
+-- For readers: `Numbers`, the relay table between its bytes and its numbers; `HandedBack`, what a call hands back is
+-- what the next call takes.
 pub mod Numbers
 pub mod HandedBack
 -- For callers' proofs: `Fits`, numbers within their widths.

@@ -50,7 +50,8 @@ module _ (b : List ℕ) where
   ]
 
   pub load-turn : (i x₀ x₁ x₂ x₃ : ℕ) (t : List ℕ) → Loading i t → x₀ ≡ bigEndian (drop (8 * i) b) 8 → x₁ ≡ bigEndian (drop (8 * (i + 1)) b) 8
-      → x₂ ≡ bigEndian (drop (8 * (i + 2)) b) 8 → x₃ ≡ bigEndian (drop (8 * (i + 3)) b) 8 → Loading (i + 4) (set (set (set (set t i x₀) (i + 1) x₁) (i + 2) x₂) (i + 3) x₃)
+      → x₂ ≡ bigEndian (drop (8 * (i + 2)) b) 8 → x₃ ≡ bigEndian (drop (8 * (i + 3)) b) 8
+      → Loading (i + 4) (set (set (set (set t i x₀) (i + 1) x₁) (i + 2) x₂) (i + 3) x₃)
   load-turn i x₀ x₁ x₂ x₃ t l q₀ q₁ q₂ q₃ =
       simp (q₀, q₁, q₂, q₃, towards-suc)
       (load-step _ _ (load-step _ _ (load-step _ _ (load-step i t l))))
@@ -86,7 +87,8 @@ module _ (t : List ℕ) where
   ]
 
   pub save-turn : (i : ℕ) (b b₁ b₂ b₃ b₄ : List ℕ) → Saving i b → b₁ ≡ sets b (8 * i) (bytesOf 8 (getD t i 0))
-      → b₂ ≡ sets b₁ (8 * (i + 1)) (bytesOf 8 (getD t (i + 1) 0)) → b₃ ≡ sets b₂ (8 * (i + 2)) (bytesOf 8 (getD t (i + 2) 0)) → b₄ ≡ sets b₃ (8 * (i + 3)) (bytesOf 8 (getD t (i + 3) 0))
+      → b₂ ≡ sets b₁ (8 * (i + 1)) (bytesOf 8 (getD t (i + 1) 0)) → b₃ ≡ sets b₂ (8 * (i + 2)) (bytesOf 8 (getD t (i + 2) 0))
+      → b₄ ≡ sets b₃ (8 * (i + 3)) (bytesOf 8 (getD t (i + 3) 0))
       → Saving (i + 4) b₄
   save-turn i b b₁ b₂ b₃ b₄ l q₁ q₂ q₃ q₄ =
       simp (q₄, q₃, q₂, q₁, towards-suc)

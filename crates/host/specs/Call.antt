@@ -34,8 +34,10 @@ upNumber false = 0
 
 -- a reply beside a record
 unfoldable pub replyNumbers : Reply → Record → A.CallNumbers
-replyNumbers (Refused number) r = record { refusal = number; verdict = 0; «handed_up» = 0; mask = 0; length = 0; node = r }
-replyNumbers (Given v up mask len) r = record { refusal = 0; verdict = verdictNumber v; «handed_up» = upNumber up; mask = mask; length = len; node = r }
+replyNumbers (Refused number) r =
+    record { refusal = number; verdict = 0; «handed_up» = 0; mask = 0; length = 0; node = r }
+replyNumbers (Given v up mask len) r =
+    record { refusal = 0; verdict = verdictNumber v; «handed_up» = upNumber up; mask = mask; length = len; node = r }
 
 -- a call's answer
 unfoldable pub answerFrom : CallAnswer → A.CallNumbers
@@ -59,11 +61,13 @@ pub record Left : Type 0 where
 
 -- what is left, part by part
 abbrev pub leftOf : ℕ → Record → List ℕ → List ℕ → List ℕ → Left
-leftOf refusal node table output answer = record { refusal = refusal; node = node; table = table; output = output; answer = answer }
+leftOf refusal node table output answer =
+    record { refusal = refusal; node = node; table = table; output = output; answer = answer }
 
 -- a refusal leaves all as it was
 unfoldable pub callLeft : Record → List ℕ → Call → List ℕ → Left
 callLeft r bytes c answer =
     let after = nodeCall r (tableIn bytes) c in
     let a = answerFrom (after .called) in
-    pick (eqb (a .refusal) 0) (leftOf 0 (a .node) (saved (after .table)) (after .output) (answerNumbers a)) (leftOf (a .refusal) r bytes (c .output) answer)
+    pick (eqb (a .refusal) 0) (leftOf 0 (a .node) (saved (after .table)) (after .output) (answerNumbers a))
+    (leftOf (a .refusal) r bytes (c .output) answer)

@@ -1,4 +1,5 @@
--- A node's record as a host keeps it: beside its address a record's numbers are its port, ttl, interfaces, links, clock and tally.
+-- A node's record as a host keeps it: beside its address a record's numbers are its port, ttl, interfaces, links, clock
+-- and tally.
 use Prim.Native.Nat.{ℕ, _^_}
 use mathlib.Core.List.{List, [], _∷_}
 use lib.ListN.{getD}

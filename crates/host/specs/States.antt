@@ -1,4 +1,5 @@
--- The state of a negotiation as a host keeps it: four numbers, its phase (0 fresh, 1 open, 2 closed), session, count and turn.
+-- The state of a negotiation as a host keeps it: four numbers, its phase (0 fresh, 1 open, 2 closed), session, count
+-- and turn.
 use Prim.Native.Nat.{ℕ}
 use mathlib.Core.List.{List, [], _∷_}
 use lib.ListN.{getD}
@@ -19,8 +20,8 @@ abbrev pub sideNumber : Side → ℕ
 sideNumber Us = 0
 sideNumber Them = 1
 
--- what the numbers say for a step by this side; a side, session, count, turn or phase that isn't one of ours closes the state, so that every message
--- is refused, by 20 where not by 1 to 11
+-- what the numbers say for a step by this side; a side, session, count, turn or phase that isn't one of ours closes the
+-- state, so that every message is refused, by 20 where not by 1 to 11
 unfoldable pub stateOf : List ℕ → ℕ → State
 stateOf f side =
     pick (ltb 1 side) Closed

@@ -1,4 +1,5 @@
--- What C's numbers and bytes can hold: a record, a relay table and a negotiation's state whose numbers have the widths of the code's types.
+-- What C's numbers and bytes can hold: a record, a relay table and a negotiation's state whose numbers have the widths
+-- of the code's types.
 use Prim.Native.Nat.{ℕ, _^_, _<_}
 use mathlib.Core.List.{List}
 use mathlib.Core.Path.{_≡_}

@@ -10,8 +10,9 @@ use node::call;
 use node_state::Record;
 use node_state::RecordAnswer;
 
-// A node call's answer: the number of the refusal, 0 for none; the verdict's number (the header names them), whether the message is handed up, the mask
-// of the interfaces to send on, how many bytes to send, all 0 for a refusal; and the record.
+// A node call's answer: the number of the refusal, 0 for none; the verdict's number (the header names them), whether
+// the message is handed up, the mask of the interfaces to send on, how many bytes to send, all 0 for a refusal; and the
+// record.
 pub struct CallNumbers {
     pub refusal: u8,
     pub verdict: u8,
@@ -21,7 +22,8 @@ pub struct CallNumbers {
     pub node: Record,
 }
 
-// The number of the refusal and the record; the answer goes into four numbers: verdict, handed up, mask, length. A refusal leaves all as it was.
+// The number of the refusal and the record; the answer goes into four numbers: verdict, handed up, mask, length. A
+// refusal leaves all as it was.
 pub fn call_into(
     node: Record,
     bytes: &mut [u8],
@@ -32,7 +34,10 @@ pub fn call_into(
     out: &mut [u8],
     answer: &mut [u64; 4],
 ) -> RecordAnswer
-    ensures { λ r. ⌜ leftOf (r .refusal) (r .node) (now (bytes .exit)) (now (out .exit)) (now (answer .exit)) ≡ callLeft node (now (bytes .entry)) (callOf clock interface (now (names .entry)) (now (message .entry)) (now (out .entry))) (now (answer .entry)) ⌝ }
+    ensures { λ r. ⌜ leftOf (r .refusal) (r .node) (now (bytes .exit)) (now (out .exit)) (now (answer .exit))
+        ≡ callLeft node (now (bytes .entry))
+        (callOf clock interface (now (names .entry)) (now (message .entry)) (now (out .entry)))
+        (now (answer .entry)) ⌝ }
 {
     if bytes.len() != 2048 {
         let mut none = [0u64; 1];

@@ -1,4 +1,5 @@
-// A node's record as a host keeps it: its address, 16 bytes, and six numbers, its port, ttl, interfaces, links, clock and tally.
+// A node's record as a host keeps it: its address, 16 bytes, and six numbers, its port, ttl, interfaces, links, clock
+// and tally.
 ghost use mathlib.Core.Path.{_≡_};
 ghost use Rattle.node_state.specs.Record.{blank};
 ghost use Rattle.host.specs.Records.{nodeOf, nodeNumbers, numbersAfter, freshOver};

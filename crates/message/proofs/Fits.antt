@@ -42,7 +42,8 @@ module _ (s : List ℕ) where
       next : ((at′ bad′ : ℕ) → at′ ≤ length s → LocatorsRan n at′ (locatorsFrom s n at′ bad′)) → (x : LocatorRead) → LocatorOk (length s - at) x
           → LocatorsRan (suc n) at (locatorThen (locatorsFrom s n) at bad x)
       next go (LocatorRead.Bad place) h = tt
-      next go (LocatorRead.Got l size b) h = locators-more n at size (locatorsFrom s n (at + size) (firstOf bad b)) (h .0) (go (at + size) (firstOf bad b) (omega arith))
+      next go (LocatorRead.Got l size b) h =
+          locators-more n at size (locatorsFrom s n (at + size) (firstOf bad b)) (h .0) (go (at + size) (firstOf bad b) (omega arith))
 
   abbrev pub PairsRan : ℕ → ℕ → PairsRead → Type 0
   PairsRan n at (PairsRead.Bad place) = Unit {0}
@@ -61,7 +62,8 @@ module _ (s : List ℕ) where
           → PairsRan (suc n) at (pairThen (pairsFrom s n) at bad long x)
       next go (PairRead.Bad place) h = tt
       next go (PairRead.Got o t size b l) h =
-          pairs-more n at size (pairsFrom s n (at + size) (firstOf bad b) (firstOf long l)) (h .1) (go (at + size) (firstOf bad b) (firstOf long l) (omega arith))
+          pairs-more n at size (pairsFrom s n (at + size) (firstOf bad b) (firstOf long l)) (h .1)
+          (go (at + size) (firstOf bad b) (firstOf long l) (omega arith))
 
 -- ---- the turns of the loops
 module _ (s : List ℕ) (n from : ℕ) where
@@ -83,7 +85,8 @@ module _ (s : List ℕ) (n from : ℕ) where
   unfolding locatorsFrom pick
   next left at bad b r x h e f g q i = let one : left ≡ suc (left - 1) = omega arith in rw (sym e ∙ f, sym g ∙ q) at (rw one at i)
 
-  pub located-bad : (left at bad place : ℕ) (b : Bool) (r : LocatorRead) → 0 < left → b ≡ textLed s at → b ≡ false → r ≡ locatorAt s at → r ≡ LocatorRead.Bad place
+  pub located-bad : (left at bad place : ℕ) (b : Bool) (r : LocatorRead) → 0 < left → b ≡ textLed s at → b ≡ false
+      → r ≡ locatorAt s at → r ≡ LocatorRead.Bad place
       → Located left at bad → LocatorsRead.Bad place ≡ locatorsFrom s n from 0
   unfolding locatorThen
   located-bad left at bad place b r = next left at bad b r (LocatorRead.Bad place)

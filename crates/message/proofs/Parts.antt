@@ -1,6 +1,6 @@
--- What is known of a message that was examined, of any list of numbers: that its session has 32 bits and a count is at most 255, where an
--- initiator, the objective of a Discovery, a Flood or an exchange, and its parts lie, and that each locator and each pair has six bytes at least; and of a
--- refusal, that its number is at most 11.
+-- What is known of a message that was examined, of any list of numbers: that its session has 32 bits and a count is at
+-- most 255, where an initiator, the objective of a Discovery, a Flood or an exchange, and its parts lie, and that each
+-- locator and each pair has six bytes at least; and of a refusal, that its number is at most 11.
 -- Assumes nothing.
 use mathlib.Core.Path.{_≡_, refl, subst}
 use mathlib.Core.List.{List}
@@ -95,7 +95,8 @@ unfolding isInitiator
 initiated t q =
     let size = eqb (t .arg) 4 || eqb (t .arg) 16 in (
       eqb-true (t .major) 2 (and-left (eqb (t .major) 2) size q),
-      ⊎-elim (λ e. inl (eqb-true (t .arg) 4 e)) (λ e. inr (eqb-true (t .arg) 16 e)) (or-true (eqb (t .arg) 4) (eqb (t .arg) 16) (and-right (eqb (t .major) 2) size q)),
+      ⊎-elim (λ e. inl (eqb-true (t .arg) 4 e)) (λ e. inr (eqb-true (t .arg) 16 e))
+          (or-true (eqb (t .arg) 4) (eqb (t .arg) 16) (and-right (eqb (t .major) 2) size q)),
     )
 
 module _ (s : List ℕ) where
@@ -148,20 +149,24 @@ module _ (s : List ℕ) where
         let end = tokenAt s next .next in
         both ShapeParts _
         (pick-case ShapeParts _ (λ _. tt)
-        (λ e. pick-case ShapeParts _ (λ f. discovered-parts _ end _ _ one (token-end s next) (opened next (ltb-false mostNumber _ e) f) (objective-read end)) (λ _. tt))) tt
+        (λ e. pick-case ShapeParts _
+        (λ f. discovered-parts _ end _ _ one (token-end s next) (opened next (ltb-false mostNumber _ e) f) (objective-read end)) (λ _. tt))) tt
 
     -- Flood
-    flooded-by : (from n at : ℕ) (opening : Opening) (first : Pair) (x : PairsRead) → kind ≡ 9 → Opened s (opening .session) (opening .initiator) → ObjectiveParts (length s) (first .objective)
+    flooded-by : (from n at : ℕ) (opening : Opening) (first : Pair) (x : PairsRead) → kind ≡ 9 → Opened s (opening .session) (opening .initiator)
+        → ObjectiveParts (length s) (first .objective)
         → PairsRan s (n - 1) at x → 6 ≤ at → ShapeParts (floodedBy opening first (record { at = from; many = n }) x)
     unfolding floodedBy
     flooded-by from n at opening first (PairsRead.Bad place) nine h parts ran six = tt
     flooded-by from n at opening first (PairsRead.Ran end bad long) nine h parts ran six = (nine, (h, parts, omega arith))
 
-    flooded-of : (n at : ℕ) (opening : Opening) (x : PairRead) → kind ≡ 9 → Opened s (opening .session) (opening .initiator) → PairOk at (length s - at) x → ShapeParts (floodedOf s opening n at x)
+    flooded-of : (n at : ℕ) (opening : Opening) (x : PairRead) → kind ≡ 9 → Opened s (opening .session) (opening .initiator) → PairOk at (length s - at) x
+        → ShapeParts (floodedOf s opening n at x)
     unfolding floodedOf
     flooded-of n at opening (PairRead.Bad place) nine h ok = tt
     flooded-of n at opening (PairRead.Got o tag size bad long) nine h ok =
-        flooded-by at n (at + size) opening _ _ nine h (objective-in (omega arith) (ok .0)) (pairs-ran s (n - 1) (at + size) bad long (omega arith)) (omega arith)
+        flooded-by at n (at + size) opening _ _ nine h (objective-in (omega arith) (ok .0))
+        (pairs-ran s (n - 1) (at + size) bad long (omega arith)) (omega arith)
 
     flood-parts : (n at : ℕ) → kind ≡ 9 → ShapeParts (floodAt s n at)
     unfolding floodAt floodBy floodedAt
@@ -211,7 +216,8 @@ module _ (s : List ℕ) where
         both ShapeParts _ tt (both ShapeParts _ tt (both ShapeParts _ tt
         (both ShapeParts _ (both ShapeParts _ (tt, h) (tt, h)) (both ShapeParts _ tt (both ShapeParts _ (both ShapeParts _ (tt, h) tt) tt)))))
 
-    exchanged-parts : (session at : ℕ) (x : ObjectiveRead) → session ≤ mostNumber → at ≤ length s → ObjectiveOk at (length s - at) x → ShapeParts (exchanged kind session at x)
+    exchanged-parts : (session at : ℕ) (x : ObjectiveRead) → session ≤ mostNumber → at ≤ length s → ObjectiveOk at (length s - at) x
+        → ShapeParts (exchanged kind session at x)
     unfolding exchanged exchangeOf
     exchanged-parts session at (ObjectiveRead.Bad place) h low ok = tt
     exchanged-parts session at (ObjectiveRead.Got o size bad long) h low ok =
@@ -230,7 +236,8 @@ module _ (s : List ℕ) where
         (both P _ (both P _ (pick-case P _ (λ _. tt) (λ e. option-parts _ _ (ltb-false mostNumber _ e))) tt)
         (both P _ (both P _ (pick-case P _ (λ _. tt) (λ e. both P _ tt (tt, ltb-false mostNumber _ e))) tt)
         (pick-case P _ (λ e. flood-parts n at (eqb-true kind 9 e))
-        (λ _. both P _ (both P _ tt (both P _ tt (pick-case P _ (λ _. tt) (λ e. both P _ (tt, ltb-false mostNumber _ e) (both P _ tt (tt, ltb-false mostNumber _ e))))))
+        (λ _. both P _
+        (both P _ tt (both P _ tt (pick-case P _ (λ _. tt) (λ e. both P _ (tt, ltb-false mostNumber _ e) (both P _ tt (tt, ltb-false mostNumber _ e))))))
         (both P _ (pick-case P _ (λ _. tt) (λ e. exchanged-parts _ _ _ (ltb-false mostNumber _ e) (token-end s at) (objective-read _))) tt)))))))
       where
         P : Shape → Type 0

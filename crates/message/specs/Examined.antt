@@ -1,4 +1,5 @@
--- What `message::examine` answers: the message that the parts at the start of s make up, or 8, 9, 11 or 10, in this order.
+-- What `message::examine` answers: the message that the parts at the start of s make up, or 8, 9, 11 or 10, in this
+-- order.
 use Prim.Native.Nat.{ℕ}
 use mathlib.Core.List.{List}
 use lib.Dec.{ltb, eqb}
@@ -26,7 +27,8 @@ byKind s kind n at =
 -- refusal 9, then 11, then 10
 unfoldable pub judgedShape : Shape → Examined
 judgedShape (Shape.Bad place) = Refused 9 place
-judgedShape (Shape.Good m end bad long) = unless (eqb bad 0) (Refused 11 bad) (unless (eqb long 0) (Refused 10 long) (Accepted m end))
+judgedShape (Shape.Good m end bad long) =
+    unless (eqb bad 0) (Refused 11 bad) (unless (eqb long 0) (Refused 10 long) (Accepted m end))
 
 -- by the message's parts alone: 9 for what is no array or has no number first, 8 for an unknown kind, then by the kind
 unfoldable pub examined : List ℕ → Examined
@@ -35,5 +37,6 @@ examined s =
     let k = tokenAt s (a .next) in
     pick (eqb (itemsIn a) 0) (Refused 9 0)
     (unless (eqb (k .major) 0) (Refused 9 (k .at))
-    (pick (ltb 9 (k .arg)) (unless (eqb (k .arg) 99) (Refused 8 (k .at)) (judgedShape (byKind s (k .arg) (a .arg) (k .next))))
+    (pick (ltb 9 (k .arg))
+    (unless (eqb (k .arg) 99) (Refused 8 (k .at)) (judgedShape (byKind s (k .arg) (a .arg) (k .next))))
     (judgedShape (byKind s (k .arg) (a .arg) (k .next)))))

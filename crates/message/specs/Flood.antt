@@ -19,13 +19,15 @@ use Rattle.message.specs.Sequence.{pairsFrom}
 -- a Flood whose other pairs were read
 unfoldable pub floodedBy : Opening → Pair → Series → PairsRead → Shape
 floodedBy o first pairs (PairsRead.Bad place) = Bad place
-floodedBy o first pairs (PairsRead.Ran end bad long) = Good (M.Flood (o .session) (o .initiator) (o .ttl) first pairs) end bad long
+floodedBy o first pairs (PairsRead.Ran end bad long) =
+    Good (M.Flood (o .session) (o .initiator) (o .ttl) first pairs) end bad long
 
 -- one whose first pair was read; n pairs from `at` on in all
 unfoldable pub floodedOf : List ℕ → Opening → ℕ → ℕ → PairRead → Shape
 floodedOf s opening n at (PairRead.Bad place) = Bad place
 floodedOf s opening n at (PairRead.Got objective tag size bad long) =
-    floodedBy opening (record { objective = objective; tag = tag }) (record { at = at; many = n }) (pairsFrom s (n - 1) (at + size) bad long)
+    floodedBy opening (record { objective = objective; tag = tag }) (record { at = at; many = n })
+    (pairsFrom s (n - 1) (at + size) bad long)
 
 -- n pairs from `at` on
 unfoldable pub floodedAt : List ℕ → Opening → ℕ → ℕ → Shape

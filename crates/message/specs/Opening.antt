@@ -14,7 +14,8 @@ use Rattle.message.specs.declared.opening.OpeningRead.the-variants.{Bad,
 abbrev pub mostNumber : ℕ
 mostNumber = 4294967295
 
--- how many levels are open around the value of an objective that stands in the message: the message's and the objective's own
+-- how many levels are open around the value of an objective that stands in the message: the message's and the
+-- objective's own
 abbrev pub objectiveLevels : ℕ
 objectiveLevels = 2
 

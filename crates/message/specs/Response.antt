@@ -28,18 +28,21 @@ module _ (s : List ℕ) (opening : Opening) where
   unfoldable pub restOf : Targets → ℕ → ℕ → ℕ → ObjectiveRead → Shape
   restOf targets left at bad (ObjectiveRead.Bad place) = Bad place
   restOf targets left at bad (ObjectiveRead.Got o size bad′ long) =
-      unless (eqb left 1) (Bad (at + size)) (Good (responseOf opening targets (Extra.With o)) (at + size) (firstOf bad bad′) long)
+      unless (eqb left 1) (Bad (at + size))
+      (Good (responseOf opening targets (Extra.With o)) (at + size) (firstOf bad bad′) long)
 
   -- what follows the locators or the divert: nothing, or one objective
   unfoldable pub restAt : Targets → ℕ → ℕ → ℕ → Shape
   restAt targets left at bad =
-      pick (eqb left 0) (Good (responseOf opening targets Extra.Without) at bad 0) (restOf targets left at bad (objectiveAt objectiveLevels s at))
+      pick (eqb left 0) (Good (responseOf opening targets Extra.Without) at bad 0)
+      (restOf targets left at bad (objectiveAt objectiveLevels s at))
 
   -- a divert whose locators, so many, were read from `from` on; where a text leads one of them, that text departs
   unfoldable pub divertOf : ℕ → ℕ → ℕ → LocatorsRead → Shape
   divertOf left many from (LocatorsRead.Bad place) = Bad place
   divertOf left many from (LocatorsRead.Ran end over bad) =
-      unless (eqb over 0) (Bad (tokenAt s end .next)) (restAt (Targets.Divert (record { at = from; many = many })) left end bad)
+      unless (eqb over 0) (Bad (tokenAt s end .next))
+      (restAt (Targets.Divert (record { at = from; many = many })) left end bad)
 
   -- a divert of n items at `at`, its locators from `from` on; after it, `left` items of the message
   unfoldable pub divertAt : ℕ → ℕ → ℕ → ℕ → Shape
@@ -49,7 +52,8 @@ module _ (s : List ℕ) (opening : Opening) where
   unfoldable pub locatedOf : ℕ → ℕ → LocatorsRead → Shape
   locatedOf n at (LocatorsRead.Bad place) = Bad place
   locatedOf n at (LocatorsRead.Ran end left bad) =
-      pick (leb n left) (Bad (tokenAt s end .next)) (restAt (Targets.Locators (record { at = at; many = n - left })) left end bad)
+      pick (leb n left) (Bad (tokenAt s end .next))
+      (restAt (Targets.Locators (record { at = at; many = n - left })) left end bad)
 
   -- locators from `at` on, in n items
   unfoldable pub locatedAt : ℕ → ℕ → Shape

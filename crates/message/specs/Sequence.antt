@@ -25,7 +25,8 @@ unfoldable pub locatorThen : (ℕ → ℕ → LocatorsRead) → ℕ → ℕ → 
 locatorThen go at bad (LocatorRead.Bad place) = LocatorsRead.Bad place
 locatorThen go at bad (LocatorRead.Got l size bad′) = go (at + size) (firstOf bad bad′)
 
--- locators, n at most, up to an array that a text leads, which is an objective: where they end, how many of the n items are left, and the first bad text
+-- locators, n at most, up to an array that a text leads, which is an objective: where they end, how many of the n items
+-- are left, and the first bad text
 unfoldable pub locatorsFrom : List ℕ → ℕ → ℕ → ℕ → LocatorsRead
 locatorsFrom s zero at bad = LocatorsRead.Ran at 0 bad
 locatorsFrom s (suc n) at bad =

@@ -1,6 +1,7 @@
--- The shapes of the kinds but Response and Flood (RFC 8990, section 2.8 and its CDDL): a message s of n items in all, the first
--- after the kind at `at`. A good shape has the message, the place where its parts end, and the places of the first text that isn't UTF-8 and of the first name
--- that is too long, 0 for none; a bad one has the place of the first departure, which is the message's own, 0, where the number of items is wrong.
+-- The shapes of the kinds but Response and Flood (RFC 8990, section 2.8 and its CDDL): a message s of n items in all,
+-- the first after the kind at `at`. A good shape has the message, the place where its parts end, and the places of the
+-- first text that isn't UTF-8 and of the first name that is too long, 0 for none; a bad one has the place of the first
+-- departure, which is the message's own, 0, where the number of items is wrong.
 use Prim.Native.Nat.{ℕ, _+_}
 use mathlib.Core.List.{List}
 use lib.Dec.{ltb, eqb}
@@ -25,7 +26,8 @@ noopAt n at = unless (eqb n 1) (Bad 0) (Good M.Noop at 0 0)
 -- a Discovery whose objective was read at `at`
 unfoldable pub discovered : ℕ → Span → ℕ → ObjectiveRead → Shape
 discovered session initiator at (ObjectiveRead.Bad place) = Bad place
-discovered session initiator at (ObjectiveRead.Got o size bad long) = Good (M.Discovery session initiator o) (at + size) bad long
+discovered session initiator at (ObjectiveRead.Got o size bad long) =
+    Good (M.Discovery session initiator o) (at + size) bad long
 
 -- kind 1: session, initiator, objective
 unfoldable pub discoveryAt : List ℕ → ℕ → ℕ → Shape
@@ -94,7 +96,8 @@ optionAt s session at =
     pick (eqb (itemsIn o) 0) (Bad (o .at))
     (pick (ltb lead 101) (Bad (x .at))
     (pick (ltb 102 lead) (Bad (x .at))
-    (pick (eqb (o .arg) 1) (pick (eqb lead 101) (Good (M.End session Outcome.Accept) (x .next) 0 0) (Good (M.End session Outcome.Decline) (x .next) 0 0))
+    (pick (eqb (o .arg) 1) (pick (eqb lead 101) (Good (M.End session Outcome.Accept) (x .next) 0 0)
+    (Good (M.End session Outcome.Decline) (x .next) 0 0))
     (pick (eqb lead 101) (Bad (o .at))
     (unless (eqb (o .arg) 2) (Bad (o .at))
     (unless (eqb (t .major) 3) (Bad (t .at))

@@ -1,4 +1,5 @@
-// GRASP messages (RFC 8990): the eleven kinds and their shapes. What a message holds is told by numbers and by places in its bytes.
+// GRASP messages (RFC 8990): the eleven kinds and their shapes. What a message holds is told by numbers and by places
+// in its bytes.
 ghost use mathlib.Core.Path.{_≡_};
 ghost use Rattle.message.specs.Examined.{judgedShape, examined};
 use cbor::token;
@@ -94,8 +95,8 @@ pub enum Examined {
     Accepted { message: Message, end: usize },
 }
 
-// The message that s begins with, by its parts alone: 9 for what is no array or has no number first, 8 for an unknown kind, then by
-// the kind. What follows the message isn't looked at.
+// The message that s begins with, by its parts alone: 9 for what is no array or has no number first, 8 for an unknown
+// kind, then by the kind. What follows the message isn't looked at.
 pub fn examine(s: &[u8]) -> Examined
     ensures { λ r. ⌜ r ≡ examined (now (s .entry)) ⌝ }
 {

@@ -14,8 +14,8 @@ pub enum LocatorsRead {
     Ran { end: usize, left: u64, bad: usize },
 }
 
-// The place of the first departure; or where the pairs end, and the places of the first text that isn't UTF-8 and of the first
-// name over 64 bytes, else 0.
+// The place of the first departure; or where the pairs end, and the places of the first text that isn't UTF-8 and of
+// the first name over 64 bytes, else 0.
 pub enum PairsRead {
     Bad(usize),
     Ran { end: usize, bad: usize, long: usize },

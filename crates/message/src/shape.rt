@@ -1,6 +1,8 @@
-// The shapes of the kinds (RFC 8990, section 2.8), each judged by its number of items, then by its items from left to right.
+// The shapes of the kinds (RFC 8990, section 2.8), each judged by its number of items, then by its items from left to
+// right.
 ghost use mathlib.Core.Path.{_≡_};
-ghost use Rattle.message.specs.Shape.{noopAt, discoveryAt, exchangeOf, exchangeAt, waitAt, invalidAt, optionAt, endAt};
+ghost use Rattle.message.specs.Shape.{noopAt, discoveryAt, exchangeOf, exchangeAt};
+ghost use Rattle.message.specs.Shape.{waitAt, invalidAt, optionAt, endAt};
 ghost use Rattle.message.specs.Examined.{byKind};
 use crate::Message;
 use crate::flood;
@@ -17,11 +19,12 @@ use options::objective::ObjectiveRead;
 // How many levels are open around Invalid's item: the message's own.
 const ITEM_LEVELS: usize = 1;
 
-// How many levels are open around the value of an objective that stands in the message: the message's and the objective's own.
+// How many levels are open around the value of an objective that stands in the message: the message's and the
+// objective's own.
 pub(crate) const OBJECTIVE_LEVELS: usize = 2;
 
-// The place of the first departure from the shape; or a message, with the place where its parts end, and those of its first text
-// that isn't UTF-8 and of its first name over 64 bytes, else 0.
+// The place of the first departure from the shape; or a message, with the place where its parts end, and those of its
+// first text that isn't UTF-8 and of its first name over 64 bytes, else 0.
 pub enum Shape {
     Bad(usize),
     Good {

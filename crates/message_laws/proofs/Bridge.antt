@@ -1,5 +1,5 @@
--- Tokens and items: `split` and `join`, items that stand one after the other; what token is read of an item that stands in the bytes; and `token-heading`,
--- which head stands where a token was read.
+-- Tokens and items: `split` and `join`, items that stand one after the other; what token is read of an item that stands
+-- in the bytes; and `token-heading`, which head stands where a token was read.
 -- Assumes nothing.
 use mathlib.Core.Path.{_≡_, refl, sym, ap, ap₂, _∙_, subst}
 use mathlib.Core.Logic.{_⊎_, inl, inr}
@@ -156,10 +156,12 @@ module _ (s : List ℕ) (p : ℕ) (major width arg : ℕ) (r : List ℕ) (right 
   leaf-token (inl h) = headed ∙ rw (le-ltb 1 major (omega arith))
   leaf-token (inr h) = headed ∙ rw (lt-ltb 1 major (omega arith), le-ltb major 4 h)
 
-  string-token : 2 ≤ major → major < 4 → arg ≤ length r → tokenAt s p ≡ record { at = p; major = major; arg = arg; body = p + (1 + width); next = p + (1 + width) + arg }
+  string-token : 2 ≤ major → major < 4 → arg ≤ length r
+      → tokenAt s p ≡ record { at = p; major = major; arg = arg; body = p + (1 + width); next = p + (1 + width) + arg }
   unfolding tokenOf pick
   string-token lo hi fits =
-      let long : length (drop p s) ≡ (1 + width) + length r = ap length is ∙ length-append (headBytes major width arg) r ∙ ap (λ (n : ℕ). n + length r) (length-head major width arg) in
+      let long : length (drop p s) ≡ (1 + width) + length r =
+      ap length is ∙ length-append (headBytes major width arg) r ∙ ap (λ (n : ℕ). n + length r) (length-head major width arg) in
       headed ∙ rw (lt-ltb 1 major (omega arith), lt-ltb major 4 hi, le-leb arg (length (drop p s) - (1 + width)) (omega arith))
 
 -- ---- an item that stands in the bytes, as a token
@@ -171,7 +173,8 @@ number-token {s} {p} {e} {w} {n} a =
     rw end at (leaf-token s p 0 w n (drop e s) (a .good) (a .is) (inl (lit< tt)))
 
 -- null
-pub null-token : {s : List ℕ} {p e : ℕ} → Stands s p e (Item.simple 0 22) → (tokenAt s p ≡ record { at = p; major = 7; arg = 22; body = p + 1; next = p + 1 }) × (e ≡ p + 1)
+pub null-token : {s : List ℕ} {p e : ℕ} → Stands s p e (Item.simple 0 22)
+    → (tokenAt s p ≡ record { at = p; major = 7; arg = 22; body = p + 1; next = p + 1 }) × (e ≡ p + 1)
 unfolding encode
 null-token {s} {p} {e} a = (leaf-token s p 7 0 22 (drop e s) (a .good) (a .is) (inr (lit≤ tt)), a .end ∙ ap (λ (k : ℕ). p + k) (length-head 7 0 22))
 
@@ -283,12 +286,14 @@ module _ (s : List ℕ) (p major arg len : ℕ) (i : HeadIs (drop p s) major arg
       by v = w ≡ v → w .major < 8 → Heading s p w
 
       leaf : (2 ≤ major → major < 4 → ⊥) → by (record { at = p; major = major; arg = arg; body = p + len; next = p + len })
-      leaf other q h = subst (Heading s p) (sym q) (heading (p + len) (omega (arith, size, i .within, length-drop p s)) (λ _. refl) (λ lo hi. absurd (other lo hi)))
+      leaf other q h =
+          subst (Heading s p) (sym q) (heading (p + len) (omega (arith, size, i .within, length-drop p s)) (λ _. refl) (λ lo hi. absurd (other lo hi)))
 
 -- a token has the numbers of its head
 token-numbers : (p room major arg len : ℕ) (w : Token) → w ≡ tokenOf p room major arg len → w .major < 8 → (major ≡ w .major) × (arg ≡ w .arg)
 unfolding tokenOf nothingAt
-token-numbers p room major arg len w = both by (ltb 1 major) (both by (ltb major 4) (both by (leb arg (room - len)) same (λ q h. absurd (omega (arith, h, ap (λ (v : Token). v .major) q)))) same) same
+token-numbers p room major arg len w = both by (ltb 1 major)
+    (both by (ltb major 4) (both by (leb arg (room - len)) same (λ q h. absurd (omega (arith, h, ap (λ (v : Token). v .major) q)))) same) same
   where
     by : Token → Type 0
     by v = w ≡ v → w .major < 8 → (major ≡ w .major) × (arg ≡ w .arg)
@@ -297,11 +302,14 @@ token-numbers p room major arg len w = both by (ltb 1 major) (both by (ltb major
     same q h = (sym (ap (λ (v : Token). v .major) q), sym (ap (λ (v : Token). v .arg) q))
 
 -- so it is of the major type of a head that stands there
-pub headed-major : (s : List ℕ) (p major width arg : ℕ) (r : List ℕ) → Right major width arg → drop p s ≡ headBytes major width arg ++ r → tokenAt s p .major < 8 → major ≡ tokenAt s p .major
-headed-major s p major width arg r right is h = token-numbers p (length (drop p s)) major arg (1 + width) (tokenAt s p) (headed s p major width arg r right is) h .0
+pub headed-major : (s : List ℕ) (p major width arg : ℕ) (r : List ℕ) → Right major width arg → drop p s ≡ headBytes major width arg ++ r
+    → tokenAt s p .major < 8 → major ≡ tokenAt s p .major
+headed-major s p major width arg r right is h =
+    token-numbers p (length (drop p s)) major arg (1 + width) (tokenAt s p) (headed s p major width arg r right is) h .0
 
 -- one that was read has its head there, where a head that is read is without fault
-read-heading : (s : List ℕ) (p : ℕ) (w : Token) → ((major arg len : ℕ) → headAt (drop p s) ≡ HeadRead.Head major arg len → major ≡ w .major → arg ≡ w .arg → HeadIs (drop p s) major arg len)
+read-heading : (s : List ℕ) (p : ℕ) (w : Token)
+    → ((major arg len : ℕ) → headAt (drop p s) ≡ HeadRead.Head major arg len → major ≡ w .major → arg ≡ w .arg → HeadIs (drop p s) major arg len)
     → w ≡ tokenAt s p → w .major < 8 → Heading s p w
 unfolding tokenAt tokenFrom nothingAt
 read-heading s p w is = go (headAt (drop p s)) refl

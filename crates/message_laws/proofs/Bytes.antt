@@ -63,7 +63,8 @@ bytes-scalar c h =
     all (scalarBytes c)
     (pick-case P (ltb c 0x80) (λ e. (omega (arith, ltb-true c 0x80 e), tt))
     (λ _. pick-case P (ltb c 0x800) (λ e. (omega (arith, ltb-true c 0x800 e), (omega arith, tt)))
-    (λ _. pick-case P (ltb c 0x10000) (λ e. (omega (arith, ltb-true c 0x10000 e), (omega arith, (omega arith, tt)))) (λ _. (omega arith, (omega arith, (omega arith, (omega arith, tt))))))))
+    (λ _. pick-case P (ltb c 0x10000) (λ e. (omega (arith, ltb-true c 0x10000 e), (omega arith, (omega arith, tt))))
+    (λ _. (omega arith, (omega arith, (omega arith, (omega arith, tt))))))))
   where
     P : List ℕ → Type 0
     P = Every (λ (x : ℕ). x < 2 ^ 8)
@@ -90,7 +91,8 @@ mutual
   bytes-encode (Item.number n w k) g = bytes-head (cond n 1 0) w k (either n (lit< tt) (lit< tt)) (g .sized)
   bytes-encode (Item.string t w bs) g =
       bytes-append (headBytes (cond t 3 2) w (length bs)) bs (bytes-head (cond t 3 2) w (length bs) (either t (lit< tt) (lit< tt)) (g .0 .sized)) (g .1)
-  bytes-encode (Item.array w xs) g = bytes-append (headBytes 4 w (count xs)) (encodes xs) (bytes-head 4 w (count xs) (lit< tt) (g .0 .sized)) (bytes-encodes xs (g .1))
+  bytes-encode (Item.array w xs) g =
+      bytes-append (headBytes 4 w (count xs)) (encodes xs) (bytes-head 4 w (count xs) (lit< tt) (g .0 .sized)) (bytes-encodes xs (g .1))
   bytes-encode (Item.map w xs) g =
       bytes-append (headBytes 5 w (count xs / 2)) (encodes xs) (bytes-head 5 w (count xs / 2) (lit< tt) (g .0 .sized)) (bytes-encodes xs (g .2))
   bytes-encode (Item.tagged w n x) g = bytes-append (headBytes 6 w n) (encode x) (bytes-head 6 w n (lit< tt) (g .0 .sized)) (bytes-encode x (g .1))

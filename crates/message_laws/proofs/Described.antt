@@ -1,5 +1,5 @@
--- A message of the grammar is described in one way: each part stands right after the one before it, so every place follows from the start, and those of an
--- objective from its end too, as no head has another width.
+-- A message of the grammar is described in one way: each part stands right after the one before it, so every place
+-- follows from the start, and those of an objective from its end too, as no head has another width.
 -- Assumes nothing.
 use mathlib.Core.Path.{_≡_, refl, sym, ap, ap₂, _∙_, subst}
 use mathlib.Core.List.{List}
@@ -45,8 +45,10 @@ ends-once {s} {p} {e′ = e′} {y = y} q a b =
 -- the head of an array ends at one place
 pub head-once : {s : List ℕ} {p p′ q q′ n n′ : ℕ} → p ≡ p′ → ArrayHead s p q n → ArrayHead s p′ q′ n′ → q ≡ q′
 head-once {s} {p} {p′} {q} {q′} {n} {n′} e a b =
-    let first : headAt (drop p s) ≡ HeadRead.Head 4 n (length (headBytes 4 (a .width) n)) = ap headAt (a .is) ∙ head-read 4 (a .width) n (drop q s) (a .right) in
-    let second : headAt (drop p′ s) ≡ HeadRead.Head 4 n′ (length (headBytes 4 (b .width) n′)) = ap headAt (b .is) ∙ head-read 4 (b .width) n′ (drop q′ s) (b .right) in
+    let first : headAt (drop p s) ≡ HeadRead.Head 4 n (length (headBytes 4 (a .width) n)) =
+    ap headAt (a .is) ∙ head-read 4 (a .width) n (drop q s) (a .right) in
+    let second : headAt (drop p′ s) ≡ HeadRead.Head 4 n′ (length (headBytes 4 (b .width) n′)) =
+    ap headAt (b .is) ∙ head-read 4 (b .width) n′ (drop q′ s) (b .right) in
     let same : length (headBytes 4 (a .width) n) ≡ length (headBytes 4 (b .width) n′) = cc (ap (λ (k : ℕ). headAt (drop k s)) e) in
     omega (arith, a .end, b .end)
 
@@ -63,7 +65,8 @@ before-once : (content : List ℕ) {p p′ : ℕ} {i i′ : Span} → p ≡ p′
 before-once content e a b = a ∙ ap (λ (k : ℕ). spanOf (k - length content) (length content)) e ∙ sym b
 
 -- an initiator, and its span
-initiator-once : {s : List ℕ} {p p′ e e′ : ℕ} {i i′ : Span} {from : List ℕ} → p ≡ p′ → InitiatorIs s p e i from → InitiatorIs s p′ e′ i′ from → (e ≡ e′) × (i ≡ i′)
+initiator-once : {s : List ℕ} {p p′ e e′ : ℕ} {i i′ : Span} {from : List ℕ} → p ≡ p′ → InitiatorIs s p e i from → InitiatorIs s p′ e′ i′ from
+    → (e ≡ e′) × (i ≡ i′)
 initiator-once {from = from} q a b =
     let same = ends-once q (a .stands) (b .stands) in
     (same, before-once from same (a .held) (b .held))
@@ -72,11 +75,16 @@ initiator-once {from = from} q a b =
 -- no other width than the shortest is without fault
 pub short-width : {width arg : ℕ} → Sized width arg → leastOf width ≤ arg → width ≡ shortest arg
 unfolding leastOf pick
-short-width {arg = n} (Sized.in-first h) l = shortest-case (λ w. 0 ≡ w) n (λ _. refl) (λ a b. omega arith) (λ a b. omega arith) (λ a b. omega arith) (λ a. omega arith)
-short-width {arg = n} (Sized.one h) l = shortest-case (λ w. 1 ≡ w) n (λ a. omega arith) (λ _ _. refl) (λ a b. omega arith) (λ a b. omega arith) (λ a. omega arith)
-short-width {arg = n} (Sized.two h) l = shortest-case (λ w. 2 ≡ w) n (λ a. omega arith) (λ a b. omega arith) (λ _ _. refl) (λ a b. omega arith) (λ a. omega arith)
-short-width {arg = n} (Sized.four h) l = shortest-case (λ w. 4 ≡ w) n (λ a. omega arith) (λ a b. omega arith) (λ a b. omega arith) (λ _ _. refl) (λ a. omega arith)
-short-width {arg = n} (Sized.eight h) l = shortest-case (λ w. 8 ≡ w) n (λ a. omega arith) (λ a b. omega arith) (λ a b. omega arith) (λ a b. omega arith) (λ _. refl)
+short-width {arg = n} (Sized.in-first h) l =
+    shortest-case (λ w. 0 ≡ w) n (λ _. refl) (λ a b. omega arith) (λ a b. omega arith) (λ a b. omega arith) (λ a. omega arith)
+short-width {arg = n} (Sized.one h) l =
+    shortest-case (λ w. 1 ≡ w) n (λ a. omega arith) (λ _ _. refl) (λ a b. omega arith) (λ a b. omega arith) (λ a. omega arith)
+short-width {arg = n} (Sized.two h) l =
+    shortest-case (λ w. 2 ≡ w) n (λ a. omega arith) (λ a b. omega arith) (λ _ _. refl) (λ a b. omega arith) (λ a. omega arith)
+short-width {arg = n} (Sized.four h) l =
+    shortest-case (λ w. 4 ≡ w) n (λ a. omega arith) (λ a b. omega arith) (λ a b. omega arith) (λ _ _. refl) (λ a. omega arith)
+short-width {arg = n} (Sized.eight h) l =
+    shortest-case (λ w. 8 ≡ w) n (λ a. omega arith) (λ a b. omega arith) (λ a b. omega arith) (λ a b. omega arith) (λ _. refl)
 
 -- a number begins at one place
 number-begins : {s : List ℕ} {p p′ e e′ w w′ n : ℕ} → e ≡ e′ → Stands s p e (uint w n) → Stands s p′ e′ (uint w′ n) → p ≡ p′
@@ -97,7 +105,8 @@ span-ext : (i i′ : Span) → i .at ≡ i′ .at → i .len ≡ i′ .len → i
 span-ext i i′ a b = ap₂ spanOf a b
 
 -- objectives by their parts
-objective-ext : (o o′ : Objective) → o .name ≡ o′ .name → o .flags ≡ o′ .flags → o .count ≡ o′ .count → o .«count_at» ≡ o′ .«count_at» → o .value ≡ o′ .value → o ≡ o′
+objective-ext : (o o′ : Objective) → o .name ≡ o′ .name → o .flags ≡ o′ .flags → o .count ≡ o′ .count → o .«count_at» ≡ o′ .«count_at»
+    → o .value ≡ o′ .value → o ≡ o′
 objective-ext o o′ a b c d e = same a b c d e
   where
     of : Span → ℕ → ℕ → ℕ → Span → Objective
@@ -107,7 +116,8 @@ objective-ext o o′ a b c d e = same a b c d e
     same a b c d e = cc
 
 -- an objective, from where its flags stand
-objective-from : {s : List ℕ} {p p′ e e′ : ℕ} {o o′ : Objective} {obj : Obj Value} (a : ObjectiveIs s p e o obj) (b : ObjectiveIs s p′ e′ o′ obj) → a .flags-at ≡ b .flags-at → o ≡ o′
+objective-from : {s : List ℕ} {p p′ e e′ : ℕ} {o o′ : Objective} {obj : Obj Value} (a : ObjectiveIs s p e o obj) (b : ObjectiveIs s p′ e′ o′ obj)
+    → a .flags-at ≡ b .flags-at → o ≡ o′
 objective-from {o = o} {o′} {obj} a b flags =
     let counts = ends-once flags (a .flags-item) (b .flags-item) in
     let value = ends-once counts (a .count-item) (b .count-item) in
@@ -138,10 +148,12 @@ null-once null n n′ e = sym (back n) ∙ ap number e ∙ back n′
     back n = pick-case (λ (x : Option ℕ). number x ≡ n) (eqb n null) (λ t. sym (eqb-true n null t)) (λ _. refl)
 
 -- by a locator's items
-addressed-once : {p p′ : ℕ} {kind kind′ address address′ : Item} {l l′ : Locator} {loc : Loc} → p ≡ p′ → Addressed p kind address l loc → Addressed p′ kind′ address′ l′ loc → l ≡ l′
+addressed-once : {p p′ : ℕ} {kind kind′ address address′ : Item} {l l′ : Locator} {loc : Loc} → p ≡ p′ → Addressed p kind address l loc
+    → Addressed p′ kind′ address′ l′ loc → l ≡ l′
 addressed-once e (Addressed.v6 {protocol = protocol} {port} {a} h) (Addressed.v6 h′) = ap (λ (i : Span). L.V6 (i .at) protocol port) (before-once a e h h′)
 addressed-once e (Addressed.v4 {protocol = protocol} {port} {a} h) (Addressed.v4 h′) = ap (λ (i : Span). L.V4 (i .at) protocol port) (before-once a e h h′)
-addressed-once e (Addressed.domain {protocol = protocol} {port} {a = a} h) (Addressed.domain h′) = ap (λ (i : Span). L.Domain i protocol port) (before-once a e h h′)
+addressed-once e (Addressed.domain {protocol = protocol} {port} {a = a} h) (Addressed.domain h′) =
+    ap (λ (i : Span). L.Domain i protocol port) (before-once a e h h′)
 addressed-once e (Addressed.uri {protocol = protocol} {port} {a = a} h x y) (Addressed.uri {protocol = protocol′} {port = port′} h′ x′ y′) =
     let same = before-once a e h h′ in
     let first = null-once nullProtocol protocol protocol′ (x ∙ sym x′) in
@@ -152,14 +164,16 @@ addressed-once e (Addressed.uri {protocol = protocol} {port} {a = a} h x y) (Add
 tag-once : {s : List ℕ} {p p′ : ℕ} {t t′ : Tag} {loc : Option Loc} → p ≡ p′ → TagIs s p t loc → TagIs s p′ t′ loc → t ≡ t′
 tag-once q TagIs.empty TagIs.empty = refl
 tag-once q (TagIs.at a) (TagIs.at b) =
-    ap Tag.At (addressed-once (ends-once (ends-once (head-once q (a .opened) (b .opened)) (a .kind-item) (b .kind-item)) (a .address-item) (b .address-item)) (a .is) (b .is))
+    ap Tag.At (addressed-once (ends-once (ends-once (head-once q (a .opened) (b .opened)) (a .kind-item) (b .kind-item)) (a .address-item) (b .address-item))
+    (a .is) (b .is))
 
 -- a pair by its parts
 abbrev pair-of : Objective → Tag → P.Pair
 pair-of objective tag = record { objective = objective; tag = tag }
 
 -- from one start
-pair-once : {s : List ℕ} {p p′ : ℕ} {o o′ : Objective} {t t′ : Tag} {pair : Pair Value} → p ≡ p′ → PairIs s p o t pair → PairIs s p′ o′ t′ pair → pair-of o t ≡ pair-of o′ t′
+pair-once : {s : List ℕ} {p p′ : ℕ} {o o′ : Objective} {t t′ : Tag} {pair : Pair Value} → p ≡ p′ → PairIs s p o t pair → PairIs s p′ o′ t′ pair
+    → pair-of o t ≡ pair-of o′ t′
 pair-once q a b =
     let same = objective-once (head-once q (a .opened) (b .opened)) (a .objective) (b .objective) in
     let mid = a .objective .ends ∙ ap (λ (x : Objective). x .value .at + x .value .len) same ∙ sym (b .objective .ends) in
@@ -220,7 +234,8 @@ described-once (Describes.response {session} {ttl} k n i t a x) (Describes.respo
     let extra = extra-once x x′ in
     cc
 described-once (Describes.request-negotiation {session} _ _ o) (Describes.request-negotiation _ _ o′) = ap (M.RequestNegotiation session) (objective-ended o o′)
-described-once (Describes.request-synchronization {session} _ _ o) (Describes.request-synchronization _ _ o′) = ap (M.RequestSynchronization session) (objective-ended o o′)
+described-once (Describes.request-synchronization {session} _ _ o) (Describes.request-synchronization _ _ o′) =
+    ap (M.RequestSynchronization session) (objective-ended o o′)
 described-once (Describes.negotiate {session} _ _ o) (Describes.negotiate _ _ o′) = ap (M.Negotiate session) (objective-ended o o′)
 described-once (Describes.end {session} r) (Describes.end r′) = ap (M.End session) (outcome-once r r′)
 described-once Describes.wait Describes.wait = refl

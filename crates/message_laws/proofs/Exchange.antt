@@ -35,7 +35,8 @@ discovered-sound {s} {q = q} k i j (ObjectiveRead.Got o size bad long) e =
     let x = objective-sound objectiveLevels s q o size bad long (k .bytes) e in
     built k _ _ (Msg.discovery _ (j .content) (x .obj)) refl (join (i .is .stands) (join (j .is .stands) (last (x .stands))))
     (λ w v. MessageItem.discovery (Number.number (i .low)) (Initiator.initiator (j .size)) (x .is))
-    (λ full. Describes.discovery (k .is) (i .is) (j .is) (subst (λ (e : ℕ). ObjectiveIs s q e o (x .obj)) full (x .described))) (single (x .texts)) (single (x .names))
+    (λ full. Describes.discovery (k .is) (i .is) (j .is) (subst (λ (e : ℕ). ObjectiveIs s q e o (x .obj)) full (x .described))) (single (x .texts))
+    (single (x .names))
 
 -- what is read is a Discovery
 pub discovery-sound : {s : List ℕ} {n at : ℕ} → Kinded s 1 n at → ShapeOk s (discoveryAt s n at)
@@ -51,7 +52,8 @@ discovery-sound {s} {n} {at} k =
 
 -- an objective that stands is read
 pub objective-reads : {s : List ℕ} {p e : ℕ} {x : Item} {obj : Obj Value} → StandAll s p e (list (x ∷ [])) → depth x ≤ partLevels → ObjectiveItem x obj
-    → (f : ObjectiveRead → Shape) → ((o : Objective) (size bad long : ℕ) → Reads (f (ObjectiveRead.Got o size bad long))) → Reads (f (objectiveAt objectiveLevels s p))
+    → (f : ObjectiveRead → Shape) → ((o : Objective) (size bad long : ℕ) → Reads (f (ObjectiveRead.Got o size bad long)))
+    → Reads (f (objectiveAt objectiveLevels s p))
 objective-reads {s} a d i f reads =
     let (o, bad, long, same, _) = objective-read objectiveLevels (only a) d i in
     subst (λ (r : ObjectiveRead). Reads (f r)) (sym same) (reads o _ bad long)
@@ -74,7 +76,8 @@ pub data Exchange : ℕ → (ℕ → Obj Value → Msg Value) → Type 0 where
   synch : Exchange 8 Msg.synch
 
 -- the message's item
-exchange-item : {kind w v session : ℕ} {msg : ℕ → Obj Value → Msg Value} {i x : Item} {obj : Obj Value} → Exchange kind msg → Number i session → ObjectiveItem x obj
+exchange-item : {kind w v session : ℕ} {msg : ℕ → Obj Value → Msg Value} {i x : Item} {obj : Obj Value} → Exchange kind msg → Number i session
+    → ObjectiveItem x obj
     → MessageItem (array w (uint v kind ∷ i ∷ x ∷ [])) (msg session obj)
 exchange-item Exchange.request-negotiation = MessageItem.request-negotiation
 exchange-item Exchange.request-synchronization = MessageItem.request-synchronization
@@ -82,7 +85,8 @@ exchange-item Exchange.negotiate = MessageItem.negotiate
 exchange-item Exchange.synch = MessageItem.synch
 
 -- what describes it
-exchange-tells : {s : List ℕ} {kind p q session : ℕ} {msg : ℕ → Obj Value → Msg Value} {o : Objective} {obj : Obj Value} → Exchange kind msg → KindIs s kind p → NumberIs s p q session → ObjectiveIs s q (length s) o obj
+exchange-tells : {s : List ℕ} {kind p q session : ℕ} {msg : ℕ → Obj Value → Msg Value} {o : Objective} {obj : Obj Value} → Exchange kind msg → KindIs s kind p
+    → NumberIs s p q session → ObjectiveIs s q (length s) o obj
     → Describes s (exchangeOf kind session o) (msg session obj)
 unfolding exchangeOf pick
 exchange-tells Exchange.request-negotiation = Describes.request-negotiation
@@ -91,7 +95,8 @@ exchange-tells Exchange.negotiate = Describes.negotiate
 exchange-tells Exchange.synch = Describes.synch
 
 -- its only text and name
-exchange-text : {kind : ℕ} {msg : ℕ → Obj Value → Msg Value} (session : ℕ) (obj : Obj Value) → Exchange kind msg → (textsOf (msg session obj) ≡ obj .name ∷ []) × (namesOf (msg session obj) ≡ obj .name ∷ [])
+exchange-text : {kind : ℕ} {msg : ℕ → Obj Value → Msg Value} (session : ℕ) (obj : Obj Value) → Exchange kind msg
+    → (textsOf (msg session obj) ≡ obj .name ∷ []) × (namesOf (msg session obj) ≡ obj .name ∷ [])
 unfolding textsOf namesOf
 exchange-text session obj Exchange.request-negotiation = (refl, refl)
 exchange-text session obj Exchange.request-synchronization = (refl, refl)
@@ -111,7 +116,8 @@ exchanged-sound {s} {p = p} {session} {msg} c k i (ObjectiveRead.Got o size bad 
     (rw text (single (x .texts))) (rw name (single (x .names)))
 
 -- what is read is a message of the kind
-pub exchange-sound : {s : List ℕ} {kind n at : ℕ} {msg : ℕ → Obj Value → Msg Value} → Exchange kind msg → Kinded s kind n at → ShapeOk s (exchangeAt s kind n at)
+pub exchange-sound : {s : List ℕ} {kind n at : ℕ} {msg : ℕ → Obj Value → Msg Value} → Exchange kind msg
+    → Kinded s kind n at → ShapeOk s (exchangeAt s kind n at)
 unfolding exchangeAt
 exchange-sound {s} {kind} {n} {at} c k =
     held-case _

@@ -1,4 +1,5 @@
--- Flood: an opening and pairs. The loop reads exactly the pairs that stand there, and notes the first bad text and the first long name.
+-- Flood: an opening and pairs. The loop reads exactly the pairs that stand there, and notes the first bad text and the
+-- first long name.
 -- Assumes nothing.
 use mathlib.Core.Path.{_≡_, refl, sym, ap, subst}
 use mathlib.Core.Logic.{_↔_}
@@ -82,9 +83,11 @@ module _ {s : List ℕ} (b : Bytes s) where
       PairsOk.ran (record { items = Items.done; pairs = []; are = PairItems.empty; stand = none low; counted = refl; texts = none-noted; names = none-noted })
   pairs-sound (suc n) p bad long low = next-sound (pairs-sound n) _ refl
 
-module _ {s : List ℕ} {n at next : ℕ} (k : Kinded s 9 n at) {opening : Opening} (h : OpeningHere s at next opening) {parts : ℕ} (counted : n ≡ 4 + parts) (some : 1 ≤ parts) where
+module _ {s : List ℕ} {n at next : ℕ} (k : Kinded s 9 n at) {opening : Opening} (h : OpeningHere s at next opening) {parts : ℕ} (counted : n ≡ 4 + parts)
+    (some : 1 ≤ parts) where
   -- the first pair and the others are the message
-  flooded-by-sound : {e bad long : ℕ} {first : P.Pair} → PairStands s next e (first .objective) (first .tag) bad long → (x : PairsRead) → PairsOk s e (parts - 1) bad long x
+  flooded-by-sound : {e bad long : ℕ} {first : P.Pair} → PairStands s next e (first .objective) (first .tag) bad long → (x : PairsRead)
+      → PairsOk s e (parts - 1) bad long x
       → ShapeOk s (floodedBy opening first (record { at = next; many = parts }) x)
   unfolding floodedBy count textsOf namesOf flatMap
   flooded-by-sound i _ PairsOk.refused = IfGood.bad
@@ -95,7 +98,12 @@ module _ {s : List ℕ} {n at next : ℕ} (k : Kinded s 9 n at) {opening : Openi
       (join (h .session .is .stands) (join (h .initiator .is .stands) (join (h .ttl .is .stands) stand)))
       (λ w v. MessageItem.flood (Number.number (h .session .low)) (Initiator.initiator (h .initiator .size)) (Number.number (h .ttl .low)) pairs)
       (λ full. Describes.flood (k .is) (h .session .is) (h .initiator .is) (h .ttl .is)
-      (record { items = Items.more (i .item) (r .items); stand = subst (λ (e : ℕ). StandAll s next e (Items.more (i .item) (r .items))) full stand; many = omega (arith, r .counted); are = pairs }) (i .described))
+      (record {
+        items = Items.more (i .item) (r .items);
+        stand = subst (λ (e : ℕ). StandAll s next e (Items.more (i .item) (r .items))) full stand;
+        many = omega (arith, r .counted);
+        are = pairs;
+      }) (i .described))
       (then-noted Utf8 (pairTexts (i .pair)) (flatMap pairTexts (r .pairs)) (i .texts) (r .texts))
       (then-noted Short (i .pair .0 .name ∷ []) (map pairName (r .pairs)) (single (i .names)) (r .names))
 
@@ -152,7 +160,8 @@ unfolding count depth
 flooded-complete {s} {p} {parts = parts} opening a d counted (PairItems.more {xs = xs} i is) =
     let c = split a in
     let (o, t, bad, long, same, _) = pair-read (c .first) (omega arith) i in
-    first-passed s p parts opening {n = count xs} {m = c .mid} (omega arith) (omega (arith, c .first .end)) same (pairs-complete (c .rest) (omega arith) is bad long)
+    first-passed s p parts opening {n = count xs} {m = c .mid} (omega arith) (omega (arith, c .first .end)) same
+    (pairs-complete (c .rest) (omega arith) is bad long)
 
 -- there is a pair
 some-pairs : {xs : Items} {pair : Pair Value} {ps : List (Pair Value)} → PairItems xs (pair ∷ ps) → 1 ≤ count xs
@@ -166,4 +175,5 @@ pub flood-complete : {s : List ℕ} {n at e session ttl : ℕ} {x y z : Item} {x
 unfolding floodAt floodBy
 flood-complete {s} {n} a i j k is d counted =
     let (o, next, same, b) = opening-complete a i j k in
-    skipped _ (le-ltb n 5 (omega (arith, some-pairs is))) (subst (λ (r : OpeningRead). Reads (floodBy s n r)) (sym same) (flooded-complete o b d (omega arith) is))
+    skipped _ (le-ltb n 5 (omega (arith, some-pairs is)))
+    (subst (λ (r : OpeningRead). Reads (floodBy s n r)) (sym same) (flooded-complete o b d (omega arith) is))

@@ -1,4 +1,5 @@
--- Numbers, initiators and texts: the item that stands where its token was read, and the tests that the token of an item passes.
+-- Numbers, initiators and texts: the item that stands where its token was read, and the tests that the token of an item
+-- passes.
 -- Assumes nothing.
 use mathlib.Core.Path.{_≡_, refl, sym, ap, ap₂, subst}
 use mathlib.Core.Logic.{_⊎_, inl, inr}
@@ -90,14 +91,16 @@ pub record ArrayPassed (s : List ℕ) (p e : ℕ) (ys xs : Items) : Type 0 where
 
 module _ {s : List ℕ} {p e : ℕ} {xs : Items} where
   -- an unsigned number
-  pub uint-passed : {w n : ℕ} → StandAll s p e (Items.more (uint w n) xs) → (tokenAt s p .major ≡ 0) × (tokenAt s p .arg ≡ n) × StandAll s (tokenAt s p .next) e xs
+  pub uint-passed : {w n : ℕ} → StandAll s p e (Items.more (uint w n) xs)
+      → (tokenAt s p .major ≡ 0) × (tokenAt s p .arg ≡ n) × StandAll s (tokenAt s p .next) e xs
   uint-passed {w} {n} a =
       let c = split a in
       let t = number-token (c .first) in
       (ap (λ (t : Token). t .major) t, ap (λ (t : Token). t .arg) t, subst (λ (k : ℕ). StandAll s k e xs) (sym (ap (λ (t : Token). t .next) t)) (c .rest))
 
   -- one within the limit
-  pub number-passed : {x : Item} {n : ℕ} → StandAll s p e (Items.more x xs) → Number x n → (ltb mostNumber (upTo mostNumber (tokenAt s p)) ≡ false) × StandAll s (tokenAt s p .next) e xs
+  pub number-passed : {x : Item} {n : ℕ} → StandAll s p e (Items.more x xs) → Number x n
+      → (ltb mostNumber (upTo mostNumber (tokenAt s p)) ≡ false) × StandAll s (tokenAt s p .next) e xs
   number-passed a (Number.number small) =
       let (zero, arg, rest) = uint-passed a in
       (le-ltb mostNumber (upTo mostNumber (tokenAt s p)) (rw (number-is mostNumber (tokenAt s p) zero (rw arg small), arg) small), rest)

@@ -20,8 +20,9 @@ pub mod Heads
 pub mod Opening
 pub mod Locators
 pub mod Noted
--- `Bridge`: tokens and items that stand in the bytes. `Pieces`: items by the token that was read. `Sizes`: items passed over. `Texts`: places of bad texts
--- and long names. `One`: an item is one locator, objective or pair at most. `Levels`: how many levels a locator has.
+-- `Bridge`: tokens and items that stand in the bytes. `Pieces`: items by the token that was read. `Sizes`: items passed
+-- over. `Texts`: places of bad texts and long names. `One`: an item is one locator, objective or pair at most.
+-- `Levels`: how many levels a locator has.
 pub mod Bridge
 pub mod Pieces
 pub mod Sizes

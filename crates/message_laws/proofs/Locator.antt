@@ -1,5 +1,6 @@
--- A locator that is read stands in the message as an item that the CDDL calls this locator (`locator-sound`), and every such item is read, wherever it
--- stands, and as this locator (`locator-read`): it is read exactly there (`locator-exactly`).
+-- A locator that is read stands in the message as an item that the CDDL calls this locator (`locator-sound`), and every
+-- such item is read, wherever it stands, and as this locator (`locator-read`): it is read exactly there
+-- (`locator-exactly`).
 -- Assumes nothing.
 use mathlib.Core.Path.{_≡_, refl, sym, ap, subst}
 use mathlib.Core.Logic.{_↔_}
@@ -26,14 +27,18 @@ use Rattle.options.specs.Locator.{addressFits, protocolOf, portOf, locatorOf, t
 use Rattle.rfc8990.specs.Message.{Loc}
 use Rattle.rfc8990.specs.Cddl.{uint, LocatorItem}
 use Rattle.message_laws.specs.Stands.{Stands, ArrayHead, LocatorIs, LocatorStands}
-use Rattle.message_laws.proofs.Bridge.{split, join, last, only, lift, lift-first, sink-first, advances, string-major, token-heading, number-token, text-token, array-token}
+use Rattle.message_laws.proofs.Bridge.{split, join, last, only, lift, lift-first, sink-first, advances}
+use Rattle.message_laws.proofs.Bridge.{string-major, token-heading, number-token, text-token, array-token}
 use Rattle.message_laws.proofs.Pieces.{array-items, number-is, number-here, content-bytes, text-size, text-at, array-head, array-at, lift-head}
 use Rattle.message_laws.proofs.One.{locator-one}
-use Rattle.message_laws.proofs.LocatorParts.{Address, AddressIs, Shape, shape-of, locWith, shape-item, shape-addressed, shape-texts, protocol-here, port-here, address-here, protocol-reads, port-reads, address-reads}
+use Rattle.message_laws.proofs.LocatorParts.{Address, AddressIs, Shape, shape-of, locWith, shape-item, shape-addressed, shape-texts}
+use Rattle.message_laws.proofs.LocatorParts.{protocol-here, port-here, address-here, protocol-reads, port-reads, address-reads}
 
 -- the locator that an answer describes, by what stands in the part of the message that begins with it
-located : {m : List ℕ} {base q r e : ℕ} (body : ℕ) {k u kind : ℕ} {t : Bool} {a : List ℕ} (pn qn : ℕ) (address : Address kind t a) → ArrayHead (drop base m) 0 q 4 → Stands (drop base m) q r (uint k kind)
-    → Stands (drop base m) r e (Item.string t u a) → e ≡ body + length a → LocatorIs m base (locatorOf kind (base + body) (e - body) pn qn) (locWith address pn qn)
+located : {m : List ℕ} {base q r e : ℕ} (body : ℕ) {k u kind : ℕ} {t : Bool} {a : List ℕ} (pn qn : ℕ) (address : Address kind t a)
+    → ArrayHead (drop base m) 0 q 4 → Stands (drop base m) q r (uint k kind)
+    → Stands (drop base m) r e (Item.string t u a) → e ≡ body + length a
+    → LocatorIs m base (locatorOf kind (base + body) (e - body) pn qn) (locWith address pn qn)
 located {base = base} {q} {r} {e} body pn qn address opened lead string end =
     record {
       kind-at = base + q;
@@ -95,7 +100,8 @@ sound m base by =
     bytes = bytes-drop base m by
 
     got : a .major ≡ 4 → a .arg ≡ 4 → AddressIs kind b → (protocolOf kind p ≡ 255 → ⊥) → (portOf kind q ≡ 65537 → ⊥)
-        → P (LocatorRead.Got (locatorOf kind (base + b .body) (b .next - b .body) (protocolOf kind p) (portOf kind q)) (q .next) (textOf kind (contentIn s b) (base + b .at)))
+        → P (LocatorRead.Got (locatorOf kind (base + b .body) (b .next - b .body) (protocolOf kind p) (portOf kind q)) (q .next)
+        (textOf kind (contentIn s b) (base + b .at)))
     got array four fits some-protocol some-port =
         let ha = token-heading s 0 a bytes refl (omega arith) in
         let hb = token-heading s (k .next) b bytes refl (omega (arith, fits .major, string-major (fits .text))) in
@@ -112,7 +118,8 @@ sound m base by =
           stands = lift-first (array-at ha array four (join (lead .stands) (join (string .stands) (join (protocol .stands) (last (port .stands))))));
           is = shape-item address (protocol .is) (port .is);
           described =
-              located (b .body) (protocolOf kind p) (portOf kind q) address (subst (ArrayHead s 0 (a .next)) four (array-head ha array)) (lead .stands) (string .stands)
+              located (b .body) (protocolOf kind p) (portOf kind q) address (subst (ArrayHead s 0 (a .next)) four (array-head ha array)) (lead .stands)
+              (string .stands)
               (omega (arith, text-size hb (fits .text) (fits .major), long, token-is s (k .next) b refl .start));
           texts = shape-texts (protocolOf kind p) (portOf kind q) (base + b .at) far address;
         }
@@ -168,7 +175,8 @@ locator-read {m} {base} st is =
 
 -- A locator is read exactly where an item that is one stands, up to its end.
 pub locator-exactly : (m : List ℕ) (base size : ℕ) → Bytes m
-    → ((l : Locator) × (bad : ℕ) × (locatorAt m base ≡ LocatorRead.Got l size bad)) ↔ ((x : Item) × (loc : Loc) × Stands m base (base + size) x × LocatorItem x loc)
+    → ((l : Locator) × (bad : ℕ) × (locatorAt m base ≡ LocatorRead.Got l size bad))
+    ↔ ((x : Item) × (loc : Loc) × Stands m base (base + size) x × LocatorItem x loc)
 locator-exactly m base size by = (
   λ (l, bad, q). let i = locator-sound m base l size bad by q in (i .item, i .loc, i .stands, i .is),
   λ (x, loc, st, is). let (l, bad, read, _) = locator-read st is in (l, bad, rw (add-sub-cancel-left base size) at read),

@@ -1,4 +1,5 @@
--- The four kinds of locators have one shape: a kind, an address, a protocol and a port. What the readers of these parts answer, and which items they are.
+-- The four kinds of locators have one shape: a kind, an address, a protocol and a port. What the readers of these parts
+-- answer, and which items they are.
 -- Assumes nothing.
 use mathlib.Core.Path.{_≡_, refl, sym, ap, ap₂, _∙_, subst}
 use mathlib.Core.Logic.{_↔_}
@@ -81,7 +82,8 @@ locWith (Address.domain {a}) pn qn = Loc.domain a pn qn
 locWith (Address.uri {a}) pn qn = Loc.uri a (orNull nullProtocol pn) (orNull nullPort qn)
 
 -- its item
-pub shape-item : {w k u kind pn qn : ℕ} {t : Bool} {a : List ℕ} {x y : Item} (address : Address kind t a) → OfKind Protocol 0 kind x pn → OfKind Port 65536 kind y qn
+pub shape-item : {w k u kind pn qn : ℕ} {t : Bool} {a : List ℕ} {x y : Item} (address : Address kind t a) → OfKind Protocol 0 kind x pn
+    → OfKind Port 65536 kind y qn
     → LocatorItem (array w (uint k kind ∷ Item.string t u a ∷ x ∷ y ∷ [])) (locWith address pn qn)
 unfolding locWith
 shape-item (Address.v6 long) i j = LocatorItem.v6 long (plain (λ e. omega arith) i) (plain (λ e. omega arith) j)
@@ -115,10 +117,15 @@ shape-texts pn qn place {text = text} far Address.uri = one-text text place far
 abbrev pub Here : (s : List ℕ) (p e : ℕ) (P : Item → ℕ → Type 0) (for-null kind n : ℕ) → Type 0
 Here s p e P for-null kind n = Is s p e (λ x. OfKind P for-null kind x n)
 
-number-of : {s : List ℕ} {p : ℕ} {w : Token} → Heading s p w → (P : Item → ℕ → Type 0) (for-null kind n : ℕ) → eqb (w .major) 0 ≡ true → w .arg ≡ n → ((k : ℕ) → P (uint k n) n) → Here s p (w .next) P for-null kind n
+number-of : {s : List ℕ} {p : ℕ} {w : Token} → Heading s p w → (P : Item → ℕ → Type 0) (for-null kind n : ℕ) → eqb (w .major) 0 ≡ true → w .arg ≡ n
+    → ((k : ℕ) → P (uint k n) n) → Here s p (w .next) P for-null kind n
 number-of {s} {p} {w} h P for-null kind n e same made =
     let i = number-at h (eqb-true (w .major) 0 e) in
-    record { item = uint (i .width) n; stands = subst (λ (v : ℕ). Stands s p (w .next) (uint (i .width) v)) same (i .stands); is = OfKind.given (made (i .width)) }
+    record {
+      item = uint (i .width) n;
+      stands = subst (λ (v : ℕ). Stands s p (w .next) (uint (i .width) v)) same (i .stands);
+      is = OfKind.given (made (i .width));
+    }
 
 module _ (s : List ℕ) (p : ℕ) (w : Token) (read : w ≡ tokenAt s p) where
   null-here : isNull w ≡ true → Stands s p (w .next) null
@@ -139,8 +146,11 @@ module _ (s : List ℕ) (p : ℕ) (w : Token) (read : w ≡ tokenAt s p) where
   unfolding protocolOf
   protocol-here kind =
       pick-case by (eqb (w .major) 0)
-      (λ e. pick-case by (eqb (w .arg) 6) (λ f _. number-of (small e (omega (arith, eqb-true (w .arg) 6 f))) Protocol 0 kind 6 e (eqb-true (w .arg) 6 f) (λ k. Protocol.tcp))
-      (λ _. pick-case by (eqb (w .arg) 17) (λ f _. number-of (small e (omega (arith, eqb-true (w .arg) 17 f))) Protocol 0 kind 17 e (eqb-true (w .arg) 17 f) (λ k. Protocol.udp)) (λ _. nothing)))
+      (λ e. pick-case by (eqb (w .arg) 6)
+      (λ f _. number-of (small e (omega (arith, eqb-true (w .arg) 6 f))) Protocol 0 kind 6 e (eqb-true (w .arg) 6 f) (λ k. Protocol.tcp))
+      (λ _. pick-case by (eqb (w .arg) 17)
+      (λ f _. number-of (small e (omega (arith, eqb-true (w .arg) 17 f))) Protocol 0 kind 17 e (eqb-true (w .arg) 17 f) (λ k. Protocol.udp))
+      (λ _. nothing)))
       (λ _. pick-case by (eqb kind 106) (λ e. pick-case by (isNull w) (λ z _. null-of Protocol 0 kind e z) (λ _. nothing)) (λ _. nothing))
     where
       by : ℕ → Type 0
@@ -157,7 +167,8 @@ module _ (s : List ℕ) (p : ℕ) (w : Token) (read : w ≡ tokenAt s p) where
   unfolding portOf
   port-here bytes kind =
       pick-case by (eqb (w .major) 0)
-      (λ e. pick-case by (leb (w .arg) 65535) (λ f _. number-of (token-heading s p w bytes read (omega (arith, eqb-true (w .major) 0 e))) Port 65536 kind (w .arg) e refl (λ k. Port.port (leb-true (w .arg) 65535 f))) (λ _. nothing))
+      (λ e. pick-case by (leb (w .arg) 65535) (λ f _. number-of (token-heading s p w bytes read (omega (arith, eqb-true (w .major) 0 e))) Port 65536 kind
+      (w .arg) e refl (λ k. Port.port (leb-true (w .arg) 65535 f))) (λ _. nothing))
       (λ _. pick-case by (eqb kind 106) (λ e. pick-case by (isNull w) (λ z _. null-of Port 65536 kind e z) (λ _. nothing)) (λ _. nothing))
     where
       by : ℕ → Type 0
@@ -210,7 +221,8 @@ abbrev Reads : (Token → ℕ) → List ℕ → ℕ → ℕ → ℕ → Type 0
 Reads f s p e n = (f (tokenAt s p) ≡ n) × (tokenAt s p .next ≡ e)
 
 module _ {s : List ℕ} {p e : ℕ} where
-  number-reads : (f : Token → ℕ) (n : ℕ) {w k : ℕ} → Stands s p e (uint w k) → f (record { at = p; major = 0; arg = k; body = e; next = e }) ≡ n → Reads f s p e n
+  number-reads : (f : Token → ℕ) (n : ℕ) {w k : ℕ} → Stands s p e (uint w k) → f (record { at = p; major = 0; arg = k; body = e; next = e }) ≡ n
+      → Reads f s p e n
   number-reads f n a same = (ap f (number-token a) ∙ same, ap (λ (v : Token). v .next) (number-token a))
 
   null-reads : (f : Token → ℕ) (n : ℕ) → Stands s p e null → f (record { at = p; major = 7; arg = 22; body = p + 1; next = p + 1 }) ≡ n → Reads f s p e n

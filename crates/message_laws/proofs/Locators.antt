@@ -1,4 +1,5 @@
--- Locators one after the other: the loop reads exactly those that stand there, and notes the first of their texts that isn't UTF-8.
+-- Locators one after the other: the loop reads exactly those that stand there, and notes the first of their texts that
+-- isn't UTF-8.
 -- Assumes nothing.
 use mathlib.Core.Path.{_≡_, refl, sym, ap, ap₂, _∙_}
 use mathlib.Core.Logic.{_↔_}
@@ -102,7 +103,8 @@ locator-led a (LocatorItem.domain i j) = let (number, arg) = number-led a in (nu
 locator-led a (LocatorItem.uri i j) = let (number, arg) = number-led a in (number, rw arg (lit≤ tt))
 
 -- an array that a text leads
-array-text-led : {s : List ℕ} {p e w v : ℕ} {name : List ℕ} {ys xs : Items} → StandAll s p e (Items.more (Item.array w (Items.more (Item.string true v name) ys)) xs) → textLed s p ≡ true
+array-text-led : {s : List ℕ} {p e w v : ℕ} {name : List ℕ} {ys xs : Items}
+    → StandAll s p e (Items.more (Item.array w (Items.more (Item.string true v name) ys)) xs) → textLed s p ≡ true
 unfolding textLed count pick
 array-text-led {s} {p} {ys = ys} a =
     let o = array-passed a in
@@ -110,7 +112,8 @@ array-text-led {s} {p} {ys = ys} a =
     rw (ne-eqb (itemsIn (tokenAt s p)) 0 (array-items (tokenAt s p) (count ys) (o .major) (o .arg)), eq-eqb _ _ text)
 
 -- as an objective is
-pub objective-led : {s : List ℕ} {p e : ℕ} {x : Item} {xs : Items} {obj : Obj Value} → StandAll s p e (Items.more x xs) → ObjectiveItem x obj → textLed s p ≡ true
+pub objective-led : {s : List ℕ} {p e : ℕ} {x : Item} {xs : Items} {obj : Obj Value} → StandAll s p e (Items.more x xs) → ObjectiveItem x obj
+    → textLed s p ≡ true
 objective-led a (ObjectiveItem.bare i j) = array-text-led a
 objective-led a (ObjectiveItem.valued i j) = array-text-led a
 

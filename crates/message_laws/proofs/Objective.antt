@@ -1,5 +1,6 @@
--- An objective that is read stands in the message as an item that the CDDL calls this objective (`objective-sound`), and every such item of no more levels than
--- may open is read, wherever it stands, and as this objective (`objective-read`): it is read exactly there (`objective-exactly`).
+-- An objective that is read stands in the message as an item that the CDDL calls this objective (`objective-sound`),
+-- and every such item of no more levels than may open is read, wherever it stands, and as this objective
+-- (`objective-read`): it is read exactly there (`objective-exactly`).
 -- Assumes nothing.
 use mathlib.Core.Path.{_≡_, refl, sym, ap, ap₂, _∙_, subst}
 use mathlib.Core.Logic.{_↔_, inr}
@@ -28,7 +29,8 @@ use Rattle.options.specs.Objective.{longName, objectiveFrom, objectiveIn, objec
 use Rattle.rfc8990.specs.Message.{Obj}
 use Rattle.rfc8990.specs.Cddl.{uint, text, ObjectiveItem, Value}
 use Rattle.message_laws.specs.Stands.{Stands, StandAll, ArrayHead, ValueIs, itemsWith, ObjectiveIs, ObjectiveStands}
-use Rattle.message_laws.proofs.Bridge.{split, join, none as no-more, none-end, only, last, stands-once, lift, lift-first, sink-first, advances, token-heading, number-token, text-token, array-token}
+use Rattle.message_laws.proofs.Bridge.{split, join, none as no-more, none-end, only, last, stands-once, lift, lift-first}
+use Rattle.message_laws.proofs.Bridge.{sink-first, advances, token-heading, number-token, text-token, array-token}
 use Rattle.message_laws.proofs.Pieces.{array-items, number-is, number-here, text-size, content-bytes, text-at, array-at, array-head, lift-head}
 use Rattle.message_laws.proofs.Texts.{bad-text, long-name}
 use Rattle.message_laws.proofs.Sizes.{sized-item, item-sized}
@@ -51,8 +53,10 @@ value-ends base (Items.more x Items.done) counted rest (ValueIs.present there) =
 value-ends base (Items.more x (Items.more y xs)) counted rest (ValueIs.present there) = absurd (omega arith)
 
 -- the objective that an answer describes, by what stands in the part of the message that begins with it
-located : (m : List ℕ) (base : ℕ) (n f c : Token) {q u i j flags number len e : ℕ} {name : List ℕ} {v : Value} → ArrayHead (drop base m) 0 q (itemsWith v) → Stands (drop base m) q (n .next) (text u name)
-    → n .next ≡ n .body + length name → Stands (drop base m) (n .next) (c .at) (uint i flags) → upTo 15 f ≡ flags → Stands (drop base m) (c .at) (c .next) (uint j number) → upTo 255 c ≡ number
+located : (m : List ℕ) (base : ℕ) (n f c : Token) {q u i j flags number len e : ℕ} {name : List ℕ} {v : Value} → ArrayHead (drop base m) 0 q (itemsWith v)
+    → Stands (drop base m) q (n .next) (text u name)
+    → n .next ≡ n .body + length name → Stands (drop base m) (n .next) (c .at) (uint i flags) → upTo 15 f ≡ flags
+    → Stands (drop base m) (c .at) (c .next) (uint j number) → upTo 255 c ≡ number
     → ValueIs m (spanOf (base + c .next) len) v → e ≡ base + (c .next + len)
     → ObjectiveIs m base e (objectiveFrom base n (upTo 15 f) c (upTo 255 c) len) (record { name = name; flags = flags; count = number; value = v })
 unfolding objectiveFrom
@@ -77,7 +81,8 @@ located m base n f c {q} {u} {i} {j} opened named end flagged few counted byte v
 -- ---- sound
 -- an item that is an objective: its limits, and how many items it has
 limits : {w u i j flags number : ℕ} {name : List ℕ} {v : Value} {xs : Items}
-    → ObjectiveItem (Item.array w (Items.more (text u name) (Items.more (uint i flags) (Items.more (uint j number) xs)))) (record { name = name; flags = flags; count = number; value = v })
+    → ObjectiveItem (Item.array w (Items.more (text u name) (Items.more (uint i flags) (Items.more (uint j number) xs))))
+    (record { name = name; flags = flags; count = number; value = v })
     → (flags ≤ 15) × (number ≤ 255) × (suc (suc (suc (count xs))) ≡ itemsWith v)
 unfolding count
 limits (ObjectiveItem.bare few byte) = (few, byte, refl)
@@ -101,11 +106,13 @@ sound levels m base by =
     let byte : upTo 255 c ≤ 255 = ltb-false 255 (upTo 255 c) t₆ in
     let made = got (is-array a (eqb-false (itemsIn a) 0 t₁)) (eqb-true (n .major) 3 t₂) in
     pick-case P (eqb (a .arg) 3)
-    (λ t₇. made 0 (c .next) none Items.done (eqb-true (a .arg) 3 t₇) (omega arith) (no-more (token-end s (f .next))) (ValueIs.absent refl) (λ w u v k. ObjectiveItem.bare few byte))
+    (λ t₇. made 0 (c .next) none Items.done (eqb-true (a .arg) 3 t₇) (omega arith) (no-more (token-end s (f .next))) (ValueIs.absent refl)
+    (λ w u v k. ObjectiveItem.bare few byte))
     (λ t₇. pick-case P (eqb len 0) (λ _. tt)
     (λ t₈.
     let (value, there, few-levels) = sized-item levels s (c .next) bytes (eqb-false len 0 t₈) in
-    made len (c .next + len) (some value) (Items.more value Items.done) (omega (arith, ltb-false (a .arg) 3 t₃, ltb-false 4 (a .arg) t₄, eqb-false (a .arg) 3 t₇)) (omega arith) (last there)
+    made len (c .next + len) (some value) (Items.more value Items.done)
+    (omega (arith, ltb-false (a .arg) 3 t₃, ltb-false 4 (a .arg) t₄, eqb-false (a .arg) 3 t₇)) (omega arith) (last there)
     (ValueIs.present (subst (λ (e : ℕ). Stands m (base + c .next) e value) (sym (add-assoc base (c .next) len)) (lift base there)))
     (λ w u v k. ObjectiveItem.valued few byte))))))))
     (λ _. tt))
@@ -135,7 +142,8 @@ sound levels m base by =
     bytes = bytes-drop base m by
 
     -- with a value, or with none: the item of so many items xs after the count
-    got : a .major ≡ 4 → n .major ≡ 3 → (len size : ℕ) (v : Value) (xs : Items) → a .arg ≡ suc (suc (suc (count xs))) → depths xs ≤ leftUnder levels → StandAll s (c .next) size xs → ValueIs m (spanOf (base + c .next) len) v
+    got : a .major ≡ 4 → n .major ≡ 3 → (len size : ℕ) (v : Value) (xs : Items) → a .arg ≡ suc (suc (suc (count xs))) → depths xs ≤ leftUnder levels
+        → StandAll s (c .next) size xs → ValueIs m (spanOf (base + c .next) len) v
         → ((w u i j : ℕ)
         → ObjectiveItem (Item.array w (Items.more (text u (contentIn s n)) (Items.more (uint i (upTo 15 f)) (Items.more (uint j (upTo 255 c)) xs))))
         (record { name = contentIn s n; flags = upTo 15 f; count = upTo 255 c; value = v }))
@@ -160,7 +168,8 @@ sound levels m base by =
           is = is (ha .width) (name .width) (flags .width) (number .width);
           described =
               located m base n f c (subst (ArrayHead s 0 (a .next)) (many ∙ counted) (array-head ha array)) (name .stands)
-              (omega (arith, text-size hn true is-text, long, token-is s (a .next) n refl .start)) (subst (λ (k : ℕ). Stands s (n .next) k (uint (flags .width) (upTo 15 f))) at-c (flags .stands)) refl
+              (omega (arith, text-size hn true is-text, long, token-is s (a .next) n refl .start))
+              (subst (λ (k : ℕ). Stands s (n .next) k (uint (flags .width) (upTo 15 f))) at-c (flags .stands)) refl
               (subst (λ (k : ℕ). Stands s k (c .next) (uint (number .width) (upTo 255 c))) at-c (number .stands)) refl value (ap (λ (k : ℕ). base + k) sum);
           texts = bad-text (contentIn s n) (base + n .at) far;
           names = long-name n (base + n .at) (contentIn s n) far long;
@@ -176,10 +185,12 @@ objective-sound levels m base o size bad long by q = subst (Sound levels m base)
 unfoldable ending : ℕ → ℕ → List ℕ → ℕ → Token → Token → Token → ObjectiveRead
 ending levels base s items n f c =
     pick (eqb items 3) (answer base s n f c 0 (c .next))
-    (pick (eqb (sizeAt levels s (c .next)) 0) (ObjectiveRead.Bad (base + c .next)) (answer base s n f c (sizeAt levels s (c .next)) (c .next + sizeAt levels s (c .next))))
+    (pick (eqb (sizeAt levels s (c .next)) 0) (ObjectiveRead.Bad (base + c .next))
+    (answer base s n f c (sizeAt levels s (c .next)) (c .next + sizeAt levels s (c .next))))
 
 accept : (levels base : ℕ) (s : List ℕ) (a n f c : Token) → a ≡ tokenAt s 0 → n ≡ tokenAt s (a .next) → f ≡ tokenAt s (n .next) → c ≡ tokenAt s (f .next)
-    → (itemsIn a ≡ 0 → ⊥) → n .major ≡ 3 → 3 ≤ a .arg → a .arg ≤ 4 → upTo 15 f ≤ 15 → upTo 255 c ≤ 255 → objectiveIn levels base s ≡ ending levels base s (a .arg) n f c
+    → (itemsIn a ≡ 0 → ⊥) → n .major ≡ 3 → 3 ≤ a .arg → a .arg ≤ 4 → upTo 15 f ≤ 15 → upTo 255 c ≤ 255
+    → objectiveIn levels base s ≡ ending levels base s (a .arg) n f c
 unfolding objectiveIn objectiveNamed ending pick
 accept levels base s a n f c ea en ef ec t₁ t₂ t₃ t₄ t₅ t₆ =
     rw (← ea, ← en, ← ef, ← ec, ne-eqb _ _ t₁, eq-eqb _ _ t₂, le-ltb _ _ t₃, le-ltb _ _ t₄, le-ltb _ _ t₅, le-ltb _ _ t₆)
@@ -213,12 +224,14 @@ begun levels {m} {base} {flags = flags} {number} {name} {rest} st few byte short
       f = f;
       c = c;
       read =
-          accept levels base s _ n f c (sym (top .token)) (sym (string .token)) (sym (number-token (c₂ .first))) (sym (number-token (c₃ .first))) (array-items _ _ refl refl) refl
+          accept levels base s _ n f c (sym (top .token)) (sym (string .token)) (sym (number-token (c₂ .first))) (sym (number-token (c₃ .first)))
+          (array-items _ _ refl refl) refl
           (omega arith) (omega arith) (rw (number-is 15 f refl few) few) (rw (number-is 255 c refl byte) byte);
       left = c₃ .rest;
       described =
           λ len v counted value.
-          located m base n f c (subst (ArrayHead s 0 (top .body)) counted (top .head)) (c₁ .first) (string .end) (c₂ .first) (number-is 15 f refl few) (c₃ .first) (number-is 255 c refl byte) value
+          located m base n f c (subst (ArrayHead s 0 (top .body)) counted (top .head)) (c₁ .first) (string .end) (c₂ .first) (number-is 15 f refl few)
+          (c₃ .first) (number-is 255 c refl byte) value
           (omega (arith, advances st, value-ends base rest counted (c₃ .rest) value));
     }
 
@@ -232,7 +245,8 @@ unfolding ending pick
 ends-valued levels base s n f c has-value e = rw (ne-eqb _ _ has-value, e)
 
 -- an item that is an objective is read, and as the objective that it is
-pub objective-read : (levels : ℕ) {m : List ℕ} {base e : ℕ} {x : Item} {obj : Obj Value} → Stands m base e x → depth x ≤ suc (leftUnder levels) → ObjectiveItem x obj
+pub objective-read : (levels : ℕ) {m : List ℕ} {base e : ℕ} {x : Item} {obj : Obj Value} → Stands m base e x → depth x ≤ suc (leftUnder levels)
+    → ObjectiveItem x obj
     → (o : Objective) × (bad : ℕ) × (long : ℕ) × (objectiveAt levels m base ≡ ObjectiveRead.Got o (e - base) bad long) × ObjectiveIs m base e o obj
 unfolding count depth
 objective-read levels {m} {base} {e} st d (ObjectiveItem.bare few byte) =

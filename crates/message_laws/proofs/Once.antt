@@ -6,7 +6,8 @@ use mathlib.Core.Option.{Option, some}
 use Prim.Native.Nat.{ℕ}
 use Rattle.cbor.specs.Tree.{Item, Items}
 use Rattle.rfc8990.specs.Message.{Loc, Obj, Tgts, Outc, Msg}
-use Rattle.rfc8990.specs.Cddl.{uint, joined, Number, Initiator, LocatorItem, LocatorItems, ObjectiveItem, OptionalItems, TgtsItems, OutcItem, MessageItem, Value}
+use Rattle.rfc8990.specs.Cddl.{uint, joined, Number, Initiator, LocatorItem, LocatorItems, ObjectiveItem}
+use Rattle.rfc8990.specs.Cddl.{OptionalItems, TgtsItems, OutcItem, MessageItem, Value}
 use Rattle.message_laws.proofs.One.{objective-one, locator-one, locators-one, pairs-one}
 
 -- ---- parts
@@ -41,7 +42,8 @@ same-first : {x y : Item} {xs ys : Items} → Items.more x xs ≡ Items.more y y
 same-first e = (cc, cc)
 
 -- locators, and then an objective or none: what follows the locators is no locator
-aimed-one : {xs ys xs′ ys′ : Items} {ls ls′ : List Loc} {o o′ : Option (Obj Value)} → LocatorItems xs ls → OptionalItems ys o → LocatorItems xs′ ls′ → OptionalItems ys′ o′
+aimed-one : {xs ys xs′ ys′ : Items} {ls ls′ : List Loc} {o o′ : Option (Obj Value)} → LocatorItems xs ls → OptionalItems ys o → LocatorItems xs′ ls′
+    → OptionalItems ys′ o′
     → joined xs ys ≡ joined xs′ ys′ → (ls ≡ ls′) × (o ≡ o′)
 aimed-one LocatorItems.empty i LocatorItems.empty i′ e = (refl, optional-one i (over OptionalItems (sym e) i′))
 aimed-one LocatorItems.empty OptionalItems.without (LocatorItems.more l ls) i′ e = (cc, cc)
@@ -65,7 +67,8 @@ not-mixed : {w k : ℕ} {xs zs ys′ : Items} {l : Loc} {ls : List Loc} (ys : It
 not-mixed ys (LocatorItems.more i is) e = no-divert (over LocatorItem (same-first e .0) i)
 
 -- one divert has one content
-same-divert : {w k w′ k′ : ℕ} {xs ys xs′ ys′ : Items} → Items.more (Item.array w (Items.more (uint k 100) xs)) ys ≡ Items.more (Item.array w′ (Items.more (uint k′ 100) xs′)) ys′
+same-divert : {w k w′ k′ : ℕ} {xs ys xs′ ys′ : Items}
+    → Items.more (Item.array w (Items.more (uint k 100) xs)) ys ≡ Items.more (Item.array w′ (Items.more (uint k′ 100) xs′)) ys′
     → (xs ≡ xs′) × (ys ≡ ys′)
 same-divert e = (cc, cc)
 

@@ -45,12 +45,17 @@ opening-sound {s} {at} b =
     (λ _. OpeningOk.bad))
 
 -- what stands there is read, and the items after it follow
-pub opening-complete : {s : List ℕ} {at e session ttl : ℕ} {x y z : Item} {xs : Items} {from : List ℕ} → StandAll s at e (Items.more x (Items.more y (Items.more z xs)))
+pub opening-complete : {s : List ℕ} {at e session ttl : ℕ} {x y z : Item} {xs : Items} {from : List ℕ}
+    → StandAll s at e (Items.more x (Items.more y (Items.more z xs)))
     → Number x session → Initiator y from → Number z ttl → (o : Opening) × (next : ℕ) × (openingAt s at ≡ Got o next) × StandAll s next e xs
 unfolding openingAt pick
 opening-complete {s} {at} a i j k =
     let (e, b) = number-passed a i in
     let (e′, c) = initiator-passed b j in
     let (e″, d) = number-passed c k in
-    let t = tokenAt s (tokenAt s (tokenAt s at .next) .next) in
-    (record { session = upTo mostNumber (tokenAt s at); initiator = contentOf (tokenAt s (tokenAt s at .next)); ttl = upTo mostNumber t }, t .next, rw (e, e′, e″), d)
+    let t = tokenAt s (tokenAt s (tokenAt s at .next) .next) in (
+      record { session = upTo mostNumber (tokenAt s at); initiator = contentOf (tokenAt s (tokenAt s at .next)); ttl = upTo mostNumber t },
+      t .next,
+      rw (e, e′, e″),
+      d,
+    )

@@ -1,5 +1,6 @@
--- A pair of a Flood that is read stands in the message as an item that the CDDL calls this pair (`pair-sound`), and every such item of 7 levels at most is
--- read, wherever it stands, and as this pair (`pair-read`): it is read exactly there (`pair-exactly`).
+-- A pair of a Flood that is read stands in the message as an item that the CDDL calls this pair (`pair-sound`), and
+-- every such item of 7 levels at most is read, wherever it stands, and as this pair (`pair-read`): it is read exactly
+-- there (`pair-exactly`).
 -- Assumes nothing.
 use mathlib.Core.Path.{_≡_, refl, sym, ap, _∙_, subst}
 use mathlib.Core.Logic.{_↔_}
@@ -38,7 +39,8 @@ use Rattle.rfc8990.specs.Message.{Loc, Obj, Pair}
 use Rattle.rfc8990.specs.Cddl.{array, LocatorItem, ObjectiveItem, PairItem, Value}
 use Rattle.rfc8990.specs.Limits.{Utf8, tagTexts, pairTexts}
 use Rattle.message_laws.specs.Stands.{Stands, ArrayHead, LocatorIs, TagIs, PairIs, ObjectiveStands, PairStands}
-use Rattle.message_laws.proofs.Bridge.{split, join, none as no-more, none-end, only, last, lift, lift-first, sink-sized, sink-first, advances, Heading, token-heading, array-token}
+use Rattle.message_laws.proofs.Bridge.{split, join, none as no-more, none-end, only, last, lift, lift-first}
+use Rattle.message_laws.proofs.Bridge.{sink-sized, sink-first, advances, Heading, token-heading, array-token}
 use Rattle.message_laws.proofs.Pieces.{array-items, array-at, array-head, lift-head}
 use Rattle.message_laws.proofs.Texts.{first-zero}
 use Rattle.message_laws.proofs.Levels.{locator-deep}
@@ -58,8 +60,10 @@ module _ (m : List ℕ) (base : ℕ) (a : Token) (n : ℕ) where
   abbrev at : ℕ
   at = a .next + n
 
-  module _ (ha : Heading s 0 a) (major : a .major ≡ 4) (two : a .arg ≡ 2) {o : Objective} {bad long : ℕ} (i : ObjectiveStands 3 m (base + a .next) (base + a .next + n) o bad long) where
-    made : (size : ℕ) (y : Item) (t : Tag) (l : Option Loc) (bad′ : ℕ) → Stands s at size y → depth y ≤ 1 → ((w : ℕ) → PairItem (array w (i .item ∷ y ∷ [])) (i .obj, l)) → TagIs m (base + a .next + n) t l
+  module _ (ha : Heading s 0 a) (major : a .major ≡ 4) (two : a .arg ≡ 2) {o : Objective} {bad long : ℕ}
+      (i : ObjectiveStands 3 m (base + a .next) (base + a .next + n) o bad long) where
+    made : (size : ℕ) (y : Item) (t : Tag) (l : Option Loc) (bad′ : ℕ) → Stands s at size y → depth y ≤ 1
+        → ((w : ℕ) → PairItem (array w (i .item ∷ y ∷ [])) (i .obj, l)) → TagIs m (base + a .next + n) t l
         → bad′ ≡ 0 ↔ (bad ≡ 0) × Every Utf8 (tagTexts l) → PairStands m base (base + size) o t bad′ long
     unfolding count depth pairTexts
     made size y t l bad′ second flat is tag texts =
@@ -88,7 +92,8 @@ module _ (m : List ℕ) (base : ℕ) (a : Token) (n : ℕ) where
     tagged by (LocatorRead.Got l size bad′) q =
         let j = locator-sound m (base + at) l size bad′ by q in
         let (there, back) = first-zero bad bad′ in
-        made (at + size) (j .item) (Tag.At l) (some (j .loc)) (firstOf bad bad′) (sink-sized m base at size (j .stands)) (omega (arith, locator-deep (j .is))) (λ w. PairItem.tagged (i .is) (j .is))
+        made (at + size) (j .item) (Tag.At l) (some (j .loc)) (firstOf bad bad′) (sink-sized m base at size (j .stands)) (omega (arith, locator-deep (j .is)))
+        (λ w. PairItem.tagged (i .is) (j .is))
         (TagIs.at (subst (λ (p : ℕ). LocatorIs m p l (j .loc)) (sym (add-assoc base (a .next) n)) (j .described)))
         (λ z. let (x, y) = there z in (x, j .texts .0 y), λ h. back (h .0, j .texts .1 (h .1)))
 
@@ -98,7 +103,8 @@ module _ (m : List ℕ) (base : ℕ) (a : Token) (n : ℕ) where
         pick-case (Sound m base) (isEmpty w)
         (λ e. let (four, zero) = empty-is w e in
         let h = token-heading s at w (bytes-drop base m by) refl (omega arith) in
-        made (w .next) _ Tag.Empty none bad (array-at h four zero (no-more (h .within))) (omega arith) (λ k. PairItem.untagged (i .is)) TagIs.empty (λ z. (z, tt), λ z. z .0))
+        made (w .next) _ Tag.Empty none bad (array-at h four zero (no-more (h .within))) (omega arith) (λ k. PairItem.untagged (i .is)) TagIs.empty
+        (λ z. (z, tt), λ z. z .0))
         (λ _. tagged by (locatorIn (base + at) (drop at s)) (ap (locatorIn (base + at)) (sym (drop-drop at base m))))
       where
         w : Token
@@ -134,11 +140,13 @@ pair-sound m base o t size bad long by q = subst (Sound m base) q (sound m base 
 -- ---- read
 -- the reader's tests, over plain tokens
 accept : (base : ℕ) (s : List ℕ) (a : Token) (r : PairRead) (o : Objective) (size bad long : ℕ) → a ≡ tokenAt s 0 → (itemsIn a ≡ 0 → ⊥) → a .arg ≡ 2
-    → objectiveIn 3 (base + a .next) (drop (a .next) s) ≡ ObjectiveRead.Got o size bad long → pairTail base s (a .next + size) o bad long ≡ r → pairIn base s ≡ r
+    → objectiveIn 3 (base + a .next) (drop (a .next) s) ≡ ObjectiveRead.Got o size bad long → pairTail base s (a .next + size) o bad long ≡ r
+    → pairIn base s ≡ r
 unfolding pairIn pairLed pick
 accept base s a r o size bad long ea t₁ t₂ got tail = rw (← ea, ne-eqb _ _ t₁, got, eq-eqb _ _ t₂) tail
 
-empty-tail : (base : ℕ) (s : List ℕ) (at : ℕ) (o : Objective) (bad long : ℕ) (w : Token) {size : ℕ} → w ≡ tokenAt s at → w .major ≡ 4 → w .arg ≡ 0 → size ≡ w .next
+empty-tail : (base : ℕ) (s : List ℕ) (at : ℕ) (o : Objective) (bad long : ℕ) (w : Token) {size : ℕ} → w ≡ tokenAt s at → w .major ≡ 4 → w .arg ≡ 0
+    → size ≡ w .next
     → pairTail base s at o bad long ≡ PairRead.Got o Tag.Empty size bad long
 unfolding pairTail isEmpty pick
 empty-tail base s at o bad long w ew t₁ t₂ e = rw (← ew, eq-eqb _ _ t₁, eq-eqb _ _ t₂, e)
@@ -151,7 +159,8 @@ locator-items base s {l} {size} {bad} q z =
     eqb-false (itemsIn (tokenAt s 0)) 0 some-items (both (λ (n : ℕ). n ≡ 0) _ z refl)
 
 tagged-tail : (base : ℕ) (s : List ℕ) (at : ℕ) (o : Objective) (bad long : ℕ) (l : Locator) (n bad′ : ℕ) {size : ℕ}
-    → locatorIn (base + at) (drop at s) ≡ LocatorRead.Got l n bad′ → size ≡ at + n → pairTail base s at o bad long ≡ PairRead.Got o (Tag.At l) size (firstOf bad bad′) long
+    → locatorIn (base + at) (drop at s) ≡ LocatorRead.Got l n bad′ → size ≡ at + n
+    → pairTail base s at o bad long ≡ PairRead.Got o (Tag.At l) size (firstOf bad bad′) long
 unfolding pairTail pairTagged isEmpty pick
 tagged-tail base s at o bad long l n bad′ got e =
     rw (ne-eqb _ _ (λ z. locator-items (base + at) (drop at s) got (sym (token-first s at .arg) ∙ z)), and-false (eqb (tokenAt s at .major) 4), got, e)
@@ -166,7 +175,8 @@ record Begun (m : List ℕ) (base e : ℕ) (obj : Obj Value) (y : Item) : Type 0
   described : {t : Tag} {l : Option Loc} → TagIs m (base + mid) t l → PairIs m base objective t (obj, l)
   second : Stands (drop base m) mid (e - base) y
 
-begun : {m : List ℕ} {base e w : ℕ} {x y : Item} {obj : Obj Value} → Stands m base e (array w (x ∷ y ∷ [])) → depth x ≤ suc (leftUnder 3) → ObjectiveItem x obj → Begun m base e obj y
+begun : {m : List ℕ} {base e w : ℕ} {x y : Item} {obj : Obj Value} → Stands m base e (array w (x ∷ y ∷ [])) → depth x ≤ suc (leftUnder 3) → ObjectiveItem x obj
+    → Begun m base e obj y
 unfolding count
 begun {m} {base} {e} st d is =
     let s : List ℕ = drop base m in
@@ -181,7 +191,8 @@ begun {m} {base} {e} st d is =
       bad = bad;
       long = long;
       read =
-          λ r tail. accept base s _ r o size bad long (sym (top .token)) (array-items _ 1 refl refl) refl (ap (objectiveIn 3 (base + top .body)) (drop-drop (top .body) base m) ∙ got)
+          λ r tail. accept base s _ r o size bad long (sym (top .token)) (array-items _ 1 refl refl) refl
+          (ap (objectiveIn 3 (base + top .body)) (drop-drop (top .body) base m) ∙ got)
           (ap (λ (k : ℕ). pairTail base s k o bad long) sum ∙ tail);
       described = λ tag. record { at = base + top .body; mid = base + c .mid; opened = lift-head (top .head); objective = described; tag = tag };
       second = only (c .rest);
@@ -196,7 +207,8 @@ untagged-read : {m : List ℕ} {base e v : ℕ} {obj : Obj Value} → Begun m ba
 unfolding count
 untagged-read {m} {base} b =
     let empty = array-token (b .second) in
-    let read = b .read _ (empty-tail base (drop base m) (b .mid) (b .objective) (b .bad) (b .long) _ (sym (empty .token)) refl refl (none-end (empty .items))) in
+    let read =
+    b .read _ (empty-tail base (drop base m) (b .mid) (b .objective) (b .bad) (b .long) _ (sym (empty .token)) refl refl (none-end (empty .items))) in
     (b .objective, Tag.Empty, b .bad, b .long, read, b .described TagIs.empty)
 
 tagged-read : {m : List ℕ} {base e : ℕ} {y : Item} {obj : Obj Value} {loc : Loc} → Begun m base e obj y → LocatorItem y loc → Read m base e (obj, some loc)

@@ -83,7 +83,8 @@ module _ {s : List ℕ} {p : ℕ} {w : Token} (h : Heading s p w) where
   -- null
   pub null-at : w .major ≡ 7 → w .arg ≡ 22 → h .width ≡ 0 → Stands s p (w .next) (Item.simple 0 22)
   unfolding encode
-  null-at e a z = subst (λ (k : ℕ). Stands s p k (Item.simple 0 22)) (sym (h .leaf (inr (omega arith)))) (alone 7 (Item.simple 0 22) e (λ r. rw (z, a) at r) (rw (z, a)))
+  null-at e a z =
+      subst (λ (k : ℕ). Stands s p k (Item.simple 0 22)) (sym (h .leaf (inr (omega arith)))) (alone 7 (Item.simple 0 22) e (λ r. rw (z, a) at r) (rw (z, a)))
 
   -- a string's content is as long as its head says
   pub text-size : (t : Bool) → w .major ≡ cond t 3 2 → w .next - w .body ≡ w .arg
@@ -92,7 +93,8 @@ module _ {s : List ℕ} {p : ℕ} {w : Token} (h : Heading s p w) where
       omega (arith, h .string (rw e low) (rw e high))
 
   -- a string of bytes
-  pub text-at : (t : Bool) → w .major ≡ cond t 3 2 → Bytes (contentIn s w) → Some s p (w .next) (λ n. Item.string t n (contentIn s w)) × (length (contentIn s w) ≡ w .arg)
+  pub text-at : (t : Bool) → w .major ≡ cond t 3 2 → Bytes (contentIn s w)
+      → Some s p (w .next) (λ n. Item.string t n (contentIn s w)) × (length (contentIn s w) ≡ w .arg)
   unfolding encode
   text-at t e b =
       let (low, high) = string-major t in
@@ -103,7 +105,8 @@ module _ {s : List ℕ} {p : ℕ} {w : Token} (h : Heading s p w) where
       let long : length bs ≡ w .arg = rw size (length-take-le (w .arg) (drop (w .body) s) left) in
       let front : List ℕ = headBytes (cond t 3 2) (h .width) (length bs) in
       let rest : drop (w .body) s ≡ bs ++ drop (w .next) s =
-      rw (size, next) (sym (take-append-drop (w .arg) (drop (w .body) s)) ∙ ap (λ (r : List ℕ). take (w .arg) (drop (w .body) s) ++ r) (drop-drop (w .arg) (w .body) s)) in
+      rw (size, next)
+      (sym (take-append-drop (w .arg) (drop (w .body) s)) ∙ ap (λ (r : List ℕ). take (w .arg) (drop (w .body) s) ++ r) (drop-drop (w .arg) (w .body) s)) in
       let head : drop p s ≡ front ++ drop (w .body) s = rw (long, ← e) (h .head) in (
         record {
           width = h .width;
@@ -121,7 +124,12 @@ module _ {s : List ℕ} {p : ℕ} {w : Token} (h : Heading s p w) where
   pub array-head : w .major ≡ 4 → ArrayHead s p (w .next) (w .arg)
   array-head four =
       let next : w .next ≡ w .body = h .leaf (inr (rw four (lit≤ tt))) in
-      record { width = h .width; right = rw four at (h .right); is = rw (next, ← four) (h .head); end = omega (arith, h .body, length-head 4 (h .width) (w .arg)) }
+      record {
+        width = h .width;
+        right = rw four at (h .right);
+        is = rw (next, ← four) (h .head);
+        end = omega (arith, h .body, length-head 4 (h .width) (w .arg));
+      }
 
   -- an array, with the items that stand after its head
   pub array-at : {e : ℕ} {xs : Items} → w .major ≡ 4 → w .arg ≡ count xs → StandAll s (w .next) e xs → Stands s p e (Item.array (h .width) xs)
@@ -138,4 +146,9 @@ number-here limit {s} {p} w b e h =
 -- the head of an array, of the part of a message that begins with it
 pub lift-head : {m : List ℕ} {base q n : ℕ} → ArrayHead (drop base m) 0 q n → ArrayHead m base (base + q) n
 lift-head {m} {base} {q} {n} a =
-    record { width = a .width; right = a .right; is = a .is ∙ ap (λ (r : List ℕ). headBytes 4 (a .width) n ++ r) (drop-drop q base m); end = omega (arith, a .end) }
+    record {
+      width = a .width;
+      right = a .right;
+      is = a .is ∙ ap (λ (r : List ℕ). headBytes 4 (a .width) n ++ r) (drop-drop q base m);
+      end = omega (arith, a .end);
+    }

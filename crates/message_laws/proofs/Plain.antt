@@ -39,7 +39,8 @@ pub noop-sound : {s : List ℕ} {n at : ℕ} → Kinded s 0 n at → ShapeOk s (
 unfolding noopAt count textsOf namesOf
 noop-sound {n = n} k =
     held-case _
-    (λ one. built k _ Items.done Msg.noop (eqb-true n 1 one) (no-items (stands-within (k .is .stands))) (λ w v. MessageItem.noop) (λ _. Describes.noop) (clean tt) (clean tt))
+    (λ one. built k _ Items.done Msg.noop (eqb-true n 1 one) (no-items (stands-within (k .is .stands))) (λ w v. MessageItem.noop) (λ _. Describes.noop)
+    (clean tt) (clean tt))
 
 -- a Noop is read
 pub noop-complete : (at : ℕ) → Reads (noopAt 1 at)
@@ -61,7 +62,8 @@ wait-sound {n = n} k =
     (λ w v. MessageItem.wait (Number.number (i .low)) (Number.number (t .low))) (λ _. Describes.wait) (clean tt) (clean tt))))
 
 -- a Wait is read
-pub wait-complete : {s : List ℕ} {at e session time : ℕ} {x y : Item} → StandAll s at e (list (x ∷ y ∷ [])) → Number x session → Number y time → Reads (waitAt s 3 at)
+pub wait-complete : {s : List ℕ} {at e session time : ℕ} {x y : Item} → StandAll s at e (list (x ∷ y ∷ [])) → Number x session → Number y time
+    → Reads (waitAt s 3 at)
 unfolding waitAt
 wait-complete a i j =
     let (e, b) = number-passed a i in
@@ -88,7 +90,8 @@ invalid-sound {s} {n} {at} k =
     (λ some-len.
     let (item, there, _) = sized-item 1 s p (k .bytes) (eqb-false (sizeAt 1 s p) 0 some-len) in
     built k _ _ (Msg.invalid _ (some item)) (omega (arith, eqb-false n 2 more)) (join (i .is .stands) (last there))
-    (λ w v. MessageItem.invalid-with (Number.number (i .low))) (λ full. Describes.invalid (k .is) (i .is) (ValueIs.present there) full) (clean tt) (clean tt))))))
+    (λ w v. MessageItem.invalid-with (Number.number (i .low))) (λ full. Describes.invalid (k .is) (i .is) (ValueIs.present there) full)
+    (clean tt) (clean tt))))))
 
 -- an Invalid without an item is read
 pub invalid-complete : {s : List ℕ} {at e session : ℕ} {x : Item} → StandAll s at e (list (x ∷ [])) → Number x session → Reads (invalidAt s 2 at)
@@ -133,8 +136,10 @@ module _ {s : List ℕ} {at p session : ℕ} (k : Kinded s 6 3 at) (i : NumberHe
       = λ v e. subst (λ (v : ℕ). Stands s (o .next) (x .next) (uint (number .width) v)) e (number .stands) in
       pick-case (ShapeOk s) _
       (λ one. pick-case (ShapeOk s) _
-      (λ e. ended (array-at h array (eqb-true (o .arg) 1 one) (last (lead 101 (eqb-true (upTo 102 x) 101 e)))) OutcItem.accept (λ _. OutcomeIs.accept) (clean tt))
-      (λ e. ended (array-at h array (eqb-true (o .arg) 1 one) (last (lead 102 (omega (arith, eqb-false (upTo 102 x) 101 e))))) OutcItem.decline (λ _. OutcomeIs.decline) (clean tt)))
+      (λ e. ended (array-at h array (eqb-true (o .arg) 1 one) (last (lead 101 (eqb-true (upTo 102 x) 101 e)))) OutcItem.accept
+      (λ _. OutcomeIs.accept) (clean tt))
+      (λ e. ended (array-at h array (eqb-true (o .arg) 1 one) (last (lead 102 (omega (arith, eqb-false (upTo 102 x) 101 e))))) OutcItem.decline
+      (λ _. OutcomeIs.decline) (clean tt)))
       (λ _. past-case _
       (λ e. held-case _
       (λ two. held-case _
@@ -144,7 +149,8 @@ module _ {s : List ℕ} {at p session : ℕ} (k : Kinded s 6 3 at) (i : NumberHe
       let here : t .at ≡ x .next = token-is s (x .next) t refl .here in
       let place : t .at ≢ 0 = λ z. omega (arith, advances (number .stands)) in
       ended (array-at h array (eqb-true (o .arg) 2 two) (join (lead 102 (omega (arith, eqb-false (upTo 102 x) 101 e))) (last (string .stands)))) OutcItem.reason
-      (λ full. OutcomeIs.reason (subst (λ (q : ℕ). Before q (contentIn s t) (contentOf t)) full (string .held))) (single (bad-text (contentIn s t) (t .at) place)))))))))
+      (λ full. OutcomeIs.reason (subst (λ (q : ℕ). Before q (contentIn s t) (contentOf t)) full (string .held)))
+      (single (bad-text (contentIn s t) (t .at) place)))))))))
 
 -- what is read is an End
 pub end-sound : {s : List ℕ} {n at : ℕ} → Kinded s 6 n at → ShapeOk s (endAt s n at)
@@ -177,12 +183,14 @@ led {s} {p} {xs = xs} a hi =
     }
 
 -- an accept or a decline is read
-option-complete : {s : List ℕ} {p e : ℕ} {x : Item} {outc : Outc} (session : ℕ) → StandAll s p e (list (x ∷ [])) → OutcItem x outc → Reads (optionAt s session p)
+option-complete : {s : List ℕ} {p e : ℕ} {x : Item} {outc : Outc} (session : ℕ) → StandAll s p e (list (x ∷ [])) → OutcItem x outc
+    → Reads (optionAt s session p)
 unfolding optionAt count
 option-complete session a OutcItem.accept =
     let l = led a (lit≤ tt) in
     skipped _ (ne-eqb _ _ (l .filled))
-    (skipped _ (ap (λ (n : ℕ). ltb n 101) (l .lead)) (skipped _ (ap (λ (n : ℕ). ltb 102 n) (l .lead)) (taken _ (eq-eqb _ _ (l .arg)) (taken _ (eq-eqb _ _ (l .lead)) Reads.reads))))
+    (skipped _ (ap (λ (n : ℕ). ltb n 101) (l .lead))
+    (skipped _ (ap (λ (n : ℕ). ltb 102 n) (l .lead)) (taken _ (eq-eqb _ _ (l .arg)) (taken _ (eq-eqb _ _ (l .lead)) Reads.reads))))
 option-complete session a OutcItem.decline =
     let l = led a (lit≤ tt) in
     skipped _ (ne-eqb _ _ (l .filled))
@@ -194,7 +202,8 @@ option-complete session a OutcItem.reason =
     skipped _ (ne-eqb _ _ (l .filled))
     (skipped _ (ap (λ (n : ℕ). ltb n 101) (l .lead))
     (skipped _ (ap (λ (n : ℕ). ltb 102 n) (l .lead))
-    (skipped _ (ap (λ (n : ℕ). eqb n 1) (l .arg)) (skipped _ (ap (λ (n : ℕ). eqb n 101) (l .lead)) (taken _ (eq-eqb _ _ (l .arg)) (taken _ (eq-eqb _ _ text) Reads.reads))))))
+    (skipped _ (ap (λ (n : ℕ). eqb n 1) (l .arg))
+    (skipped _ (ap (λ (n : ℕ). eqb n 101) (l .lead)) (taken _ (eq-eqb _ _ (l .arg)) (taken _ (eq-eqb _ _ text) Reads.reads))))))
 
 -- an End is read
 pub end-complete : {s : List ℕ} {at e session : ℕ} {x y : Item} {outc : Outc} → StandAll s at e (list (x ∷ y ∷ [])) → Number x session → OutcItem y outc

@@ -69,7 +69,8 @@ record RestHere (s : List ℕ) (p left bad end bad′ long : ℕ) (extra : Extra
   names : long ≡ 0 ↔ Every Short (optionalNames obj)
 
 -- where a message is made with whatever follows the locators or the divert
-module _ {s : List ℕ} {opening : Opening} {targets : Targets} {left p bad : ℕ} (bytes : Bytes s) (go : (extra : Extra) (end bad′ long : ℕ) → RestHere s p left bad end bad′ long extra → ShapeOk s (S.Good (responseOf opening targets extra) end bad′ long)) where
+module _ {s : List ℕ} {opening : Opening} {targets : Targets} {left p bad : ℕ} (bytes : Bytes s) (go : (extra : Extra) (end bad′ long : ℕ)
+    → RestHere s p left bad end bad′ long extra → ShapeOk s (S.Good (responseOf opening targets extra) end bad′ long)) where
   -- one objective, and then the end
   rest-of-sound : (x : ObjectiveRead) → objectiveAt objectiveLevels s p ≡ x → ShapeOk s (restOf s opening targets left p bad x)
   unfolding restOf count optionalNames
@@ -109,8 +110,10 @@ module _ {s : List ℕ} {opening : Opening} {targets : Targets} {left p bad : �
 
 module _ {s : List ℕ} {n at next : ℕ} (k : Kinded s 2 n at) {opening : Opening} (h : OpeningHere s at next opening) where
   -- the opening and what follows it are the message
-  responded : {e e′ bad long : ℕ} {xs : Items} {tgts : Tgts} {obj : Option (Obj Value)} {targets : Targets} {extra : Extra} → n ≡ 4 + count xs → StandAll s next e xs → TgtsItems xs tgts obj
-      → TargetsIs s next e′ targets tgts → (e ≡ length s → ExtraIs s e′ extra obj) → bad ≡ 0 ↔ Every Utf8 (tgtsTexts tgts ++ optionalNames obj) → long ≡ 0 ↔ Every Short (optionalNames obj)
+  responded : {e e′ bad long : ℕ} {xs : Items} {tgts : Tgts} {obj : Option (Obj Value)} {targets : Targets} {extra : Extra} → n ≡ 4 + count xs
+      → StandAll s next e xs → TgtsItems xs tgts obj
+      → TargetsIs s next e′ targets tgts → (e ≡ length s → ExtraIs s e′ extra obj) → bad ≡ 0 ↔ Every Utf8 (tgtsTexts tgts ++ optionalNames obj) → long ≡ 0
+      ↔ Every Short (optionalNames obj)
       → ShapeOk s (S.Good (responseOf opening targets extra) e bad long)
   unfolding count textsOf namesOf
   responded {tgts = tgts} {obj} counted stand are pointed followed texts names =
@@ -120,7 +123,8 @@ module _ {s : List ℕ} {n at next : ℕ} (k : Kinded s 2 n at) {opening : Openi
       (λ full. Describes.response (k .is) (h .session .is) (h .initiator .is) (h .ttl .is) pointed (followed full)) texts names
 
   -- locators, and what follows them
-  located-finish : {many p′ left bad end bad′ long : ℕ} {extra : Extra} {xs : Items} {ls : List Loc} → n ≡ 4 + (count xs + left) → many ≡ count xs → (count xs ≡ 0 → ⊥)
+  located-finish : {many p′ left bad end bad′ long : ℕ} {extra : Extra} {xs : Items} {ls : List Loc} → n ≡ 4 + (count xs + left) → many ≡ count xs
+      → (count xs ≡ 0 → ⊥)
       → LocatorItems xs ls → StandAll s next p′ xs → bad ≡ 0 ↔ Every Utf8 (flatMap locTexts ls) → RestHere s p′ left bad end bad′ long extra
       → ShapeOk s (S.Good (responseOf opening (Targets.Locators (record { at = next; many = many })) extra) end bad′ long)
   unfolding count tgtsTexts
@@ -139,7 +143,8 @@ module _ {s : List ℕ} {n at next : ℕ} (k : Kinded s 2 n at) {opening : Openi
   located-of-sound {parts} counted _ (LocatorsOk.ran {left = left} l) =
       past-case _
       (λ more. rest-sound (k .bytes)
-      (λ extra end bad′ long r. located-finish (omega (arith, l .sum)) (omega (arith, l .sum)) (λ z. omega (arith, l .sum, leb-false parts left more)) (l .are) (l .stand) (first-noted (l .texts)) r)
+      (λ extra end bad′ long r. located-finish (omega (arith, l .sum)) (omega (arith, l .sum)) (λ z. omega (arith, l .sum, leb-false parts left more)) (l .are)
+      (l .stand) (first-noted (l .texts)) r)
       (l .stand .within))
 
   -- locators first
@@ -148,13 +153,16 @@ module _ {s : List ℕ} {n at next : ℕ} (k : Kinded s 2 n at) {opening : Openi
   located-sound parts counted = located-of-sound counted _ (locators-sound (k .bytes) parts next 0 (stands-within (h .ttl .is .stands)))
 
   -- a divert, and what follows it
-  divert-finish : {many from p′ q left bad end bad′ long v : ℕ} {extra : Extra} {xs : Items} {ls : List Loc} → n ≡ 5 + left → many ≡ count xs → (count xs ≡ 0 → ⊥)
+  divert-finish : {many from p′ q left bad end bad′ long v : ℕ} {extra : Extra} {xs : Items} {ls : List Loc} → n ≡ 5 + left → many ≡ count xs
+      → (count xs ≡ 0 → ⊥)
       → LocatorItems xs ls → StandAll s from p′ xs → ArrayHead s next q (suc many) → Stands s q from (uint v 100) → bad ≡ 0 ↔ Every Utf8 (flatMap locTexts ls)
-      → RestHere s p′ left bad end bad′ long extra → ShapeOk s (S.Good (responseOf opening (Targets.Divert (record { at = from; many = many })) extra) end bad′ long)
+      → RestHere s p′ left bad end bad′ long extra
+      → ShapeOk s (S.Good (responseOf opening (Targets.Divert (record { at = from; many = many })) extra) end bad′ long)
   unfolding count tgtsTexts
   divert-finish counted many filled LocatorItems.empty stand head lead texts r = absurd (filled refl)
   divert-finish counted many filled (LocatorItems.more {x} {l} {xs} {ls} i is) stand head lead texts r =
-      responded (counted ∙ omega (arith, r .counted)) (join (head-array head (ap suc many) (join lead stand)) (r .stand)) (TgtsItems.divert (LocatorItems.more i is) (r .are))
+      responded (counted ∙ omega (arith, r .counted)) (join (head-array head (ap suc many) (join lead stand)) (r .stand))
+      (TgtsItems.divert (LocatorItems.more i is) (r .are))
       (TargetsIs.divert head lead (record { items = Items.more x xs; stand = stand; many = many; are = LocatorItems.more i is }))
       (r .is) (then-noted Utf8 (flatMap locTexts (l ∷ ls)) (optionalNames (r .obj)) texts (r .texts)) (r .names)
 
@@ -167,7 +175,9 @@ module _ {s : List ℕ} {n at next : ℕ} (k : Kinded s 2 n at) {opening : Openi
       held-case _
       (λ zero.
       let same : many ≡ count (l .items) = omega (arith, l .sum, eqb-true over 0 zero) in
-      rest-sound (k .bytes) (λ extra end bad′ long r. divert-finish counted same (λ z. filled (same ∙ z)) (l .are) (l .stand) head lead (first-noted (l .texts)) r) (l .stand .within))
+      rest-sound (k .bytes)
+      (λ extra end bad′ long r. divert-finish counted same (λ z. filled (same ∙ z)) (l .are) (l .stand) head lead (first-noted (l .texts)) r)
+      (l .stand .within))
 
   -- a divert first
   divert-sound : (left : ℕ) → n ≡ 5 + left → (itemsIn (tokenAt s next) ≡ 0 → ⊥) → upTo 100 (tokenAt s (tokenAt s next .next)) ≡ 100
@@ -233,7 +243,8 @@ stops bad a (OptionalItems.with-one i) = rw (objective-led a i)
 -- a number above its limit
 above : (limit : ℕ) (t : Token) → limit < t .arg → upTo limit t ≡ limit + 1
 unfolding upTo
-above limit t h = both (λ (n : ℕ). n ≡ limit + 1) _ (pick-case (λ (n : ℕ). n ≡ limit + 1) _ (λ e. absurd (omega (arith, leb-true (t .arg) limit e))) (λ _. refl)) refl
+above limit t h =
+    both (λ (n : ℕ). n ≡ limit + 1) _ (pick-case (λ (n : ℕ). n ≡ limit + 1) _ (λ e. absurd (omega (arith, leb-true (t .arg) limit e))) (λ _. refl)) refl
 
 -- there is a locator
 filled : {xs : Items} {l : Loc} {ls : List Loc} → LocatorItems xs (l ∷ ls) → 1 ≤ count xs
@@ -253,7 +264,8 @@ first-led ys a (LocatorItems.more i is) = locator-led a i .1
 
 module _ (s : List ℕ) (opening : Opening) where
   -- what follows the locators or the divert is read
-  rest-complete : {p e left : ℕ} (bad : ℕ) {ys : Items} {obj : Option (Obj Value)} (targets : Targets) → StandAll s p e ys → OptionalItems ys obj → depths ys ≤ partLevels → left ≡ count ys
+  rest-complete : {p e left : ℕ} (bad : ℕ) {ys : Items} {obj : Option (Obj Value)} (targets : Targets) → StandAll s p e ys → OptionalItems ys obj
+      → depths ys ≤ partLevels → left ≡ count ys
       → Reads (restAt s opening targets left p bad)
   unfolding restAt restOf count depth
   rest-complete bad targets a OptionalItems.without d counted = taken _ (eq-eqb _ _ counted) Reads.reads
@@ -262,7 +274,8 @@ module _ (s : List ℕ) (opening : Opening) where
       (objective-reads a (omega arith) i (restOf s opening targets left p bad) (λ o size bad′ long. taken _ (eq-eqb _ _ counted) Reads.reads))
 
   -- locators are read
-  located-complete : {p e parts : ℕ} {xs ys : Items} {l : Loc} {ls : List Loc} {obj : Option (Obj Value)} → StandAll s p e (joined xs ys) → depths (joined xs ys) ≤ partLevels
+  located-complete : {p e parts : ℕ} {xs ys : Items} {l : Loc} {ls : List Loc} {obj : Option (Obj Value)} → StandAll s p e (joined xs ys)
+      → depths (joined xs ys) ≤ partLevels
       → parts ≡ count (joined xs ys) → LocatorItems xs (l ∷ ls) → OptionalItems ys obj → Reads (locatedAt s opening parts p)
   unfolding locatedAt locatedOf
   located-complete {p} {parts = parts} {xs} {ys} a d counted is o =
@@ -274,7 +287,8 @@ module _ (s : List ℕ) (opening : Opening) where
       (skipped _ (lt-leb parts (count ys) (omega (arith, filled is))) (rest-complete bad _ rest o (depths-joined xs ys d) refl))
 
   -- a divert is read
-  divert-complete : {p e w v left : ℕ} {xs ys : Items} {l : Loc} {ls : List Loc} {obj : Option (Obj Value)} → StandAll s p e (Items.more (Item.array w (Items.more (uint v 100) xs)) ys)
+  divert-complete : {p e w v left : ℕ} {xs ys : Items} {l : Loc} {ls : List Loc} {obj : Option (Obj Value)}
+      → StandAll s p e (Items.more (Item.array w (Items.more (uint v 100) xs)) ys)
       → depths ys ≤ partLevels → left ≡ count ys → LocatorItems xs (l ∷ ls) → OptionalItems ys obj
       → Reads (divertAt s opening left (tokenAt s p .arg) p (tokenAt s (tokenAt s p .next) .next))
   unfolding divertAt divertOf locatorsFrom count
@@ -286,10 +300,12 @@ module _ (s : List ℕ) (opening : Opening) where
       let less : tokenAt s p .arg - 1 ≡ count xs + 0 = omega (arith, t .arg) in
       let all : locatorsFrom s (tokenAt s p .arg - 1) from 0 ≡ LocatorsRead.Ran (t .mid) 0 bad = ap (λ (n : ℕ). locatorsFrom s n from 0) less ∙ same in
       skipped _ (le-ltb (tokenAt s p .arg) 2 (omega (arith, t .arg, filled is)))
-      (subst (λ (r : LocatorsRead). Reads (divertOf s opening left (tokenAt s p .arg - 1) from r)) (sym all) (taken _ refl (rest-complete bad _ (t .rest) o d counted)))
+      (subst (λ (r : LocatorsRead). Reads (divertOf s opening left (tokenAt s p .arg - 1) from r)) (sym all)
+      (taken _ refl (rest-complete bad _ (t .rest) o d counted)))
 
   -- what follows the ttl is read
-  targets-complete : {p e parts : ℕ} {xs : Items} {tgts : Tgts} {obj : Option (Obj Value)} → StandAll s p e xs → depths xs ≤ partLevels → parts ≡ count xs → TgtsItems xs tgts obj
+  targets-complete : {p e parts : ℕ} {xs : Items} {tgts : Tgts} {obj : Option (Obj Value)} → StandAll s p e xs → depths xs ≤ partLevels → parts ≡ count xs
+      → TgtsItems xs tgts obj
       → Reads (targetsAt s opening parts p)
   unfolding targetsAt depth count
   targets-complete {p} a d counted (TgtsItems.locators {ys = ys} is o) =
@@ -310,4 +326,5 @@ pub response-complete : {s : List ℕ} {n at e session ttl : ℕ} {x y z : Item}
 unfolding responseAt responseBy
 response-complete {s} {n} {at} a i j k is d counted =
     let (o, next, same, b) = opening-complete a i j k in
-    skipped _ (le-ltb n 5 (omega (arith, some-items is))) (subst (λ (r : OpeningRead). Reads (responseBy s n r)) (sym same) (targets-complete s o b d (omega arith) is))
+    skipped _ (le-ltb n 5 (omega (arith, some-items is)))
+    (subst (λ (r : OpeningRead). Reads (responseBy s n r)) (sym same) (targets-complete s o b d (omega arith) is))

@@ -33,7 +33,8 @@ use Rattle.rfc8990.specs.Accepted.{OneItem}
 use Rattle.rfc8990.specs.Refusals.{UnknownKind}
 use Rattle.message_laws.proofs.Whole.{IfGood, ShapeOk, Reads, Kinded, WholeIs, stands, one-bytes, fills}
 use Rattle.message_laws.proofs.Heads.{uint-at, uint-passed, array-passed}
-use Rattle.message_laws.proofs.Plain.{noop-sound, noop-complete, wait-sound, wait-complete, invalid-sound, invalid-complete, invalid-with-complete, end-sound, end-complete}
+use Rattle.message_laws.proofs.Plain.{noop-sound, noop-complete, wait-sound, wait-complete, invalid-sound}
+use Rattle.message_laws.proofs.Plain.{invalid-complete, invalid-with-complete, end-sound, end-complete}
 use Rattle.message_laws.proofs.Exchange.{discovery-sound, discovery-complete, Exchange, exchange-sound, exchange-complete}
 use Rattle.message_laws.proofs.Response.{response-sound, response-complete}
 use Rattle.message_laws.proofs.Flood.{flood-sound, flood-complete}
@@ -122,11 +123,13 @@ unfolding count itemsIn pick
 unknown-there {s} {e} {x} a u = array-led (headed 4 x a (is-array (tokenAt s 0) (u .filled)) (lit< tt)) a
   where
     lead : {w : ℕ} {y : Item} {ys : Items} {q : ℕ} → Headed 0 y → Stands s (tokenAt s 0 .next) q y → UnknownKind (Item.array w (Items.more y ys))
-    lead (Headed.unsigned {n = n}) a = let arg = ap (λ (t : Token). t .arg) (number-token a) in UnknownKind.unknown {n = n} (rw (← arg) (u .high)) (rw (← arg) (u .other))
+    lead (Headed.unsigned {n = n}) a = let arg = ap (λ (t : Token). t .arg) (number-token a) in
+        UnknownKind.unknown {n = n} (rw (← arg) (u .high)) (rw (← arg) (u .other))
 
     array-led : {x : Item} → Headed 4 x → Stands s 0 e x → UnknownKind x
     array-led (Headed.array {xs = Items.done}) a = let t = array-passed (last a) in absurd (u .filled (rw (t .major, t .arg)))
-    array-led (Headed.array {xs = Items.more y ys}) a = let c = split (array-passed (last a) .items) in lead (headed 0 y (c .first) (u .number) (lit< tt)) (c .first)
+    array-led (Headed.array {xs = Items.more y ys}) a = let c = split (array-passed (last a) .items) in
+        lead (headed 0 y (c .first) (u .number) (lit< tt)) (c .first)
 
 -- ---- the answers
 module _ {s : List ℕ} (one : OneItem s) where
@@ -154,7 +157,8 @@ module _ {s : List ℕ} (one : OneItem s) where
       let at-kind = kinded filled number in
       pick-case P _
       (λ e₃. pick-case P _ (λ e₄. shape (shape-sound at-kind (inr (eqb-true (k .arg) 99 e₄))))
-      (λ e₄. unknown _ (unknown-there (stands one) (record { filled = filled; number = number; high = ltb-true 9 (k .arg) e₃; other = eqb-false (k .arg) 99 e₄ }))))
+      (λ e₄. unknown _
+      (unknown-there (stands one) (record { filled = filled; number = number; high = ltb-true 9 (k .arg) e₃; other = eqb-false (k .arg) 99 e₄ }))))
       (λ e₃. shape (shape-sound at-kind (inl (ltb-false 9 (k .arg) e₃)))))
       (λ _. departs _))
     where
@@ -181,7 +185,12 @@ led {s} {kind = kind} {xs} a =
       place = tokenAt s (tokenAt s 0 .next) .at;
       end = t .mid;
       stand = stand;
-      is = rw (ne-eqb (itemsIn (tokenAt s 0)) 0 (array-items (tokenAt s 0) (count xs) (t .major) (t .arg)), eq-eqb (tokenAt s (tokenAt s 0 .next) .major) 0 number, arg, t .arg);
+      is = rw (
+        ne-eqb (itemsIn (tokenAt s 0)) 0 (array-items (tokenAt s 0) (count xs) (t .major) (t .arg)),
+        eq-eqb (tokenAt s (tokenAt s 0 .next) .major) 0 number,
+        arg,
+        t .arg,
+      );
     }
 
 -- an item of no known kind

@@ -35,7 +35,8 @@ sized-item levels s p b some =
     )
 
 -- where an item stands, its size is read
-pub item-sized : (levels : ℕ) {s : List ℕ} {p e : ℕ} {x : Item} → Stands s p e x → depth x ≤ leftUnder levels → (sizeAt levels s p ≡ e - p) × (sizeAt levels s p ≡ 0 → ⊥)
+pub item-sized : (levels : ℕ) {s : List ℕ} {p e : ℕ} {x : Item} → Stands s p e x → depth x ≤ leftUnder levels
+    → (sizeAt levels s p ≡ e - p) × (sizeAt levels s p ≡ 0 → ⊥)
 unfolding sizeAt sizeFrom
 item-sized levels {s} {p} {e} {x} a d =
     let size : sizeFrom (firstItem levels (drop p s)) ≡ length (encode x) =

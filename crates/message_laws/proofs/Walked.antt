@@ -1,4 +1,5 @@
--- The walk passes over what is read of a message's parts, whatever numbers the list has: it accepts a message that its parts make up, and ends where they end.
+-- The walk passes over what is read of a message's parts, whatever numbers the list has: it accepts a message that its
+-- parts make up, and ends where they end.
 -- Assumes nothing.
 use mathlib.Core.Path.{_≡_, refl, sym, ap, _∙_, subst}
 use mathlib.Core.Logic.{inl}
@@ -86,12 +87,14 @@ module _ (s : List ℕ) where
   unfolding locatorsFrom locatorThen
   locators-walked left zero p bad = (0, refl, passes-none)
   locators-walked left (suc n) p bad =
-      both (LocatorsWalked left (suc n) p) _ (0, sym (zero-add (suc n)), passes-none) (next (locators-walked left n) (locatorAt s p) (locator-walked p (drop p s)))
+      both (LocatorsWalked left (suc n) p) _ (0, sym (zero-add (suc n)), passes-none)
+      (next (locators-walked left n) (locatorAt s p) (locator-walked p (drop p s)))
     where
       next : ((p′ bad′ : ℕ) → LocatorsWalked left n p′ (locatorsFrom s n p′ bad′)) → (x : LocatorRead) → LocatorWalked (drop p s) x
           → LocatorsWalked left (suc n) p (locatorThen (locatorsFrom s n) p bad x)
       next go (LocatorRead.Bad place) h = tt
-      next go (LocatorRead.Got l size bad′) h = locators-more n (locatorsFrom s n (p + size) (firstOf bad bad′)) (passes-within (h left)) (go (p + size) (firstOf bad bad′))
+      next go (LocatorRead.Got l size bad′) h =
+          locators-more n (locatorsFrom s n (p + size) (firstOf bad bad′)) (passes-within (h left)) (go (p + size) (firstOf bad bad′))
 
   -- all n pairs are passed
   abbrev PairsWalked : ℕ → ℕ → PairsRead → Type 0
@@ -112,7 +115,8 @@ module _ (s : List ℕ) where
       next : ((p′ bad′ long′ : ℕ) → PairsWalked n p′ (pairsFrom s n p′ bad′ long′)) → (x : PairRead) → PairWalked (drop p s) x
           → PairsWalked (suc n) p (pairThen (pairsFrom s n) p bad long x)
       next go (PairRead.Bad place) h = tt
-      next go (PairRead.Got o t size bad′ long′) h = pairs-more n (pairsFrom s n (p + size) (firstOf bad bad′) (firstOf long long′)) (passes-within h) (go (p + size) (firstOf bad bad′) (firstOf long long′))
+      next go (PairRead.Got o t size bad′ long′) h = pairs-more n (pairsFrom s n (p + size) (firstOf bad bad′) (firstOf long long′)) (passes-within h)
+          (go (p + size) (firstOf bad bad′) (firstOf long long′))
 
   -- ---- the shapes
   -- the n items from p on are passed, up to where the parts of a shape end
@@ -130,7 +134,8 @@ module _ (s : List ℕ) where
 
   -- an objective
   objective-then : {n p : ℕ} (f : ObjectiveRead → Shape) → ((place : ℕ) → ShapeWalked n p (f (ObjectiveRead.Bad place)))
-      → ((o : Objective) (size bad long : ℕ) → Parts 1 p (p + size) → ShapeWalked n p (f (ObjectiveRead.Got o size bad long))) → ShapeWalked n p (f (objectiveAt objectiveLevels s p))
+      → ((o : Objective) (size bad long : ℕ) → Parts 1 p (p + size) → ShapeWalked n p (f (ObjectiveRead.Got o size bad long)))
+      → ShapeWalked n p (f (objectiveAt objectiveLevels s p))
   objective-then {n} {p} f none got = by (objectiveAt objectiveLevels s p) (objective-walked objectiveLevels p (drop p s))
     where
       by : (x : ObjectiveRead) → ObjectiveWalked objectiveLevels (drop p s) x → ShapeWalked n p (f x)
@@ -192,14 +197,16 @@ module _ (s : List ℕ) where
       (λ filled. past-case _
       (λ _. past-case _
       (λ hi.
-      let array : (e n : ℕ) → o .arg ≡ n → Passes (leftUnder 2) n s (o .next) e → Parts 1 p e = λ e n many h. array-passes s p (is-array o (eqb-false (itemsIn o) 0 filled)) (rw many h) in
+      let array : (e n : ℕ) → o .arg ≡ n → Passes (leftUnder 2) n s (o .next) e → Parts 1 p e =
+      λ e n many h. array-passes s p (is-array o (eqb-false (itemsIn o) 0 filled)) (rw many h) in
       let lead = number-passes {left = leftUnder 2} {p = o .next} 102 (ltb-false 102 (upTo 102 x) hi) in
       pick-case (ShapeWalked 1 p) _
       (λ one. let alone = array (x .next) 1 (eqb-true (o .arg) 1 one) lead in both (ShapeWalked 1 p) _ (IfGood.good alone) (IfGood.good alone))
       (λ _. past-case _
       (λ _. held-case _
       (λ two. held-case _
-      (λ text. IfGood.good (array _ 2 (eqb-true (o .arg) 2 two) (passes-then lead (leaf-passes s (x .next) (inl (omega (arith, eqb-true (tokenAt s (x .next) .major) 3 text)))))))))))))
+      (λ text. IfGood.good (array _ 2 (eqb-true (o .arg) 2 two)
+      (passes-then lead (leaf-passes s (x .next) (inl (omega (arith, eqb-true (tokenAt s (x .next) .major) 3 text)))))))))))))
 
   -- 6, End
   end-walked : (n p : ℕ) → ShapeWalked (n - 1) p (endAt s n p)
@@ -217,7 +224,8 @@ module _ (s : List ℕ) where
   opening-walked p =
       pick-case (OpeningWalked p) _ (λ _. OpeningWalked.departs)
       (λ e. pick-case (OpeningWalked p) _
-      (λ e′. pick-case (OpeningWalked p) _ (λ _. OpeningWalked.departs) (λ e″. OpeningWalked.opened (passes-then (passes-then (most-passes e) (initiator-passes e′)) (most-passes e″))))
+      (λ e′. pick-case (OpeningWalked p) _ (λ _. OpeningWalked.departs)
+      (λ e″. OpeningWalked.opened (passes-then (passes-then (most-passes e) (initiator-passes e′)) (most-passes e″))))
       (λ _. OpeningWalked.departs))
 
   -- the pairs of a Flood
@@ -231,7 +239,8 @@ module _ (s : List ℕ) where
 
       by : (x : PairRead) → PairWalked (drop p s) x → ShapeWalked n p (floodedOf s opening n p x)
       by (PairRead.Bad place) h = IfGood.bad
-      by (PairRead.Got o tag size bad long) h = after (omega arith) (passes-within h) (all (p + size) _ _ (pairsFrom s (n - 1) (p + size) bad long) (pairs-walked (n - 1) (p + size) bad long))
+      by (PairRead.Got o tag size bad long) h =
+          after (omega arith) (passes-within h) (all (p + size) _ _ (pairsFrom s (n - 1) (p + size) bad long) (pairs-walked (n - 1) (p + size) bad long))
 
   -- 9, Flood
   flood-walked : (n p : ℕ) → ShapeWalked (n - 1) p (floodAt s n p)
@@ -257,13 +266,15 @@ module _ (s : List ℕ) where
       where
         by : (x : LocatorsRead) → LocatorsWalked (leftUnder 2) n p x → ShapeWalked n p (locatedOf s opening n p x)
         by (LocatorsRead.Bad place) h = IfGood.bad
-        by (LocatorsRead.Ran end left bad) (c, sum, h) = past-case (tokenAt s end .next) (λ _. after sum h (rest-walked (Targets.Locators (record { at = p; many = n - left })) left end bad))
+        by (LocatorsRead.Ran end left bad) (c, sum, h) =
+            past-case (tokenAt s end .next) (λ _. after sum h (rest-walked (Targets.Locators (record { at = p; many = n - left })) left end bad))
 
     -- a divert first
     divert-walked : (left p : ℕ) → tokenAt s p .major ≡ 4 → upTo 100 (tokenAt s (tokenAt s p .next)) ≡ 100
         → ShapeWalked (1 + left) p (divertAt s opening left (tokenAt s p .arg) p (tokenAt s (tokenAt s p .next) .next))
     unfolding divertAt divertOf
-    divert-walked left p four hundred = past-case _ (λ e. by (ltb-false (o .arg) 2 e) (locatorsFrom s (o .arg - 1) from 0) (locators-walked (leftUnder 3) (o .arg - 1) from 0))
+    divert-walked left p four hundred =
+        past-case _ (λ e. by (ltb-false (o .arg) 2 e) (locatorsFrom s (o .arg - 1) from 0) (locators-walked (leftUnder 3) (o .arg - 1) from 0))
       where
         o : Token
         o = tokenAt s p
@@ -271,13 +282,15 @@ module _ (s : List ℕ) where
         from : ℕ
         from = tokenAt s (o .next) .next
 
-        by : 2 ≤ o .arg → (x : LocatorsRead) → LocatorsWalked (leftUnder 3) (o .arg - 1) from x → ShapeWalked (1 + left) p (divertOf s opening left (o .arg - 1) from x)
+        by : 2 ≤ o .arg → (x : LocatorsRead) → LocatorsWalked (leftUnder 3) (o .arg - 1) from x
+            → ShapeWalked (1 + left) p (divertOf s opening left (o .arg - 1) from x)
         by two (LocatorsRead.Bad place) h = IfGood.bad
         by two (LocatorsRead.Ran end over bad) (c, sum, h) =
             held-case (tokenAt s end .next)
             (λ none.
             let all : o .arg ≡ 1 + c = omega (arith, eqb-true over 0 none) in
-            after refl (array-passes s p four (rw all (passes-then (number-passes 100 (omega arith)) h))) (rest-walked (Targets.Divert (record { at = from; many = o .arg - 1 })) left end bad))
+            after refl (array-passes s p four (rw all (passes-then (number-passes 100 (omega arith)) h)))
+            (rest-walked (Targets.Divert (record { at = from; many = o .arg - 1 })) left end bad))
 
     -- what follows the ttl
     targets-walked : (n p : ℕ) → 1 ≤ n → ShapeWalked n p (targetsAt s opening n p)
@@ -323,7 +336,8 @@ module _ (s : List ℕ) where
         passes-item 0 s end (array-passes s 0 (is-array a filled) (rw sum (passes-then (leaf-passes s (a .next) (inl (omega arith))) h)))
 
     -- which are those of a message that is accepted
-    judged-walked : {m : Message} {end : ℕ} {x : Shape} → ShapeWalked (tokenAt s 0 .arg - 1) (tokenAt s (tokenAt s 0 .next) .next) x → judgedShape x ≡ E.Accepted m end → firstItem 0 s ≡ ItemRead.Ends end
+    judged-walked : {m : Message} {end : ℕ} {x : Shape} → ShapeWalked (tokenAt s 0 .arg - 1) (tokenAt s (tokenAt s 0 .next) .next) x
+        → judgedShape x ≡ E.Accepted m end → firstItem 0 s ≡ ItemRead.Ends end
     unfolding judgedShape
     judged-walked IfGood.bad = λ q. cc
     judged-walked {m} {end} (IfGood.good {end = end′} h) =

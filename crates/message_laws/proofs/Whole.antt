@@ -1,4 +1,5 @@
--- What every kind's laws share: what is said of a shape, the head that makes the items of a message the message, going by a shape's tests, and one item that is the whole.
+-- What every kind's laws share: what is said of a shape, the head that makes the items of a message the message, going
+-- by a shape's tests, and one item that is the whole.
 -- Assumes nothing.
 use mathlib.Core.Path.{_≡_, sym, ap, _∙_, subst}
 use mathlib.Core.Logic.{_↔_}
@@ -30,8 +31,8 @@ use Rattle.message_laws.proofs.Bytes.{bytes-encode}
 abbrev pub partLevels : ℕ
 partLevels = leftUnder 1
 
--- the first bytes of s, up to `end`, are the encoding of a message, which m describes where it is the whole; bad is 0 exactly if its texts are UTF-8, and long
--- exactly if its names are short
+-- the first bytes of s, up to `end`, are the encoding of a message, which m describes where it is the whole; bad is 0
+-- exactly if its texts are UTF-8, and long exactly if its names are short
 pub record ShapeIs (s : List ℕ) (m : Message) (end bad long : ℕ) : Type 0 where
   pub item : Item
   pub msg : Msg Value

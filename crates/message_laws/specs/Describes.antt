@@ -46,44 +46,57 @@ pub record SeriesIs (s : List ℕ) (series : Series) (e : ℕ) (P : Items → Ty
 
 -- locators stand from p to e; or the head of a divert stands at p, then its lead, 100, and then its locators, up to e
 pub data TargetsIs (s : List ℕ) (p e : ℕ) : Targets → Tgts → Type 0 where
-  locators : {series : Series} {ls : List Loc} → series .at ≡ p → SeriesIs s series e (λ xs. LocatorItems xs ls) → TargetsIs s p e (Targets.Locators series) (Tgts.locators ls)
-  divert : {series : Series} {ls : List Loc} {q w : ℕ} → ArrayHead s p q (suc (series .many)) → Stands s q (series .at) (uint w 100)
+  locators : {series : Series} {ls : List Loc} → series .at ≡ p → SeriesIs s series e (λ xs. LocatorItems xs ls)
+      → TargetsIs s p e (Targets.Locators series) (Tgts.locators ls)
+  divert : {series : Series} {ls : List Loc} {q w : ℕ} → ArrayHead s p q (suc (series .many))
+      → Stands s q (series .at) (uint w 100)
       → SeriesIs s series e (λ xs. LocatorItems xs ls) → TargetsIs s p e (Targets.Divert series) (Tgts.divert ls)
 
 -- the message ends at p, or an objective stands from there on
 pub data ExtraIs (s : List ℕ) (p : ℕ) : Extra → Option (Obj Value) → Type 0 where
   without : p ≡ length s → ExtraIs s p Extra.Without none
-  with-one : {o : Objective} {obj : Obj Value} → ObjectiveIs s p (length s) o obj → ExtraIs s p (Extra.With o) (some obj)
+  with-one : {o : Objective} {obj : Obj Value} → ObjectiveIs s p (length s) o obj
+      → ExtraIs s p (Extra.With o) (some obj)
 
 -- an End's outcome; a reason stands at the message's end
 pub data OutcomeIs (s : List ℕ) : Outcome → Outc → Type 0 where
   accept : OutcomeIs s Outcome.Accept Outc.accept
   decline : OutcomeIs s Outcome.Decline Outc.decline
-  reason : {span : Span} {content : List ℕ} → Before (length s) content span → OutcomeIs s (Outcome.Reason span) (Outc.reason content)
+  reason : {span : Span} {content : List ℕ} → Before (length s) content span
+      → OutcomeIs s (Outcome.Reason span) (Outc.reason content)
 
--- the numbers are the message's; where an answer has places, each part stands right after the one before it, from the message's start on, and an End's
--- reason right before the message's end
+-- the numbers are the message's; where an answer has places, each part stands right after the one before it, from the
+-- message's start on, and an End's reason right before the message's end
 pub data Describes (s : List ℕ) : Message → Msg Value → Type 0 where
   noop : Describes s M.Noop Msg.noop
   discovery : {session p q r : ℕ} {i : Span} {from : List ℕ} {o : Objective} {obj : Obj Value}
       → KindIs s 1 p → NumberIs s p q session → InitiatorIs s q r i from → ObjectiveIs s r (length s) o obj
       → Describes s (M.Discovery session i o) (Msg.discovery session from obj)
-  response : {session ttl p q r a e : ℕ} {i : Span} {from : List ℕ} {targets : Targets} {tgts : Tgts} {extra : Extra} {obj : Option (Obj Value)}
-      → KindIs s 2 p → NumberIs s p q session → InitiatorIs s q r i from → NumberIs s r a ttl → TargetsIs s a e targets tgts → ExtraIs s e extra obj
+  response : {session ttl p q r a e : ℕ} {i : Span} {from : List ℕ} {targets : Targets} {tgts : Tgts} {extra : Extra}
+      {obj : Option (Obj Value)}
+      → KindIs s 2 p → NumberIs s p q session → InitiatorIs s q r i from → NumberIs s r a ttl
+      → TargetsIs s a e targets tgts → ExtraIs s e extra obj
       → Describes s (M.Response session i ttl targets extra) (Msg.response session from ttl tgts obj)
-  request-negotiation : {session p q : ℕ} {o : Objective} {obj : Obj Value} → KindIs s 3 p → NumberIs s p q session → ObjectiveIs s q (length s) o obj
+  request-negotiation : {session p q : ℕ} {o : Objective} {obj : Obj Value} → KindIs s 3 p → NumberIs s p q session
+      → ObjectiveIs s q (length s) o obj
       → Describes s (M.RequestNegotiation session o) (Msg.request-negotiation session obj)
-  request-synchronization : {session p q : ℕ} {o : Objective} {obj : Obj Value} → KindIs s 4 p → NumberIs s p q session → ObjectiveIs s q (length s) o obj
+  request-synchronization : {session p q : ℕ} {o : Objective} {obj : Obj Value} → KindIs s 4 p → NumberIs s p q session
+      → ObjectiveIs s q (length s) o obj
       → Describes s (M.RequestSynchronization session o) (Msg.request-synchronization session obj)
-  negotiate : {session p q : ℕ} {o : Objective} {obj : Obj Value} → KindIs s 5 p → NumberIs s p q session → ObjectiveIs s q (length s) o obj
+  negotiate : {session p q : ℕ} {o : Objective} {obj : Obj Value} → KindIs s 5 p → NumberIs s p q session
+      → ObjectiveIs s q (length s) o obj
       → Describes s (M.Negotiate session o) (Msg.negotiate session obj)
   end : {session : ℕ} {r : Outcome} {e : Outc} → OutcomeIs s r e → Describes s (M.End session r) (Msg.end session e)
   wait : {session time : ℕ} → Describes s (M.Wait session time) (Msg.wait session time)
-  synch : {session p q : ℕ} {o : Objective} {obj : Obj Value} → KindIs s 8 p → NumberIs s p q session → ObjectiveIs s q (length s) o obj
+  synch : {session p q : ℕ} {o : Objective} {obj : Obj Value} → KindIs s 8 p → NumberIs s p q session
+      → ObjectiveIs s q (length s) o obj
       → Describes s (M.Synch session o) (Msg.synch session obj)
-  flood : {session ttl p q r : ℕ} {i : Span} {from : List ℕ} {first : P.Pair} {series : Series} {pair : Pair Value} {ps : List (Pair Value)}
+  flood : {session ttl p q r : ℕ} {i : Span} {from : List ℕ} {first : P.Pair} {series : Series} {pair : Pair Value}
+      {ps : List (Pair Value)}
       → KindIs s 9 p → NumberIs s p q session → InitiatorIs s q r i from → NumberIs s r (series .at) ttl
-      → SeriesIs s series (length s) (λ xs. PairItems xs (pair ∷ ps)) → PairIs s (series .at) (first .objective) (first .tag) pair
+      → SeriesIs s series (length s) (λ xs. PairItems xs (pair ∷ ps))
+      → PairIs s (series .at) (first .objective) (first .tag) pair
       → Describes s (M.Flood session i ttl first series) (Msg.flood session from ttl (pair ∷ ps))
-  invalid : {session p : ℕ} {span : Span} {item : Value} → KindIs s 99 p → NumberIs s p (span .at) session → ValueIs s span item
+  invalid : {session p : ℕ} {span : Span} {item : Value} → KindIs s 99 p → NumberIs s p (span .at) session
+      → ValueIs s span item
       → span .at + span .len ≡ length s → Describes s (M.Invalid session span) (Msg.invalid session item)

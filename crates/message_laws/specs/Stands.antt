@@ -43,16 +43,21 @@ pub record ArrayHead (s : List ℕ) (p q n : ℕ) : Type 0 where
 abbrev pub Before : ℕ → List ℕ → Span → Type 0
 Before p content span = span ≡ spanOf (p - length content) (length content)
 
--- the locator that an answer describes, by the items of its kind and of its address, domain name or URI, which ends at p; a URI's protocol 0 and port 65,536
--- stand for null
+-- the locator that an answer describes, by the items of its kind and of its address, domain name or URI, which ends at
+-- p; a URI's protocol 0 and port 65,536 stand for null
 pub data Addressed (p : ℕ) : Item → Item → Locator → Loc → Type 0 where
-  v6 : {k b at protocol port : ℕ} {a : List ℕ} → Before p a (spanOf at 16) → Addressed p (uint k 103) (bytes b a) (L.V6 at protocol port) (Loc.v6 a protocol port)
-  v4 : {k b at protocol port : ℕ} {a : List ℕ} → Before p a (spanOf at 4) → Addressed p (uint k 104) (bytes b a) (L.V4 at protocol port) (Loc.v4 a protocol port)
-  domain : {k b protocol port : ℕ} {name : Span} {a : List ℕ} → Before p a name → Addressed p (uint k 105) (text b a) (L.Domain name protocol port) (Loc.domain a protocol port)
-  uri : {k b protocol port : ℕ} {uri : Span} {a : List ℕ} {protocol′ port′ : Option ℕ} → Before p a uri → orNull nullProtocol protocol ≡ protocol′ → orNull nullPort port ≡ port′
+  v6 : {k b at protocol port : ℕ} {a : List ℕ} → Before p a (spanOf at 16)
+      → Addressed p (uint k 103) (bytes b a) (L.V6 at protocol port) (Loc.v6 a protocol port)
+  v4 : {k b at protocol port : ℕ} {a : List ℕ} → Before p a (spanOf at 4)
+      → Addressed p (uint k 104) (bytes b a) (L.V4 at protocol port) (Loc.v4 a protocol port)
+  domain : {k b protocol port : ℕ} {name : Span} {a : List ℕ} → Before p a name
+      → Addressed p (uint k 105) (text b a) (L.Domain name protocol port) (Loc.domain a protocol port)
+  uri : {k b protocol port : ℕ} {uri : Span} {a : List ℕ} {protocol′ port′ : Option ℕ} → Before p a uri
+      → orNull nullProtocol protocol ≡ protocol′ → orNull nullPort port ≡ port′
       → Addressed p (uint k 106) (text b a) (L.Uri uri protocol port) (Loc.uri a protocol′ port′)
 
--- the locator that an answer describes, read of the item that begins at p: each part stands right after the one before it
+-- the locator that an answer describes, read of the item that begins at p: each part stands right after the one before
+-- it
 pub record LocatorIs (s : List ℕ) (p : ℕ) (l : Locator) (loc : Loc) : Type 0 where
   -- where the kind, the address and the protocol stand
   pub kind-at : ℕ
@@ -109,7 +114,8 @@ pub record PairIs (s : List ℕ) (p : ℕ) (o : Objective) (t : Tag) (pair : Pai
   pub tag : TagIs s mid t (pair .1)
 
 -- ---- what is read of a part
--- the locator l, read from p to e with a bad text at `bad` (0 is none): the item that stands there, and the locator that it is
+-- the locator l, read from p to e with a bad text at `bad` (0 is none): the item that stands there, and the locator
+-- that it is
 pub record LocatorStands (s : List ℕ) (p e : ℕ) (l : Locator) (bad : ℕ) : Type 0 where
   pub item : Item
   pub loc : Loc
@@ -118,8 +124,8 @@ pub record LocatorStands (s : List ℕ) (p e : ℕ) (l : Locator) (bad : ℕ) : 
   pub described : LocatorIs s p l loc
   pub texts : bad ≡ 0 ↔ Every Utf8 (locTexts loc)
 
--- the objective o, read from p to e with a name that is a bad text at `bad` or too long at `long`: the item that stands there, and the objective that it is;
--- so many levels are open around its value, its own among them
+-- the objective o, read from p to e with a name that is a bad text at `bad` or too long at `long`: the item that stands
+-- there, and the objective that it is; so many levels are open around its value, its own among them
 pub record ObjectiveStands (levels : ℕ) (s : List ℕ) (p e : ℕ) (o : Objective) (bad long : ℕ) : Type 0 where
   pub item : Item
   pub obj : Obj Value
@@ -130,8 +136,8 @@ pub record ObjectiveStands (levels : ℕ) (s : List ℕ) (p e : ℕ) (o : Object
   pub texts : bad ≡ 0 ↔ Utf8 (obj .name)
   pub names : long ≡ 0 ↔ Short (obj .name)
 
--- the pair of o and t, read from p to e with a bad text at `bad` or a name too long at `long`: the item that stands there, and the pair that it is; the
--- message's level is open around it
+-- the pair of o and t, read from p to e with a bad text at `bad` or a name too long at `long`: the item that stands
+-- there, and the pair that it is; the message's level is open around it
 pub record PairStands (s : List ℕ) (p e : ℕ) (o : Objective) (t : Tag) (bad long : ℕ) : Type 0 where
   pub item : Item
   pub pair : Pair Value

@@ -1,5 +1,5 @@
-// Runs the stored cases over `reader::read`, a line for each: what the program `read_message` prints, and all that was read. A case is the
-// message's length in two bytes and the message.
+// Runs the stored cases over `reader::read`, a line for each: what the program `read_message` prints, and all that was
+// read. A case is the message's length in two bytes and the message.
 use message::Extra;
 use message::Message;
 use message::Series;

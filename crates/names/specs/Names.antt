@@ -1,4 +1,5 @@
--- A node's own names (the rules, refusal 16): one CBOR array that passes refusals 1 to 7, with 0 to 16 items, each a UTF-8 text of at most 64 bytes.
+-- A node's own names (the rules, refusal 16): one CBOR array that passes refusals 1 to 7, with 0 to 16 items, each a
+-- UTF-8 text of at most 64 bytes.
 use Prim.Native.Nat.{ℕ, zero, suc}
 use mathlib.Core.Bool.{Bool, true, false, not, _&&_, _||_}
 use mathlib.Core.List.{List}

@@ -51,7 +51,8 @@ pub moved-exactly : (state : State) (message : List ℕ) (sender : Side) (next :
     → step state message sender ≡ Moved next ↔ ((m : Message) × (readOf message ≡ Reading.Read m) × Allowed sender m state next)
 moved-exactly state message sender next = (by (readOf message) refl, λ h. read-step state message sender (h .1) ∙ allowed-moves (h .2))
   where
-    by : (r : Reading) → readOf message ≡ r → step state message sender ≡ Moved next → (m : Message) × (readOf message ≡ Reading.Read m) × Allowed sender m state next
+    by : (r : Reading) → readOf message ≡ r → step state message sender ≡ Moved next
+        → (m : Message) × (readOf message ≡ Reading.Read m) × Allowed sender m state next
     by (Reading.Refused number) e q = absurd (refused-or-moved (unread-step state message sender e) q)
     by (Reading.Read m) e q = (m, e, judged state message sender e q)
 
@@ -60,14 +61,16 @@ pub refused-20-exactly : (state : State) (message : List ℕ) (sender : Side)
     → step state message sender ≡ Refused 20 ↔ ((m : Message) × (readOf message ≡ Reading.Read m) × ((next : State) → Allowed sender m state next → ⊥))
 refused-20-exactly state message sender = (by (readOf message) refl, λ h. back (h .1) (h .2) (step state message sender) refl)
   where
-    by : (r : Reading) → readOf message ≡ r → step state message sender ≡ Refused 20 → (m : Message) × (readOf message ≡ Reading.Read m) × ((next : State) → Allowed sender m state next → ⊥)
+    by : (r : Reading) → readOf message ≡ r → step state message sender ≡ Refused 20
+        → (m : Message) × (readOf message ≡ Reading.Read m) × ((next : State) → Allowed sender m state next → ⊥)
     by (Reading.Refused number) e q =
         let f = unread-step state message sender e in
         let same : number ≡ 20 = cc in
         absurd (omega (arith, read-number message e))
     by (Reading.Read m) e q = (m, e, λ next a. refused-or-moved q (read-step state message sender e ∙ allowed-moves a))
 
-    back : {m : Message} → readOf message ≡ Reading.Read m → ((next : State) → Allowed sender m state next → ⊥) → (x : Stepped) → step state message sender ≡ x → step state message sender ≡ Refused 20
+    back : {m : Message} → readOf message ≡ Reading.Read m → ((next : State) → Allowed sender m state next → ⊥) → (x : Stepped) → step state message sender ≡ x
+        → step state message sender ≡ Refused 20
     back e none (Refused number) q = q ∙ ap Refused (judged state message sender e q)
     back e none (Moved next) q = absurd (none next (judged state message sender e q))
 
@@ -84,7 +87,8 @@ refused-exactly state message sender number other = (by (readOf message) refl, u
     by (Reading.Read m) e q = absurd (other (judged state message sender e q))
 
 -- A message that is read has a session of 32 bits.
-pub session-most : (message : List ℕ) (m : Message) (session : ℕ) → readOf message ≡ Reading.Read m → sessionOf m ≡ Session.Number session → session ≤ mostNumber
+pub session-most : (message : List ℕ) (m : Message) (session : ℕ) → readOf message ≡ Reading.Read m → sessionOf m ≡ Session.Number session
+    → session ≤ mostNumber
 session-most message m session read is = subst SmallSession is (reading-small message read .0)
 
 -- A message that is read has a count of at most 255, so that a Request opens a state with a count from 1 to 255.

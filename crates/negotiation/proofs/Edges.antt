@@ -1,4 +1,5 @@
--- One session from its Request to its End, computed, with what is refused on the way; and a state handed in with a count of 0.
+-- One session from its Request to its End, computed, with what is refused on the way; and a state handed in with a
+-- count of 0.
 -- Assumes nothing.
 use mathlib.Core.Path.{_≡_, refl}
 use mathlib.Core.List.{List, [], _∷_}
@@ -39,7 +40,8 @@ from sender bytes = record { sender = sender; bytes = bytes }
 abbrev pub messages : List Sent
 messages =
     from Us (exchange 3 0) ∷ from Us ending ∷ from Us (exchange 3 3) ∷ from Us (exchange 5 2) ∷ from Them (exchange 5 3) ∷ from Them (exchange 5 2)
-    ∷ from Them (exchange 5 1) ∷ from Us (exchange 3 3) ∷ from Us (exchange 5 1) ∷ from Them waiting ∷ from Them (exchange 5 0) ∷ from Us ending ∷ from Them ending
+    ∷ from Them (exchange 5 1) ∷ from Us (exchange 3 3) ∷ from Us (exchange 5 1) ∷ from Them waiting ∷ from Them (exchange 5 0) ∷ from Us ending
+    ∷ from Them ending
     ∷ from Us (exchange 3 3) ∷ from Us [] ∷ []
 
 abbrev pub answersOf : List StepTaken → List Stepped
@@ -56,5 +58,8 @@ pub session :
     ∷ Refused 20 ∷ Refused 1 ∷ [])
     × (negotiated (stepsOf Fresh messages) ≡ 2)
     × (step (Open 7 0 Us) ending Us ≡ Refused 20)
-unfolding pick bigEndian widthOf leastOf initialOf argOf judged headFrom headBy headOf headAt opens stepOf stepFrom stepAt itemsOf next run enough firstItem nothingAt tokenOf tokenFrom tokenAt itemsIn upTo tailsOf leastTail greatestTail goesOn isUtf8 badText longName objectiveFrom objectiveIn objectiveNamed exchangeOf exchanged exchangeAt waitAt optionAt endAt byKind judgedShape examined framed readPlaced placeless readOf moveOf freshStep lowerStep turnStep stateStep readingStep step after stepsOf isKind tookNegotiate negotiated
+unfolding pick bigEndian widthOf leastOf initialOf argOf judged headFrom headBy headOf headAt opens stepOf stepFrom stepAt itemsOf next run enough firstItem
+    nothingAt tokenOf tokenFrom tokenAt itemsIn upTo tailsOf leastTail greatestTail goesOn isUtf8 badText longName objectiveFrom objectiveIn objectiveNamed
+    exchangeOf exchanged exchangeAt waitAt optionAt endAt byKind judgedShape examined framed readPlaced placeless readOf moveOf freshStep lowerStep turnStep
+    stateStep readingStep step after stepsOf isKind tookNegotiate negotiated
 session = (refl, refl, refl)

@@ -1,4 +1,5 @@
--- The last sentence of demand 3. An open state may still accept one Negotiate less than its count says, and each accepted one lowers the count.
+-- The last sentence of demand 3. An open state may still accept one Negotiate less than its count says, and each
+-- accepted one lowers the count.
 -- Assumes nothing.
 use mathlib.Core.Path.{_≡_, refl, sym, ap, _∙_}
 use mathlib.Core.List.{List, [], _∷_}
@@ -62,7 +63,8 @@ other-opens : {bytes : List ℕ} {next : State} {m : Message} {kind c : ℕ} →
 other-opens read is other o = other (sym is ∙ ap kindOf (message-once read (o .read)) ∙ o .request)
 
 -- whether a message that was read is a Negotiate
-took : (bytes : List ℕ) (next : State) {m : Message} {kind : ℕ} → readOf bytes ≡ Reading.Read m → kindOf m ≡ kind → tookNegotiate bytes (Moved next) ≡ eqb kind 5
+took : (bytes : List ℕ) (next : State) {m : Message} {kind : ℕ} → readOf bytes ≡ Reading.Read m → kindOf m ≡ kind
+    → tookNegotiate bytes (Moved next) ≡ eqb kind 5
 unfolding tookNegotiate isKind
 took bytes next read is = rw (read, is)
 
@@ -83,7 +85,8 @@ allowed-steps bytes read old (Allowed.wait n some) =
 allowed-steps bytes read old (Allowed.end n some) =
     record { begun = refl; fewer = rw (took bytes _ read (n .ofKind)) zero-le; none = other-opens read (n .ofKind) (λ e. omega arith) }
 
-steps : (state : State) (bytes : List ℕ) (sender : Side) (answer : Stepped) → isFresh state ≡ false → step state bytes sender ≡ answer → Steps state bytes answer
+steps : (state : State) (bytes : List ℕ) (sender : Side) (answer : Stepped) → isFresh state ≡ false → step state bytes sender ≡ answer
+    → Steps state bytes answer
 unfolding after tookNegotiate pick
 steps state bytes sender (Refused number) old e = record { begun = old; fewer = le-refl (left state); none = refused-opens }
 steps state bytes sender (Moved next) old e = let (m, read, a) = moved-exactly state bytes sender next .0 e in allowed-steps bytes read old a
@@ -137,7 +140,8 @@ first-bounded bytes sender ms (Moved next) e rest = let (m, read, a) = moved-exa
 
 -- for readers
 
--- For every list of steps on one negotiation state, fresh at first: once a Request opened it at count c, at most c - 1 Negotiates are accepted.
+-- For every list of steps on one negotiation state, fresh at first: once a Request opened it at count c, at most c - 1
+-- Negotiates are accepted.
 pub negotiation-bounded : (messages : List Sent) → Bounded messages
 unfolding stepsOf negotiated
 negotiation-bounded [] = record { opened = tt; unopened = λ _. refl }

@@ -79,7 +79,8 @@ module _ (turn : Side) (session count : ℕ) (some : 1 ≤ count) where
   turn-judged (M.RequestNegotiation named objective) = refl
   turn-judged (M.RequestSynchronization named objective) = refl
   turn-judged (M.Negotiate named objective) =
-      in-session (Judged turn (M.Negotiate named objective) (Open session count turn)) session named refl (λ same. lower-judged turn session count named objective same)
+      in-session (Judged turn (M.Negotiate named objective) (Open session count turn)) session named refl
+      (λ same. lower-judged turn session count named objective same)
   turn-judged (M.End named outcome) =
       in-session (Judged turn (M.End named outcome) (Open session count turn)) session named refl
       (λ same. Allowed.end (record { ofKind = refl; ofSession = ap Session.Number same }) some)
@@ -105,7 +106,8 @@ state-judged sender m (Open session count turn) =
     let some = eqb-false count 0 e in
     pick-case J (sameSide sender turn)
     (λ same.
-    subst (λ (side : Side). Judged side m (Open session count turn) (turnStep session count turn (moveOf m))) (same-side sender turn same) (turn-judged turn session count (omega arith) m))
+    subst (λ (side : Side). Judged side m (Open session count turn) (turnStep session count turn (moveOf m))) (same-side sender turn same)
+    (turn-judged turn session count (omega arith) m))
     (λ _. refl))
   where
     J : Stepped → Type 0
@@ -177,6 +179,8 @@ pub allowed-moves : {sender : Side} {m : Message} {state next : State} → Allow
 unfolding stateStep freshStep turnStep lowerStep pick
 allowed-moves (Allowed.request {session} {count} n c least) = rw (request-move n c, ne-eqb count 0 (λ e. omega arith))
 allowed-moves {sender} {m} (Allowed.negotiate {session} {count} {lower} n c least one) =
-    on-turn session count sender (moveOf m) (omega arith) ∙ rw (negotiate-move n c, eq-eqb session session refl, ne-eqb lower 0 (λ e. omega arith), eq-eqb (lower + 1) count one)
-allowed-moves {sender} {m} (Allowed.wait {session} {count} n some) = on-turn session count sender (moveOf m) some ∙ rw (wait-move n, eq-eqb session session refl)
+    on-turn session count sender (moveOf m) (omega arith)
+    ∙ rw (negotiate-move n c, eq-eqb session session refl, ne-eqb lower 0 (λ e. omega arith), eq-eqb (lower + 1) count one)
+allowed-moves {sender} {m} (Allowed.wait {session} {count} n some) =
+    on-turn session count sender (moveOf m) some ∙ rw (wait-move n, eq-eqb session session refl)
 allowed-moves {sender} {m} (Allowed.end {session} {count} n some) = on-turn session count sender (moveOf m) some ∙ rw (end-move n, eq-eqb session session refl)

@@ -1,4 +1,5 @@
--- The ways in which a step is accepted (the rules, "Negotiation (house)"), said of what the message holds: its kind, its session, its objective's count.
+-- The ways in which a step is accepted (the rules, "Negotiation (house)"), said of what the message holds: its kind,
+-- its session, its objective's count.
 use mathlib.Core.Path.{_≡_}
 use Prim.Native.Nat.{ℕ, _+_, _≤_}
 use Rattle.options.specs.declared.objective.Objective.{Objective}
@@ -24,8 +25,11 @@ pub record HasCount (m : Message) (count : ℕ) : Type 0 where
 
 -- from which state to which state a message of this sender leads
 pub data Allowed (sender : Side) (m : Message) : State → State → Type 0 where
-  request : {session count : ℕ} → KindAndSession m 3 session → HasCount m count → 1 ≤ count → Allowed sender m Fresh (Open session count (otherSide sender))
+  request : {session count : ℕ} → KindAndSession m 3 session → HasCount m count → 1 ≤ count
+      → Allowed sender m Fresh (Open session count (otherSide sender))
   negotiate : {session count lower : ℕ} → KindAndSession m 5 session → HasCount m lower → 1 ≤ lower → lower + 1 ≡ count
       → Allowed sender m (Open session count sender) (Open session lower (otherSide sender))
-  wait : {session count : ℕ} → KindAndSession m 7 session → 1 ≤ count → Allowed sender m (Open session count sender) (Open session count sender)
-  end : {session count : ℕ} → KindAndSession m 6 session → 1 ≤ count → Allowed sender m (Open session count sender) Closed
+  wait : {session count : ℕ} → KindAndSession m 7 session → 1 ≤ count
+      → Allowed sender m (Open session count sender) (Open session count sender)
+  end : {session count : ℕ} → KindAndSession m 6 session → 1 ≤ count
+      → Allowed sender m (Open session count sender) Closed

@@ -1,4 +1,5 @@
--- What `step` answers (the rules, "Negotiation (house)"; the messages of RFC 8990, sections 2.8.6 to 2.8.9): 1 to 11 by the message's reading, then 20.
+-- What `step` answers (the rules, "Negotiation (house)"; the messages of RFC 8990, sections 2.8.6 to 2.8.9): 1 to 11 by
+-- the message's reading, then 20.
 use Prim.Native.Nat.{ℕ, _+_}
 use mathlib.Core.List.{List}
 use mathlib.Core.Bool.{Bool, true, false}
@@ -45,7 +46,8 @@ sameSide Them Them = true
 
 -- a fresh state: a Request with a count of at least 1 opens it, and the other side has the turn
 unfoldable pub freshStep : Move → Side → Stepped
-freshStep (Request session count) sender = pick (eqb count 0) (Refused 20) (Moved (Open session count (otherSide sender)))
+freshStep (Request session count) sender =
+    pick (eqb count 0) (Refused 20) (Moved (Open session count (otherSide sender)))
 freshStep (Negotiate session count) sender = Refused 20
 freshStep (Wait session) sender = Refused 20
 freshStep (End session) sender = Refused 20
@@ -54,7 +56,8 @@ freshStep Other sender = Refused 20
 -- a Negotiate with a count exactly one lower and at least 1: the turn passes
 unfoldable pub lowerStep : ℕ → ℕ → Side → ℕ → Stepped
 lowerStep session count turn lower =
-    pick (eqb lower 0) (Refused 20) (unless (eqb (lower + 1) count) (Refused 20) (Moved (Open session lower (otherSide turn))))
+    pick (eqb lower 0) (Refused 20)
+    (unless (eqb (lower + 1) count) (Refused 20) (Moved (Open session lower (otherSide turn))))
 
 -- an open state, for the side with the turn: with that session, a Negotiate, Wait (nothing changes) or End (closed)
 unfoldable pub turnStep : ℕ → ℕ → Side → Move → Stepped

@@ -1,6 +1,7 @@
 // Negotiation (house): what a message does to the state of one session.
 ghost use mathlib.Core.Path.{_≡_};
-ghost use Rattle.negotiation.specs.Step.{moveOf, otherSide, sameSide, freshStep, lowerStep, turnStep, stateStep, step};
+ghost use Rattle.negotiation.specs.Step.{moveOf, otherSide, sameSide, freshStep};
+ghost use Rattle.negotiation.specs.Step.{lowerStep, turnStep, stateStep, step};
 use message::Message;
 use reader::Reading;
 

@@ -34,7 +34,8 @@ use Rattle.node_state.specs.Table.{whereSized, freed, lowestFree, filled, isKno
 use Rattle.node.specs.Role.{roleOf, keyIn}
 use Rattle.cbor.specs.Put.{written}
 use Rattle.writer.specs.Lower.{onward}
-use Rattle.node.specs.Call.{Call, callOf, After, afterOf, barred, bar, replies, refuse, quiet, response, laterVerdict, verdictOn, answered, relayed, carriedOut, taken, received, nodeCall}
+use Rattle.node.specs.Call.{Call, callOf, After, afterOf, barred, bar, replies, refuse, quiet, response}
+use Rattle.node.specs.Call.{laterVerdict, verdictOn, answered, relayed, carriedOut, taken, received, nodeCall}
 use Rattle.node.specs.Passed.{Passed, Ready}
 use Rattle.node_state.proofs.Masks.{record-links, record-tally}
 use Rattle.node_state.proofs.TableRows.{of-sized, of-other, length-free, table-sized}
@@ -42,7 +43,8 @@ use Rattle.node_state.proofs.TableRows.{of-sized, of-other, length-free, table-
 -- ---- what was written
 
 pub sent-length : {answer : Written} {after : List ℕ} (w : Written) (after′ bytes out : List ℕ) → w ≡ answer → after′ ≡ after
-    → (answer ≡ Written.Length (length bytes)) × (after ≡ written bytes out) → (n : ℕ) → w ≡ Written.Length n → (n ≡ length bytes) × (after′ ≡ written bytes out)
+    → (answer ≡ Written.Length (length bytes)) × (after ≡ written bytes out) → (n : ℕ) → w ≡ Written.Length n
+    → (n ≡ length bytes) × (after′ ≡ written bytes out)
 sent-length w after′ bytes out is left given n e =
     let same : Written.Length n ≡ Written.Length (length bytes) = sym e ∙ is ∙ given .0 in
     (cc, left ∙ given .1)
@@ -69,7 +71,8 @@ names-apart r t clock i names names′ m o s Noop = refl
 names-apart r t clock i names names′ m o s Hand = refl
 
 -- what filling gave, in a table of 256 numbers
-found-sized : (t : List ℕ) (k : Key) (clock : ℕ) {row : ℕ} {t′ : List ℕ} → length t ≡ 256 → (row ≡ whereSized t (lowestFree t) 64) × (t′ ≡ whereSized t (filled t k clock) t)
+found-sized : (t : List ℕ) (k : Key) (clock : ℕ) {row : ℕ} {t′ : List ℕ} → length t ≡ 256
+    → (row ≡ whereSized t (lowestFree t) 64) × (t′ ≡ whereSized t (filled t k clock) t)
     → (row ≡ lowestFree t) × (t′ ≡ filled t k clock)
 found-sized t k clock sized found = (found .0 ∙ of-sized t (lowestFree t) 64 sized, found .1 ∙ of-sized t (filled t k clock) t sized)
 
@@ -97,11 +100,13 @@ module _ (r : Record) (t : List ℕ) (c : Call) (s : Spread) where
       unfolding verdictOn carriedOut quiet pick
       duplicate-outcome b e known = rw (not-own, not-named, known, e) refl
 
-      pub later-outcome : (a : After) → isKnown (keyIn (c .message) s) t ≡ false → a ≡ carriedOut r t c s (laterVerdict r t c s) → a ≡ carriedOut r t c s (verdictOn r t c s)
+      pub later-outcome : (a : After) → isKnown (keyIn (c .message) s) t ≡ false → a ≡ carriedOut r t c s (laterVerdict r t c s)
+          → a ≡ carriedOut r t c s (verdictOn r t c s)
       unfolding verdictOn pick
       later-outcome a unknown e = rw (not-own, not-named, unknown) e
 
-  pub last-outcome : (b : CallAnswer) → b ≡ replies (Given Last (s .flood) 0 0) r → s .objective .count ≤ 1 → afterOf b t (c .output) ≡ carriedOut r t c s (laterVerdict r t c s)
+  pub last-outcome : (b : CallAnswer) → b ≡ replies (Given Last (s .flood) 0 0) r → s .objective .count ≤ 1
+      → afterOf b t (c .output) ≡ carriedOut r t c s (laterVerdict r t c s)
   unfolding laterVerdict carriedOut quiet pick
   last-outcome b e few = rw (le-leb (s .objective .count) 1 few, e) refl
 
@@ -119,16 +124,33 @@ module _ (r : Record) (t : List ℕ) (c : Call) (s : Spread) where
         norow-outcome sized b e full =
             let (lowest, left) = found-sized t k (r .clock) sized found in
             let none : 64 ≤ lowestFree t = rw lowest at full in
-            rw (lt-leb (s .objective .count) 1 counts, ne-eqb (others r (c .interface)) 0 some, left, le-leb 64 (lowestFree t) none, le-ltb (lowestFree t) 64 none, e) refl
+            rw (
+              lt-leb (s .objective .count) 1 counts,
+              ne-eqb (others r (c .interface)) 0 some,
+              left,
+              le-leb 64 (lowestFree t) none,
+              le-ltb (lowestFree t) 64 none,
+              e,
+            ) refl
 
         pub relay-outcome : k ≡ keyIn (c .message) s → (b : CallAnswer) (out : List ℕ)
-            → b ≡ replies (Given Relay (s .flood) (others r (c .interface)) (length (onward (c .message) (s .objective)))) (tallied r (ones (others r (c .interface))))
+            → b ≡ replies (Given Relay (s .flood) (others r (c .interface)) (length (onward (c .message) (s .objective))))
+            (tallied r (ones (others r (c .interface))))
             → out ≡ written (onward (c .message) (s .objective)) (c .output) → row < 64 → afterOf b t′ out ≡ carriedOut r t c s (laterVerdict r t c s)
         unfolding laterVerdict carriedOut relayed filled pick
         relay-outcome keyed b out e g room =
             let (lowest, left) = found-sized t k (r .clock) (found-room t row (found .0) room) found in
             let free : lowestFree t < 64 = rw lowest at room in
-            rw (lt-leb (s .objective .count) 1 counts, ne-eqb (others r (c .interface)) 0 some, left, keyed, lt-leb 64 (lowestFree t) free, lt-ltb (lowestFree t) 64 free, e, g) refl
+            rw (
+              lt-leb (s .objective .count) 1 counts,
+              ne-eqb (others r (c .interface)) 0 some,
+              left,
+              keyed,
+              lt-leb 64 (lowestFree t) free,
+              lt-ltb (lowestFree t) 64 free,
+              e,
+              g,
+            ) refl
 
 -- ---- the whole call
 
@@ -182,10 +204,12 @@ module _ (r : Record) (t : List ℕ) (c : Call) where
   barred-outcome n b is some e = rw (← is, ne-eqb n 0 some, e) refl
 
   module _ (n : ℕ) (is : n ≡ bar r t c) (none : n ≡ 0) where
-    pub refused-outcome : (number : ℕ) (b : CallAnswer) → b ≡ replies (Refused number) r → readOf (c .message) ≡ Reading.Refused number → afterOf b t (c .output) ≡ nodeCall r t c
+    pub refused-outcome : (number : ℕ) (b : CallAnswer) → b ≡ replies (Refused number) r → readOf (c .message) ≡ Reading.Refused number
+        → afterOf b t (c .output) ≡ nodeCall r t c
     unfolding nodeCall received refuse pick
     refused-outcome number b e read = rw (← is, none, read, e) refl
 
-    pub taken-outcome : (m : Message) (a : After) → readOf (c .message) ≡ Reading.Read m → a ≡ taken (clocked r (c .clock)) (freed (c .clock) t) c (roleOf m) → a ≡ nodeCall r t c
+    pub taken-outcome : (m : Message) (a : After) → readOf (c .message) ≡ Reading.Read m → a ≡ taken (clocked r (c .clock)) (freed (c .clock) t) c (roleOf m)
+        → a ≡ nodeCall r t c
     unfolding nodeCall received pick
     taken-outcome m a read e = rw (← is, none, read) e

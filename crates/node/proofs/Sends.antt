@@ -1,4 +1,5 @@
--- What a node sends: the message with its count one lower, and the Response of an answer; both fit an output of 2,048 bytes.
+-- What a node sends: the message with its count one lower, and the Response of an answer; both fit an output of 2,048
+-- bytes.
 -- Assumes nothing.
 use mathlib.Core.Path.{_≡_, refl, ap, _∙_}
 use mathlib.Core.Logic.{_⊎_, inl, inr}
@@ -31,7 +32,8 @@ use Rattle.node.proofs.Spreads.{role-spreading, read-most}
 -- ---- a relay
 
 pub onward-given : (message out : List ℕ) (s : Spread) → RoleIn message (Role.Spreads s) → 1 ≤ s .objective .count → mostBytes ≤ length out
-    → (lowerAnswer message (s .objective .«count_at») (s .objective .value .at) (s .objective .count) out ≡ Written.Length (length (onward message (s .objective))))
+    → (lowerAnswer message (s .objective .«count_at») (s .objective .value .at) (s .objective .count) out
+    ≡ Written.Length (length (onward message (s .objective))))
     × (lowerOut message (s .objective .«count_at») (s .objective .value .at) (s .objective .count) out ≡ written (onward message (s .objective)) out)
 onward-given message out s r some room =
     let lowers = role-spreading message s r .lowers in
@@ -50,14 +52,16 @@ held-sized {message = message} {s = s} w =
     let long = held-length message (s .initiator) (w .initiator) in
     elim (w .bytes) [ inl four ↦ inl (long ∙ four) | inr sixteen ↦ inr (long ∙ sixteen) ]
 
-pub response-given : (r : Record) (message out : List ℕ) (s : Spread) → length (r .address) ≡ 16 → (length (held message (s .initiator)) ≡ 4) ⊎ (length (held message (s .initiator)) ≡ 16)
+pub response-given : (r : Record) (message out : List ℕ) (s : Spread) → length (r .address) ≡ 16
+    → (length (held message (s .initiator)) ≡ 4) ⊎ (length (held message (s .initiator)) ≡ 16)
     → mostBytes ≤ length out
     → (answerAnswer (s .session) (held message (s .initiator)) (r .ttl) (r .address) (r .port) out ≡ Written.Length (length (response r message s)))
     × (answerOut (s .session) (held message (s .initiator)) (r .ttl) (r .address) (r .port) out ≡ written (response r message s) out)
 unfolding response answerAnswer answerOut passAnswer passOut passes handAnswer handOut pick
 response-given r message out s sixteen sized room =
     let bytes : List ℕ = answerOf (s .session) (held message (s .initiator)) (r .ttl) (r .address) (r .port) in
-    let most : length bytes ≤ mostBytes = answer-few (s .session) (held message (s .initiator)) (r .ttl) (r .address) (r .port) (sized-few sized) (omega arith) in
+    let most : length bytes ≤ mostBytes =
+    answer-few (s .session) (held message (s .initiator)) (r .ttl) (r .address) (r .port) (sized-few sized) (omega arith) in
     let fits : length bytes ≤ length out = omega arith in
     rw (initiator-sized (held message (s .initiator)) .1 sized, le-ltb mostBytes (length bytes) most, le-ltb (length out) (length bytes) fits) (refl, refl)
 
@@ -69,7 +73,8 @@ part-held s i = let e : i .at + i .len - i .at ≡ i .len = omega arith in ap (�
 
 -- so the key of that part is the key of s
 pub key-held : {message : List ℕ} {s : Spread} (k : Key) → Within message s
-    → k ≡ keyFor (s .flood) (s .session) (take (s .initiator .at + s .initiator .len - s .initiator .at) (drop (s .initiator .at) message)) → k ≡ keyIn message s
+    → k ≡ keyFor (s .flood) (s .session) (take (s .initiator .at + s .initiator .len - s .initiator .at) (drop (s .initiator .at) message))
+    → k ≡ keyIn message s
 unfolding keyIn
 key-held {message = message} {s = s} k w e =
     e ∙ ap (keyFor (s .flood) (s .session)) (part-held message (s .initiator)) ∙ key-sized (s .flood) (s .session) (held message (s .initiator)) (held-sized w)

@@ -1,4 +1,5 @@
--- A Discovery or a Flood that was read: its parts lie in the message, its session is a number of 32 bits, and its count is the one that a relay lowers.
+-- A Discovery or a Flood that was read: its parts lie in the message, its session is a number of 32 bits, and its count
+-- is the one that a relay lowers.
 -- Assumes nothing.
 use mathlib.Core.Path.{_≡_, subst}
 use mathlib.Core.Bool.{Bool, true, false}
@@ -28,7 +29,8 @@ pub record Spreading (message : List ℕ) (m : Message) (s : Spread) : Type 0 wh
   pub lowers : Lowers m (s .objective)
 
 -- its parts lie where reading says
-spread-in : {message : List ℕ} {session : ℕ} {i : Span} {o : Objective} (flood : Bool) {m : Message} → Lowers m o → Opened message session i → ObjectiveParts (length message) o
+spread-in : {message : List ℕ} {session : ℕ} {i : Span} {o : Objective} (flood : Bool) {m : Message} → Lowers m o → Opened message session i
+    → ObjectiveParts (length message) o
     → Spreading message m (spreadOf flood session i o)
 spread-in flood low h parts =
     record { within = record { initiator = h .within; bytes = h .bytes; name = parts .name }; session = omega (arith, h .session); lowers = low }
@@ -36,7 +38,8 @@ spread-in flood low h parts =
 -- a message that spreads: a Discovery, or a Flood by its first objective
 pub data SpreadBy : Message → Spread → Type 0 where
   discovery : {session : ℕ} {i : Span} {o : Objective} → SpreadBy (M.Discovery session i o) (spreadOf false session i o)
-  flood : {session ttl : ℕ} {i : Span} {first : Pair} {pairs : Series} → SpreadBy (M.Flood session i ttl first pairs) (spreadOf true session i (first .objective))
+  flood : {session ttl : ℕ} {i : Span} {first : Pair} {pairs : Series}
+      → SpreadBy (M.Flood session i ttl first pairs) (spreadOf true session i (first .objective))
 
 pub spread-by : (m : Message) (s : Spread) → roleOf m ≡ Role.Spreads s → SpreadBy m s
 unfolding roleOf

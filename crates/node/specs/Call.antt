@@ -1,4 +1,5 @@
--- One node call (the rules, "Refusal numbers", "Record and relay table" and "Verdicts"): what it answers, and the record, the table and the output after it.
+-- One node call (the rules, "Refusal numbers", "Record and relay table" and "Verdicts"): what it answers, and the
+-- record, the table and the output after it.
 use Prim.Native.Nat.{ℕ, _^_}
 use mathlib.Core.Bool.{Bool, true, false, not, _&&_}
 use mathlib.Core.List.{List}
@@ -17,7 +18,8 @@ use Rattle.names.specs.Names.{namesBad, isNamed}
 use Rattle.base.specs.Bytes.{sameBytes}
 use Rattle.node_state.specs.declared.Record.{Record}
 use Rattle.node.specs.declared.Verdict.{Verdict}
-use Rattle.node.specs.declared.Verdict.the-variants.{Own, Answer, Duplicate, Last, Nowhere, NoRow, Relay, Noop, Hand}
+use Rattle.node.specs.declared.Verdict.the-variants.{Own, Answer, Duplicate, Last, Nowhere}
+use Rattle.node.specs.declared.Verdict.the-variants.{NoRow, Relay, Noop, Hand}
 use Rattle.node.specs.declared.Reply.{Reply}
 use Rattle.node.specs.declared.Reply.the-variants.{Refused, Given}
 use Rattle.node.specs.declared.CallAnswer.{CallAnswer}
@@ -37,7 +39,8 @@ pub record Call : Type 0 where
 
 -- a call, argument by argument
 abbrev pub callOf : ℕ → ℕ → List ℕ → List ℕ → List ℕ → Call
-callOf clock interface names message output = record { clock = clock; interface = interface; names = names; message = message; output = output }
+callOf clock interface names message output =
+    record { clock = clock; interface = interface; names = names; message = message; output = output }
 
 -- what it answers, and the table and the output after it
 pub record After : Type 0 where
@@ -98,7 +101,11 @@ module _ (r : Record) (t : List ℕ) (c : Call) (s : Spread) where
   unfoldable pub answered : After
   answered =
       let bytes = response r (c .message) s in
-      record { called = replies (Given Answer false (2 ^ c .interface) (length bytes)) r; table = t; output = written bytes (c .output) }
+      record {
+        called = replies (Given Answer false (2 ^ c .interface) (length bytes)) r;
+        table = t;
+        output = written bytes (c .output);
+      }
 
   -- RELAY fills the lowest free row, goes out by every other link that is up, and its copies are tallied
   unfoldable pub relayed : After
@@ -129,7 +136,8 @@ taken r t c Role.Noop = quiet Noop false r t c
 taken r t c Role.Upward = quiet Hand true r t c
 taken r t c (Role.Spreads s) = carriedOut r t c s (verdictOn r t c s)
 
--- after 12 to 17: the message's own refusal, or every dead row freed, the clock taken, and the first verdict that applies
+-- after 12 to 17: the message's own refusal, or every dead row freed, the clock taken, and the first verdict that
+-- applies
 unfoldable pub received : Record → List ℕ → Call → Reading → After
 received r t c (Reading.Refused number) = refuse number r t c
 received r t c (Reading.Read m) = taken (clocked r (c .clock)) (freed (c .clock) t) c (roleOf m)

@@ -19,9 +19,11 @@ use Rattle.node_state.specs.Key.{keyOf}
 
 -- what is looked at in a Discovery or a Flood
 abbrev pub spreadOf : Bool → ℕ → Span → Objective → Spread
-spreadOf flood session initiator objective = record { flood = flood; session = session; initiator = initiator; objective = objective }
+spreadOf flood session initiator objective =
+    record { flood = flood; session = session; initiator = initiator; objective = objective }
 
--- a Discovery spreads, and so does a Flood, whose first objective counts; a Noop is for none, and all others are for the host
+-- a Discovery spreads, and so does a Flood, whose first objective counts; a Noop is for none, and all others are for
+-- the host
 unfoldable pub roleOf : Message → Role
 roleOf M.Noop = Role.Noop
 roleOf (M.Discovery session initiator objective) = Role.Spreads (spreadOf false session initiator objective)

@@ -20,8 +20,8 @@ use node_state::Record;
 use node_state::table;
 use reader::Reading;
 
-// What a node does with a message that arrives on an interface: 12 to 17 in their order, then the message's own refusal, then the first verdict that
-// applies. A refusal leaves record, table and output as they were.
+// What a node does with a message that arrives on an interface: 12 to 17 in their order, then the message's own
+// refusal, then the first verdict that applies. A refusal leaves record, table and output as they were.
 pub fn node_call(
     node: Record,
     table: &mut [u64],
@@ -31,7 +31,8 @@ pub fn node_call(
     message: &[u8],
     out: &mut [u8],
 ) -> CallAnswer
-    ensures { λ r. ⌜ afterOf r (now (table .exit)) (now (out .exit)) ≡ nodeCall node (now (table .entry)) (callOf clock interface (now (names .entry)) (now (message .entry)) (now (out .entry))) ⌝ }
+    ensures { λ r. ⌜ afterOf r (now (table .exit)) (now (out .exit)) ≡ nodeCall node (now (table .entry))
+        (callOf clock interface (now (names .entry)) (now (message .entry)) (now (out .entry))) ⌝ }
 {
     let refusal = barred_by(node, table, clock, interface, names, out.len());
     if refusal != 0 {
@@ -115,7 +116,9 @@ fn take(
 ) -> CallAnswer
     requires passed { ⌜ Passed node (now table) clock interface (length (now out)) ⌝ }
     requires read { ⌜ RoleIn (now message) role ⌝ }
-    ensures { λ r. ⌜ afterOf r (now (table .exit)) (now (out .exit)) ≡ taken (clocked node clock) (freed clock (now (table .entry))) (callOf clock interface (now (names .entry)) (now (message .entry)) (now (out .entry))) role ⌝ }
+    ensures { λ r. ⌜ afterOf r (now (table .exit)) (now (out .exit))
+        ≡ taken (clocked node clock) (freed clock (now (table .entry)))
+        (callOf clock interface (now (names .entry)) (now (message .entry)) (now (out .entry))) role ⌝ }
 {
     table::free_dead(table, clock);
     let mut node = node;

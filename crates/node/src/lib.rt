@@ -22,8 +22,8 @@ pub enum Verdict {
     Hand,
 }
 
-// What a node call answers: the number of a refusal; or the verdict, whether the message is handed up (the rules' own term: given to the host), the
-// mask of the interfaces to send on, and how many bytes to send.
+// What a node call answers: the number of a refusal; or the verdict, whether the message is handed up (the rules' own
+// term: given to the host), the mask of the interfaces to send on, and how many bytes to send.
 pub enum Reply {
     Refused(u8),
     Given {

@@ -43,7 +43,10 @@ pub(crate) fn judge(
 ) -> CallAnswer
     requires ready { ⌜ Ready node (now table) interface (length (now out)) ⌝ }
     requires read { ⌜ RoleIn (now message) (Spreads s) ⌝ }
-    ensures { λ r. ⌜ afterOf r (now (table .exit)) (now (out .exit)) ≡ carriedOut node (now (table .entry)) (callOf (node .clock) interface (now (names .entry)) (now (message .entry)) (now (out .entry))) s (verdictOn node (now (table .entry)) (callOf (node .clock) interface (now (names .entry)) (now (message .entry)) (now (out .entry))) s) ⌝ }
+    ensures { λ r. ⌜ afterOf r (now (table .exit)) (now (out .exit)) ≡ carriedOut node (now (table .entry))
+        (callOf (node .clock) interface (now (names .entry)) (now (message .entry)) (now (out .entry))) s
+        (verdictOn node (now (table .entry))
+        (callOf (node .clock) interface (now (names .entry)) (now (message .entry)) (now (out .entry))) s) ⌝ }
 {
     if is_own(node, message, s) {
         return crate::quiet(node, Verdict::Own, false);
@@ -72,7 +75,8 @@ fn is_own(node: Record, message: &[u8], s: Spread) -> bool
 // A Discovery asks for one of the node's own names.
 fn is_named(names: &[u8], message: &[u8], s: Spread) -> bool
     requires { ⌜ Within (now message) s ⌝ }
-    ensures { λ r. ⌜ r ≡ (not (s .flood) && isNamed (now (names .entry)) (held (now (message .entry)) (s .objective .name))) ⌝ }
+    ensures { λ r.
+        ⌜ r ≡ (not (s .flood) && isNamed (now (names .entry)) (held (now (message .entry)) (s .objective .name))) ⌝ }
 {
     if s.flood {
         return false;
@@ -87,7 +91,8 @@ fn answer(node: Record, interface: u8, message: &[u8], s: Spread, out: &mut [u8]
     requires small { ⌜ interface < 8 ⌝ }
     requires fits { ⌜ mostBytes ≤ length (now out) ⌝ }
     requires within { ⌜ Within (now message) s ⌝ }
-    ensures { λ r. ⌜ r ≡ replies (Given Answer false (2 ^ interface) (length (response node (now (message .entry)) s))) node ⌝ }
+    ensures { λ r.
+        ⌜ r ≡ replies (Given Answer false (2 ^ interface) (length (response node (now (message .entry)) s))) node ⌝ }
     ensures { λ r. ⌜ now (out .exit) ≡ written (response node (now (message .entry)) s) (now (out .entry)) ⌝ }
 {
     let length = put_response(node, message, s, out);
@@ -149,7 +154,9 @@ fn relay_or_end(
     requires ready { ⌜ Ready node (now table) interface (length (now out)) ⌝ }
     requires read { ⌜ RoleIn (now message) (Spreads s) ⌝ }
     requires key { ⌜ key ≡ keyIn (now message) s ⌝ }
-    ensures { λ r. ⌜ afterOf r (now (table .exit)) (now (out .exit)) ≡ carriedOut node (now (table .entry)) (callOf (node .clock) interface [] (now (message .entry)) (now (out .entry))) s (laterVerdict node (now (table .entry)) (callOf (node .clock) interface [] (now (message .entry)) (now (out .entry))) s) ⌝ }
+    ensures { λ r. ⌜ afterOf r (now (table .exit)) (now (out .exit)) ≡ carriedOut node (now (table .entry))
+        (callOf (node .clock) interface [] (now (message .entry)) (now (out .entry))) s (laterVerdict node
+        (now (table .entry)) (callOf (node .clock) interface [] (now (message .entry)) (now (out .entry))) s) ⌝ }
 {
     if s.objective.count <= 1 {
         return crate::quiet(node, Verdict::Last, s.flood);

@@ -21,7 +21,8 @@ use Rattle.node_state.specs.Record.{linksBad, recordBad, arrivalBad}
 use Rattle.node_state.specs.Table.{tableBad}
 use Rattle.node.specs.Call.{Call, barred, bar}
 use Rattle.node_state.proofs.Masks.{up-le}
-use Rattle.node_laws.specs.Bars.{HighLink, BadRecord, no-interface, many-interfaces, high-link, high-tally, BadArrival, Earlier, GoodTable, ShortOutput, Barred, bad-record, bad-arrival, bad-clock, bad-table, bad-names, short-output, nothing}
+use Rattle.node_laws.specs.Bars.{HighLink, BadRecord, no-interface, many-interfaces, high-link, high-tally, BadArrival, Earlier, GoodTable}
+use Rattle.node_laws.specs.Bars.{ShortOutput, Barred, bad-record, bad-arrival, bad-clock, bad-table, bad-names, short-output, nothing}
 use Rattle.node_laws.proofs.Links.{high-bit}
 use Rattle.node_laws.proofs.Lives.{fails, failing}
 use Rattle.node_laws.proofs.RelayRows.{table-good}
@@ -66,7 +67,8 @@ record-test r =
 
 arrival-test : (r : Record) (c : Call) → arrivalBad r (c .interface) ≡ true ↔ BadArrival r c
 unfolding arrivalBad
-arrival-test r c = either-test (leb-true (r .interfaces) (c .interface), le-leb (r .interfaces) (c .interface)) (not-true (hasBit (r .links) (c .interface)), ap not)
+arrival-test r c =
+    either-test (leb-true (r .interfaces) (c .interface), le-leb (r .interfaces) (c .interface)) (not-true (hasBit (r .links) (c .interface)), ap not)
 
 module _ (r : Record) (t : List ℕ) (c : Call) where
   clock-test : ltb (c .clock) (r .clock) ≡ true ↔ Earlier r c
@@ -74,8 +76,10 @@ module _ (r : Record) (t : List ℕ) (c : Call) where
 
   table-test : tableBad (c .clock) t ≡ true ↔ (GoodTable t (c .clock) → ⊥)
   table-test =
-      let (there, back) = table-good (c .clock) t in
-      (λ e good. not-both (tableBad (c .clock) t) e (back good), λ none. elim (true-or-false (tableBad (c .clock) t)) [ inl e ↦ e | inr e ↦ absurd (none (there e)) ])
+      let (there, back) = table-good (c .clock) t in (
+        λ e good. not-both (tableBad (c .clock) t) e (back good),
+        λ none. elim (true-or-false (tableBad (c .clock) t)) [ inl e ↦ e | inr e ↦ absurd (none (there e)) ],
+      )
 
   room-test : ltb (length (c .output)) 2048 ≡ true ↔ ShortOutput c
   room-test = below-test (length (c .output)) 2048
@@ -97,14 +101,30 @@ module _ (r : Record) (t : List ℕ) (c : Call) where
   bars-is (bad-arrival a p) = rw (failing (record-test r) a, arrival-test r c .1 p) refl
   bars-is (bad-clock a b p) = rw (failing (record-test r) a, failing (arrival-test r c) b, clock-test .1 p) refl
   bars-is (bad-table a b d p) = rw (failing (record-test r) a, failing (arrival-test r c) b, failing clock-test d, table-test .1 p) refl
-  bars-is (bad-names a b d g p) = rw (failing (record-test r) a, failing (arrival-test r c) b, failing clock-test d, table-good (c .clock) t .1 g, names-refused (c .names) .1 p) refl
+  bars-is (bad-names a b d g p) =
+      rw (failing (record-test r) a, failing (arrival-test r c) b, failing clock-test d, table-good (c .clock) t .1 g, names-refused (c .names) .1 p) refl
   bars-is (short-output a b d g n p) =
-      rw (failing (record-test r) a, failing (arrival-test r c) b, failing clock-test d, table-good (c .clock) t .1 g, names-exactly (c .names) .1 n, room-test .1 p) refl
+      rw (
+        failing (record-test r) a,
+        failing (arrival-test r c) b,
+        failing clock-test d,
+        table-good (c .clock) t .1 g,
+        names-exactly (c .names) .1 n,
+        room-test .1 p,
+      ) refl
   bars-is (nothing a b d g n s) =
-      rw (failing (record-test r) a, failing (arrival-test r c) b, failing clock-test d, table-good (c .clock) t .1 g, names-exactly (c .names) .1 n, failing room-test s) refl
+      rw (
+        failing (record-test r) a,
+        failing (arrival-test r c) b,
+        failing clock-test d,
+        table-good (c .clock) t .1 g,
+        names-exactly (c .names) .1 n,
+        failing room-test s,
+      ) refl
 
 -- for readers
 
--- A node call is barred with a number exactly if that row of the rules applies and none before it does, and with 0 exactly if none does.
+-- A node call is barred with a number exactly if that row of the rules applies and none before it does, and with 0
+-- exactly if none does.
 pub barred-exactly : (r : Record) (t : List ℕ) (c : Call) (n : ℕ) → bar r t c ≡ n ↔ Barred r t c n
 barred-exactly r t c n = (λ e. subst (Barred r t c) e (bars r t c), bars-is r t c)

@@ -69,7 +69,9 @@ module _ (r : Record) (t : List ℕ) (c : Call) where
         (λ new. pick-case Q _ (λ e. quiet-view Last (s .flood) refl)
         (λ counts. pick-case Q _ (λ e. quiet-view Nowhere (s .flood) refl)
         (λ e. pick-case Q _ (λ e. quiet-view NoRow (s .flood) refl)
-        (λ room. went s (record { passes = p; role = role; new = new; counts = leb-false (s .objective .count) 1 counts; room = leb-false 64 (lowestFree t₁) room }) refl))))))
+        (λ room.
+        went s (record { passes = p; role = role; new = new; counts = leb-false (s .objective .count) 1 counts; room = leb-false 64 (lowestFree t₁) room })
+        refl))))))
 
     taken-view : (m : Message) → readOf (c .message) ≡ Reading.Read m → (role : Role) → roleOf m ≡ role
         → View r t c (taken (clocked r (c .clock)) (freed (c .clock) t) c role)
@@ -107,7 +109,8 @@ links-keep r mask =
 
 -- ---- a row that a relay filled
 
--- A relay with the key k at the clock `then` filled the row; now either its life is over, or the row is still as it filled it.
+-- A relay with the key k at the clock `then` filled the row; now either its life is over, or the row is still as it
+-- filled it.
 abbrev pub StillThere : Key → ℕ → ℕ → ℕ → List ℕ → Type 0
 StillThere k row then now t = (then + rowLife (k .first) ≤ now) ⊎ Holds t row k then
 
@@ -115,7 +118,8 @@ module _ (k : Key) (row then : ℕ) where
   pub freed-there : (before now : ℕ) (t : List ℕ) → before ≤ now → StillThere k row then before t → StillThere k row then now (freed now t)
   freed-there before now t later (inl over) = inl (le-trans over later)
   freed-there before now t later (inr h) =
-      elim (decLt (now - then) (rowLife (k .first))) [ yes live ↦ inr (free-keeps now t row k then h live) | no dead ↦ inl (omega (arith, life-least (k .first))) ]
+      elim (decLt (now - then)
+      (rowLife (k .first))) [ yes live ↦ inr (free-keeps now t row k then h live) | no dead ↦ inl (omega (arith, life-least (k .first))) ]
 
   -- the call's clock isn't before the row's
   pub there-past : (now : ℕ) (t : List ℕ) → tableBad now t ≡ false → StillThere k row then now (freed now t) → then ≤ now

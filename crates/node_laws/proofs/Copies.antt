@@ -25,7 +25,8 @@ unfolding interfacesIn
 interfaces-up zero mask = tt
 interfaces-up (suc n) mask =
     let rest =
-    every-imp (λ i. (i < n) × (hasBit mask i ≡ true)) (λ i. (i < suc n) × (hasBit mask i ≡ true)) (λ i k. (le-trans (k .0) (le-suc n), k .1)) (interfacesIn n mask) (interfaces-up n mask)
+    every-imp (λ i. (i < n) × (hasBit mask i ≡ true)) (λ i. (i < suc n) × (hasBit mask i ≡ true)) (λ i k. (le-trans (k .0) (le-suc n), k .1))
+    (interfacesIn n mask) (interfaces-up n mask)
     in
     pick-case (Every (λ i. (i < suc n) × (hasBit mask i ≡ true))) (hasBit mask n) (λ e. ((le-refl (suc n), e), rest)) (λ e. rest)
 

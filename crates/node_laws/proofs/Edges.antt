@@ -35,7 +35,8 @@ use Rattle.base.specs.Bytes.{sameBytes}
 use Rattle.node.specs.declared.Verdict.the-variants.{Duplicate, Relay}
 use Rattle.node.specs.declared.Reply.the-variants.{Given}
 use Rattle.node_state.specs.Record.{linksBad, recordBad, fresh, arrivalBad, others, clocked, tallied}
-use Rattle.node_state.specs.Table.{freshTable, cell, putRow, rowFree, tagIn, initiatorFits, rowKeyed, rowUsed, rowBad, firstFrom, someRow, tableBad, rowLife, rowDead, freeRows, freed, lowestFree, rowMatches, isKnown}
+use Rattle.node_state.specs.Table.{freshTable, cell, putRow, rowFree, tagIn, initiatorFits, rowKeyed, rowUsed, rowBad, firstFrom}
+use Rattle.node_state.specs.Table.{someRow, tableBad, rowLife, rowDead, freeRows, freed, lowestFree, rowMatches, isKnown}
 use Rattle.node_state.specs.Key.{tagOf, keyOf}
 use Rattle.node.specs.Role.{roleOf, keyIn}
 use Rattle.node_laws.specs.History.{steps}
@@ -60,10 +61,12 @@ pub starred :
     × (readOf (discoveryBytes (2 ∷ [])) ≡ Reading.Read (M.Discovery 7 (spanOf 4 4) (objective 10 1 2 14)))
     × (held (discoveryBytes (2 ∷ [])) (spanOf 4 4) ≡ initiator)
     × (held (discoveryBytes (2 ∷ [])) (spanOf 10 3) ≡ name)
-    × (readOf (floodBytes 2) ≡ Reading.Read (M.Flood 7 (spanOf 4 4) 1000 (record { objective = objective 14 4 2 18; tag = Tag.Empty }) (record { at = 11; many = 1 })))
+    × (readOf (floodBytes 2)
+    ≡ Reading.Read (M.Flood 7 (spanOf 4 4) 1000 (record { objective = objective 14 4 2 18; tag = Tag.Empty }) (record { at = 11; many = 1 })))
     × (held (floodBytes 2) (spanOf 4 4) ≡ initiator)
     × (held (floodBytes 2) (spanOf 14 3) ≡ name)
-    × (outcomes (arrives 1000 (discoveryBytes (2 ∷ [])) ∷ arrives 1000 (discoveryBytes (2 ∷ [])) ∷ arrives 60999 (discoveryBytes (2 ∷ [])) ∷ arrives 61000 (discoveryBytes (2 ∷ [])) ∷ [])
+    × (outcomes (arrives 1000 (discoveryBytes (2 ∷ [])) ∷ arrives 1000 (discoveryBytes (2 ∷ [])) ∷ arrives 60999 (discoveryBytes (2 ∷ []))
+    ∷ arrives 61000 (discoveryBytes (2 ∷ [])) ∷ [])
     ≡ afterOf (replies (Given Relay false 6 15) (node 1000 2)) (oneRow (7 + 2 ^ 32) 0xc0000201 0 1000) (discoveryBytes (1 ∷ []) ++ replicate 2033 0)
     ∷ afterOf (replies (Given Duplicate false 0 0) (node 1000 2)) (oneRow (7 + 2 ^ 32) 0xc0000201 0 1000) (replicate 2048 0)
     ∷ afterOf (replies (Given Duplicate false 0 0) (node 60999 2)) (oneRow (7 + 2 ^ 32) 0xc0000201 0 1000) (replicate 2048 0)
@@ -71,5 +74,11 @@ pub starred :
     ∷ [])
     × (outcomes (arrives 1000 (floodBytes 2) ∷ [])
     ≡ afterOf (replies (Given Relay true 6 20) (node 1000 2)) (oneRow (7 + 2 ^ 32 * 3) 0xc0000201 0 1000) (floodBytes 1 ++ replicate 2028 0) ∷ [])
-unfolding pick bigEndian bytesOf widthOf leastOf initialOf argOf judged headFrom headBy headOf headAt opens stepOf stepFrom stepAt itemsOf next run enough firstItem nothingAt tokenOf tokenFrom tokenAt sizeFrom sizeAt itemsIn upTo tailsOf leastTail greatestTail goesOn isUtf8 infoOf headBytes shortest head badText firstOf longName objectiveFrom objectiveIn objectiveNamed isEmpty pairTagged pairTail pairLed pairIn isInitiator openingAt pairThen pairsFrom noopAt discovered discoveryAt optionAt endAt floodedBy floodedOf floodedAt floodBy floodAt byKind judgedShape examined framed readPlaced placeless readOf lowered goodName goodNames arrayBad framedBad namesBad sameBytes namedFrom isNamed linksBad recordBad fresh hasBit arrivalBad others clocked tallied freshTable cell putRow rowFree tagIn initiatorFits rowKeyed rowUsed rowBad firstFrom someRow tableBad rowLife rowDead freeRows freed lowestFree rowMatches isKnown roleOf tagOf keyOf keyIn barred refuse quiet laterVerdict verdictOn relayed carriedOut taken received nodeCall steps ones onesIn
+unfolding pick bigEndian bytesOf widthOf leastOf initialOf argOf judged headFrom headBy headOf headAt opens stepOf stepFrom stepAt itemsOf next run enough
+    firstItem nothingAt tokenOf tokenFrom tokenAt sizeFrom sizeAt itemsIn upTo tailsOf leastTail greatestTail goesOn isUtf8 infoOf headBytes shortest head
+    badText firstOf longName objectiveFrom objectiveIn objectiveNamed isEmpty pairTagged pairTail pairLed pairIn isInitiator openingAt pairThen pairsFrom noopAt
+    discovered discoveryAt optionAt endAt floodedBy floodedOf floodedAt floodBy floodAt byKind judgedShape examined framed readPlaced placeless readOf lowered
+    goodName goodNames arrayBad framedBad namesBad sameBytes namedFrom isNamed linksBad recordBad fresh hasBit arrivalBad others clocked tallied freshTable cell
+    putRow rowFree tagIn initiatorFits rowKeyed rowUsed rowBad firstFrom someRow tableBad rowLife rowDead freeRows freed lowestFree rowMatches isKnown roleOf
+    tagOf keyOf keyIn barred refuse quiet laterVerdict verdictOn relayed carriedOut taken received nodeCall steps ones onesIn
 starred = (refl, refl, refl, refl, refl, refl, refl, refl, refl, refl, refl, refl, refl, refl, refl, refl, refl, refl, refl)

@@ -47,7 +47,8 @@ kept r t c (M.Invalid session item) low = absurd (omega arith)
 -- for readers
 
 -- A Noop (kind 0) or Discovery (kind 1) is never handed up.
-pub never-handed : (r : Record) (t : List ℕ) (c : Call) (m : Message) (v : Verdict) (up : Bool) (mask len : ℕ) → readOf (c .message) ≡ Reading.Read m → kindOf m ≤ 1
+pub never-handed : (r : Record) (t : List ℕ) (c : Call) (m : Message) (v : Verdict) (up : Bool) (mask len : ℕ)
+    → readOf (c .message) ≡ Reading.Read m → kindOf m ≤ 1
     → nodeCall r t c .called .reply ≡ Given v up mask len → up ≡ false
 never-handed r t c m v up mask len read low said =
     let (passes, is, read′, due) = verdict-exactly r t c v up .0 (mask, len, said) in

@@ -27,7 +27,8 @@ key-4 : (flood : Bool) (session : ℕ) (i : List ℕ) → length i ≡ 4 → key
 unfolding keyOf tagOf pick
 key-4 flood session i e = rw (e) refl
 
-key-16 : (flood : Bool) (session : ℕ) (i : List ℕ) → length i ≡ 16 → keyOf flood session i ≡ keyBy (session + 2 ^ 32 * pick flood 4 2) (bigEndian i 8) (bigEndian (drop 8 i) 8)
+key-16 : (flood : Bool) (session : ℕ) (i : List ℕ) → length i ≡ 16
+    → keyOf flood session i ≡ keyBy (session + 2 ^ 32 * pick flood 4 2) (bigEndian i 8) (bigEndian (drop 8 i) 8)
 unfolding keyOf tagOf pick
 key-16 flood session i e = rw (e) refl
 
@@ -54,7 +55,8 @@ whole-same : (n : ℕ) (a b : List ℕ) → Bytes a → Bytes b → length a ≡
 whole-same n a b ba bb la lb e =
     sym (take-all n a (le-of-eq la)) ∙ front-same n a b ba bb (le-of-eq (sym la)) (le-of-eq (sym lb)) e ∙ take-all n b (le-of-eq lb)
 
-halves-same : (a b : List ℕ) → Bytes a → Bytes b → length a ≡ 16 → length b ≡ 16 → bigEndian a 8 ≡ bigEndian b 8 → bigEndian (drop 8 a) 8 ≡ bigEndian (drop 8 b) 8 → a ≡ b
+halves-same : (a b : List ℕ) → Bytes a → Bytes b → length a ≡ 16 → length b ≡ 16 → bigEndian a 8 ≡ bigEndian b 8
+    → bigEndian (drop 8 a) 8 ≡ bigEndian (drop 8 b) 8 → a ≡ b
 halves-same a b ba bb la lb e f =
     let front : take 8 a ≡ take 8 b = front-same 8 a b ba bb (omega arith) (omega arith) e in
     let back : drop 8 a ≡ drop 8 b =
@@ -64,7 +66,8 @@ halves-same a b ba bb la lb e f =
 
 -- for readers
 
--- Two keys have the same numbers exactly if kind, session and initiator are the same; initiators of 4 and of 16 bytes differ.
+-- Two keys have the same numbers exactly if kind, session and initiator are the same; initiators of 4 and of 16 bytes
+-- differ.
 pub keys-exactly : (flood flood′ : Bool) (session session′ : ℕ) (i i′ : List ℕ) → session < 2 ^ 32 → session′ < 2 ^ 32 → Bytes i → Bytes i′
     → (length i ≡ 4) ⊎ (length i ≡ 16) → (length i′ ≡ 4) ⊎ (length i′ ≡ 16)
     → keyOf flood session i ≡ keyOf flood′ session′ i′ ↔ ((flood ≡ flood′) × (session ≡ session′) × (i ≡ i′))

@@ -52,7 +52,8 @@ unfolding hasBit
 above-bit mask i k up =
     let odd : mask / 2 ^ i % 2 ≡ 1 = eqb-true (mask / 2 ^ i % 2) 1 up in
     let half : (mask / 2 ^ i - 1) / 2 ≡ mask / 2 ^ i / 2 = omega arith in
-    let one : (mask - 2 ^ i) / 2 ^ (i + 1) ≡ mask / 2 ^ (i + 1) = sym (shr-shr (mask - 2 ^ i) i 1) ∙ ap (λ (z : ℕ). z / 2) (without-bit mask i odd) ∙ half ∙ shr-shr mask i 1 in
+    let one : (mask - 2 ^ i) / 2 ^ (i + 1) ≡ mask / 2 ^ (i + 1) =
+    sym (shr-shr (mask - 2 ^ i) i 1) ∙ ap (λ (z : ℕ). z / 2) (without-bit mask i odd) ∙ half ∙ shr-shr mask i 1 in
     ap (λ (z : ℕ). eqb (z % 2) 1) (sym (shr-shr (mask - 2 ^ i) (i + 1) k) ∙ ap (λ (z : ℕ). z / 2 ^ k) one ∙ shr-shr mask (i + 1) k)
 
 -- nor any other bit
@@ -69,7 +70,8 @@ other-bit mask i j up ne =
 -- A mask without its bit i has the bits of the mask other than i.
 pub others-exactly : (mask i : ℕ) → hasBit mask i ≡ true → (j : ℕ) → hasBit (mask - 2 ^ i) j ≡ true ↔ ((hasBit mask j ≡ true) × (j ≢ i))
 others-exactly mask i up j = (
-  λ e. let ne : j ≢ i = λ q. not-both (hasBit (mask - 2 ^ i) j) e (ap (hasBit (mask - 2 ^ i)) q ∙ taken-down mask i up) in (sym (other-bit mask i j up ne) ∙ e, ne),
+  λ e. let ne : j ≢ i = λ q. not-both (hasBit (mask - 2 ^ i) j) e (ap (hasBit (mask - 2 ^ i)) q ∙ taken-down mask i up) in
+      (sym (other-bit mask i j up ne) ∙ e, ne),
   λ h. other-bit mask i j up (h .1) ∙ h .0,
 )
 

@@ -105,7 +105,13 @@ used-is now t i = (there, back)
     back u =
         let is : g ≡ u .tag = ap tagIn (u .first) ∙ tag-read (u .session) (u .tag) (u .small) in
         let range = tag-range (u .tagged) in
-        rw (is, le-leb 1 (u .tag) (range .0), le-leb (u .tag) 4 (range .1), tag-odd (u .tagged) (cell t i 1) (cell t i 2) .1 (u .short), le-leb (cell t i 3) now (u .admitted)) refl
+        rw (
+          is,
+          le-leb 1 (u .tag) (range .0),
+          le-leb (u .tag) 4 (range .1),
+          tag-odd (u .tagged) (cell t i 1) (cell t i 2) .1 (u .short),
+          le-leb (cell t i 3) now (u .admitted),
+        ) refl
 
 -- a row that is free or used isn't bad
 pub row-passes : (now : ℕ) (t : List ℕ) (i : ℕ) → Free t i ⊎ Used now t i → rowBad now t i ≡ false
@@ -150,7 +156,8 @@ module _ (now : ℕ) (t : List ℕ) where
         go : Free t i ⊎ Used now t i → Live now t i ⊎ (Free t i ⊎ Dead now t i)
         go (inl f) = inr (inl f)
         go (inr u) =
-            elim (decLt (now - cell t i 3) (u .life)) [ yes l ↦ inl (record { used = u; young = l }) | no l ↦ inr (inr (record { used = u; old = omega arith })) ]
+            elim (decLt (now - cell t i 3)
+            (u .life)) [ yes l ↦ inl (record { used = u; young = l }) | no l ↦ inr (inr (record { used = u; old = omega arith })) ]
 
     -- a row that is free or dead is left as four zeros
     pub clears : Free t i ⊎ Dead now t i → Free (freed now t) i
@@ -159,7 +166,8 @@ module _ (now : ℕ) (t : List ℕ) where
       where
         cleared : rowDead now t i ≡ true → Holds (freed now t) i noKey 0
         cleared dead =
-            elim (decLt i 64) [ yes l ↦ free-dead now t 64 i l dead | no l ↦ past-zeros (freed now t) i (length-free now t 64 ∙ table-sized now t good) (omega arith) ]
+            elim (decLt i
+            64) [ yes l ↦ free-dead now t 64 i l dead | no l ↦ past-zeros (freed now t) i (length-free now t 64 ∙ table-sized now t good) (omega arith) ]
 
         go : Free t i ⊎ Dead now t i → (rowDead now t i ≡ true) ⊎ (rowDead now t i ≡ false) → Holds (freed now t) i noKey 0
         go (inr d) e = cleared (dead-test i d)

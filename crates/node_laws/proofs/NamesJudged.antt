@@ -86,10 +86,17 @@ array-own {s} most all good =
     let stand = array-at h four (n .many) (n .stand) in
     let x = Item.array (h .width) (n .items) in
     let shallow : depth x ≤ mostLevels = omega (arith, texts-flat (n .are)) in
-    let ends : ItemRead.Ends (length (encode x)) ≡ ItemRead.Ends (length s) = sym (ap (firstItem 0) (stand .is) ∙ item-accepts 0 x (drop (n .end) s) (stand .good) shallow) ∙ all in
+    let ends : ItemRead.Ends (length (encode x)) ≡ ItemRead.Ends (length s) =
+    sym (ap (firstItem 0) (stand .is) ∙ item-accepts 0 x (drop (n .end) s) (stand .good) shallow) ∙ all in
     let long : length (encode x) ≡ length s = cc in
     record {
-      one = record { item = x; bytes = whole-stands (subst (λ (k : ℕ). Stands s 0 k x) (omega (arith, stand .end)) stand); most = most; good = stand .good; shallow = shallow };
+      one = record {
+        item = x;
+        bytes = whole-stands (subst (λ (k : ℕ). Stands s 0 k x) (omega (arith, stand .end)) stand);
+        most = most;
+        good = stand .good;
+        shallow = shallow;
+      };
       names = n .names;
       are = TextArray.array (n .are);
       few = omega (arith, n .many, texts-counted (n .are));

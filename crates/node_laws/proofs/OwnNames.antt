@@ -1,4 +1,5 @@
--- A node's own names held against the row of refusal 16, and a name held against them. For readers: each statement stands alone.
+-- A node's own names held against the row of refusal 16, and a name held against them. For readers: each statement
+-- stands alone.
 -- Assumes nothing.
 use mathlib.Core.Path.{_≡_, ap, subst}
 use mathlib.Core.Logic.{inl, inr, _↔_}

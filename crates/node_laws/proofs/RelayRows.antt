@@ -1,4 +1,5 @@
--- The rows of the relay table: which tables are refused, what freeing leaves, which row is found free, which key is known, what a relay fills.
+-- The rows of the relay table: which tables are refused, what freeing leaves, which row is found free, which key is
+-- known, what a relay fills.
 -- Assumes nothing.
 use mathlib.Core.Path.{_≡_, refl, sym, _∙_, subst}
 use mathlib.Core.Logic.{_≢_, _⊎_, inl, inr, _↔_}
@@ -12,7 +13,8 @@ use borrow.Author.Tests.{eq-eqb}
 use Rattle.base.proofs.Bools.{true-or-false, not-both}
 use Rattle.node_state.specs.declared.key.Key.{Key}
 use Rattle.node_state.specs.Table.{cell, putRow, rowFree, rowBad, someRow, tableBad, freed, lowestFree, rowMatches, isKnown}
-use Rattle.node_state.proofs.TableRows.{put-other, put-holds, length-put, length-free, first-hit, first-miss, first-most, some-passes, passes-some, holds-matches, matches-holds, table-sized}
+use Rattle.node_state.proofs.TableRows.{put-other, put-holds, length-put, length-free, first-hit, first-miss, first-most}
+use Rattle.node_state.proofs.TableRows.{some-passes, passes-some, holds-matches, matches-holds, table-sized}
 use Rattle.node_laws.specs.RelayRows.{Free, Used, Live, Dead, HasKey, SameRow}
 use Rattle.node_laws.specs.Bars.{GoodTable}
 use Rattle.node_laws.specs.Due.{Known, Full}
@@ -122,14 +124,20 @@ known-live now t good k some = (λ e. let (i, l, h) = known-is k (freed now t) .
     back : Known t now k → isKnown k (freed now t) ≡ true
     back (i, l, live, h) =
         let same = live-stays now t i live in
-        known-is k (freed now t) .1 (i, l, record { first = same 0 (omega arith) ∙ h .first; second = same 1 (omega arith) ∙ h .second; third = same 2 (omega arith) ∙ h .third })
+        known-is k (freed now t) .1
+        (i, l, record { first = same 0 (omega arith) ∙ h .first; second = same 1 (omega arith) ∙ h .second; third = same 2 (omega arith) ∙ h .third })
 
 -- A filled row has the key and the clock, and every other row is as it was.
 pub filled-row : (t : List ℕ) (i : ℕ) (k : Key) (clock : ℕ) → length t ≡ 256 → i < 64
-    → HasKey (putRow t i k clock) i k × (cell (putRow t i k clock) i 3 ≡ clock) × ((n : ℕ) → n ≢ i → SameRow (putRow t i k clock) t n) × (length (putRow t i k clock) ≡ 256)
+    → HasKey (putRow t i k clock) i k × (cell (putRow t i k clock) i 3 ≡ clock) × ((n : ℕ) → n ≢ i → SameRow (putRow t i k clock) t n)
+    × (length (putRow t i k clock) ≡ 256)
 filled-row t i k clock len l =
-    let h = put-holds t i k clock len l in
-    (record { first = h .first; second = h .second; third = h .third }, h .clock, λ n other j m. put-other t i k clock n j other m, length-put t i k clock ∙ len)
+    let h = put-holds t i k clock len l in (
+      record { first = h .first; second = h .second; third = h .third },
+      h .clock,
+      λ n other j m. put-other t i k clock n j other m,
+      length-put t i k clock ∙ len,
+    )
 
 -- After freeing, no row is free exactly if every row lived.
 pub full-exactly : (now : ℕ) (t : List ℕ) → tableBad now t ≡ false → lowestFree (freed now t) ≡ 64 ↔ Full t now

@@ -42,7 +42,8 @@ module _ (r : Record) (t : List ℕ) (c : Call) where
   went-way up mask len a (went s k e) q =
       let now = c .clock in
       let bytes = onward (c .message) (s .objective) in
-      let same : Given Relay up mask len ≡ Given Relay (s .flood) (r .links - 2 ^ c .interface) (length bytes) = sym q ∙ ap (λ (z : After). z .called .reply) e in
+      let same : Given Relay up mask len ≡ Given Relay (s .flood) (r .links - 2 ^ c .interface) (length bytes) =
+      sym q ∙ ap (λ (z : After). z .called .reply) e in
       let ups : up ≡ s .flood = cc in
       let masks : mask ≡ r .links - 2 ^ c .interface = cc in
       let longs : len ≡ length bytes = cc in
@@ -77,7 +78,8 @@ module _ (r : Record) (t : List ℕ) (c : Call) where
   answered-by e relays-discovery = absurd (false≢true (cc))
   answered-by e relays-flood = absurd (false≢true (cc))
 
-  silent-by : {m : Message} {v : Verdict} {up : Bool} {a : After} → v ≢ Answer → v ≢ Relay → Does r t c m v up a → a ≡ quiet v up (clocked r (c .clock)) (freed (c .clock) t) c
+  silent-by : {m : Message} {v : Verdict} {up : Bool} {a : After} → v ≢ Answer → v ≢ Relay → Does r t c m v up a
+      → a ≡ quiet v up (clocked r (c .clock)) (freed (c .clock) t) c
   silent-by no-answer no-relay (sends-nothing n k) = refl
   silent-by no-answer no-relay answers = absurd (no-answer refl)
   silent-by no-answer no-relay relays-discovery = absurd (no-relay refl)
@@ -93,12 +95,14 @@ module _ (r : Record) (t : List ℕ) (c : Call) where
 
 -- for readers
 
--- RELAY fills the lowest free row, goes out by the other links that are up, is tallied, and writes the message with its count one lower.
+-- RELAY fills the lowest free row, goes out by the other links that are up, is tallied, and writes the message with its
+-- count one lower.
 pub relay-does : (r : Record) (t : List ℕ) (c : Call) (up : Bool) (mask len : ℕ) → nodeCall r t c .called .reply ≡ Given Relay up mask len
     → (s : Spread) × RoleIn (c .message) (Role.Spreads s) × (up ≡ s .flood) × Relayed r t c s mask len (nodeCall r t c)
 relay-does r t c up mask len = went-way r t c up mask len (nodeCall r t c) (view r t c)
 
--- ANSWER writes a Response to a Discovery and sends it back by the arriving interface alone; no row is filled and nothing is tallied.
+-- ANSWER writes a Response to a Discovery and sends it back by the arriving interface alone; no row is filled and
+-- nothing is tallied.
 pub answer-does : (r : Record) (t : List ℕ) (c : Call) (up : Bool) (mask len : ℕ) → nodeCall r t c .called .reply ≡ Given Answer up mask len
     → (session : ℕ) × (i : Span) × (o : Objective) × (readOf (c .message) ≡ Reading.Read (M.Discovery session i o)) × Answered r t c session i (nodeCall r t c)
 answer-does r t c up mask len q =
@@ -107,7 +111,8 @@ answer-does r t c up mask len q =
     (session, i, o, read ∙ ap Reading.Read is, after)
 
 -- The other verdicts write nothing, fill no row and tally nothing; their mask is 0.
-pub others-do : (r : Record) (t : List ℕ) (c : Call) (v : Verdict) (up : Bool) (mask len : ℕ) → v ≢ Answer → v ≢ Relay → nodeCall r t c .called .reply ≡ Given v up mask len
+pub others-do : (r : Record) (t : List ℕ) (c : Call) (v : Verdict) (up : Bool) (mask len : ℕ) → v ≢ Answer → v ≢ Relay
+    → nodeCall r t c .called .reply ≡ Given v up mask len
     → nodeCall r t c ≡ afterOf (replies (Given v up 0 0) (clocked r (c .clock))) (freed (c .clock) t) (c .output)
 unfolding quiet
 others-do r t c v up mask len no-answer no-relay q =

@@ -38,7 +38,8 @@ set-is r mask =
     (λ t. LinksSet.set (fails (record-test r) e) (fails (mask-test (r .interfaces) mask) t)))
 
 -- and nothing else
-fresh-once : {address : List ℕ} {port ttl interfaces mask : ℕ} {k : RecordAnswer} → FreshIs address port ttl interfaces mask k → fresh address port ttl interfaces mask ≡ k
+fresh-once : {address : List ℕ} {port ttl interfaces mask : ℕ} {k : RecordAnswer} → FreshIs address port ttl interfaces mask k
+    → fresh address port ttl interfaces mask ≡ k
 unfolding fresh pick
 fresh-once {address} {port} {ttl} {interfaces} {mask} (FreshIs.refused b) = rw (begun-test address port ttl interfaces mask .1 b) refl
 fresh-once {address} {port} {ttl} {interfaces} {mask} (FreshIs.made good) = rw (failing (begun-test address port ttl interfaces mask) good) refl
@@ -52,8 +53,10 @@ set-once {r} {mask} (LinksSet.set good low) = rw (failing (record-test r) good, 
 -- for readers
 
 -- A fresh record is given, or refused, exactly as the rules say.
-pub fresh-exactly : (address : List ℕ) (port ttl interfaces mask : ℕ) (k : RecordAnswer) → fresh address port ttl interfaces mask ≡ k ↔ FreshIs address port ttl interfaces mask k
-fresh-exactly address port ttl interfaces mask k = (λ e. subst (FreshIs address port ttl interfaces mask) e (fresh-is address port ttl interfaces mask), fresh-once)
+pub fresh-exactly : (address : List ℕ) (port ttl interfaces mask : ℕ) (k : RecordAnswer) → fresh address port ttl interfaces mask ≡ k
+    ↔ FreshIs address port ttl interfaces mask k
+fresh-exactly address port ttl interfaces mask k =
+    (λ e. subst (FreshIs address port ttl interfaces mask) e (fresh-is address port ttl interfaces mask), fresh-once)
 
 -- Links are set, or the setting is refused, exactly as the rules say.
 pub set-exactly : (r : Record) (mask : ℕ) (k : RecordAnswer) → setLinks r mask ≡ k ↔ LinksSet r mask k

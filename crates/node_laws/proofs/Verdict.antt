@@ -1,4 +1,5 @@
--- Each verdict is given exactly if its condition holds and none before it does. For readers: each statement stands alone.
+-- Each verdict is given exactly if its condition holds and none before it does. For readers: each statement stands
+-- alone.
 -- Assumes nothing.
 use mathlib.Core.Path.{_≡_, ap, _∙_, subst}
 use mathlib.Core.Logic.{_≢_, _⊎_, inl, inr, _↔_}
@@ -39,7 +40,8 @@ module _ (r : Record) (t : List ℕ) (c : Call) where
 pub outcome-exactly : (r : Record) (t : List ℕ) (c : Call) (a : After) → nodeCall r t c ≡ a ↔ Comes r t c a
 outcome-exactly r t c a = (λ e. subst (Comes r t c) e (comes r t c), comes-is r t c)
 
--- A verdict is given, and the message handed up or not, exactly if nothing bars the call, its message is read, and that is due.
+-- A verdict is given, and the message handed up or not, exactly if nothing bars the call, its message is read, and that
+-- is due.
 pub verdict-exactly : (r : Record) (t : List ℕ) (c : Call) (v : Verdict) (up : Bool)
     → ((mask : ℕ) × (len : ℕ) × (nodeCall r t c .called .reply ≡ Given v up mask len))
     ↔ ((bar r t c ≡ 0) × (m : Message) × (readOf (c .message) ≡ Reading.Read m) × Due r t c m v up)
@@ -51,7 +53,8 @@ pub refused-exactly : (r : Record) (t : List ℕ) (c : Call) (n : ℕ)
 unfolding refuse
 refused-exactly r t c n = (λ e. there (comes r t c) e, back)
   where
-    there : {a : After} → Comes r t c a → a .called .reply ≡ Refused n → ((bar r t c ≡ n) × (n ≢ 0)) ⊎ ((bar r t c ≡ 0) × (readOf (c .message) ≡ Reading.Refused n))
+    there : {a : After} → Comes r t c a → a .called .reply ≡ Refused n
+        → ((bar r t c ≡ n) × (n ≢ 0)) ⊎ ((bar r t c ≡ 0) × (readOf (c .message) ≡ Reading.Refused n))
     there (barred-by k e some) q = let same : k ≡ n = cc in inl (e ∙ same, λ z. some (same ∙ z))
     there (unread k e read) q = let same : k ≡ n = cc in inr (e, read ∙ ap Reading.Refused same)
     there (given m v up e read due does) q = absurd (no-refusal (rw q at (does-say does)))
@@ -61,6 +64,8 @@ refused-exactly r t c n = (λ e. there (comes r t c) e, back)
     back (inr (e, read)) = ap (λ (a : After). a .called .reply) (comes-is r t c (unread n e read))
 
 -- A refusal leaves record, table and output as at entry.
-pub refused-leaves : (r : Record) (t : List ℕ) (c : Call) (n : ℕ) → nodeCall r t c .called .reply ≡ Refused n → nodeCall r t c ≡ afterOf (replies (Refused n) r) t (c .output)
+pub refused-leaves : (r : Record) (t : List ℕ) (c : Call) (n : ℕ) → nodeCall r t c .called .reply ≡ Refused n
+    → nodeCall r t c ≡ afterOf (replies (Refused n) r) t (c .output)
 unfolding refuse
-refused-leaves r t c n e = elim (refused-exactly r t c n .0 e) [ inl (e, some) ↦ comes-is r t c (barred-by n e some) | inr (e, read) ↦ comes-is r t c (unread n e read) ]
+refused-leaves r t c n e =
+    elim (refused-exactly r t c n .0 e) [ inl (e, some) ↦ comes-is r t c (barred-by n e some) | inr (e, read) ↦ comes-is r t c (unread n e read) ]

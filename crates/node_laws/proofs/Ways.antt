@@ -1,4 +1,5 @@
--- What comes of a node call: each of its tests decides the condition that the rules name, so the verdict that it picks is the one that is due.
+-- What comes of a node call: each of its tests decides the condition that the rules name, so the verdict that it picks
+-- is the one that is due.
 -- Assumes nothing.
 use mathlib.Core.Path.{_≡_, refl, sym, _∙_, subst}
 use mathlib.Core.Logic.{_≢_, _⊎_, inl, inr, _↔_}
@@ -37,7 +38,8 @@ use Rattle.node.specs.Call.{Call, After, bar, refuse, quiet, answered, relayed,
 use Rattle.node.specs.Passed.{Passed}
 use Rattle.node_state.proofs.Keys.{key-used}
 use Rattle.node.proofs.Outcomes.{passed, arrival-up}
-use Rattle.node_laws.specs.Due.{OwnInitiator, Named, Known, Alone, Full, Rules, when, otherwise, First, discoveryRules, floodRules, rulesOn, Due, Does, sends-nothing, answers, relays-discovery, relays-flood, Comes, barred-by, unread, given}
+use Rattle.node_laws.specs.Due.{OwnInitiator, Named, Known, Alone, Full, Rules, when, otherwise, First, discoveryRules, floodRules, rulesOn, Due}
+use Rattle.node_laws.specs.Due.{Does, sends-nothing, answers, relays-discovery, relays-flood, Comes, barred-by, unread, given}
 use Rattle.node_laws.specs.Bars.{Barred, nothing}
 use Rattle.node_laws.proofs.Bars.{barred-exactly}
 use Rattle.node_laws.proofs.Lives.{fails}
@@ -89,7 +91,8 @@ picked : (up : Verdict → Bool) (rules : Rules) (v w : Verdict) {P : Type 0} {t
     → First (when P v handed rules) (pick test v w) (up (pick test v w))
 unfolding First
 picked up rules v w {P} {test} {handed} d e rest =
-    pick-case (λ (x : Verdict). First (when P v handed rules) x (up x)) test (λ yes-it-is. inl (d .0 yes-it-is, refl, e)) (λ it-is-not. inr (fails d it-is-not, rest))
+    pick-case (λ (x : Verdict). First (when P v handed rules) x (up x)) test (λ yes-it-is. inl (d .0 yes-it-is, refl, e))
+    (λ it-is-not. inr (fails d it-is-not, rest))
 
 first-else : (up : Verdict → Bool) (v : Verdict) → First (otherwise v (up v)) v (up v)
 unfolding First
@@ -124,7 +127,8 @@ module _ (r : Record) (t : List ℕ) (c : Call) (session : ℕ) (i : Span) (o : 
   abbrev discovery-verdict : Verdict
   discovery-verdict = verdictOn (clocked r (c .clock)) (freed (c .clock) t) c (spreadOf false session i o)
 
-  discovery-due : Passed r t (c .clock) (c .interface) (length (c .output)) → OwnNames (c .names) → First (discoveryRules r t c session i o) discovery-verdict (handed false discovery-verdict)
+  discovery-due : Passed r t (c .clock) (c .interface) (length (c .output)) → OwnNames (c .names)
+      → First (discoveryRules r t c session i o) discovery-verdict (handed false discovery-verdict)
   unfolding verdictOn laterVerdict pick handed
   discovery-due p own =
       picked (handed false) _ _ _ (own-test r c i) refl
@@ -153,12 +157,14 @@ module _ (r : Record) (t : List ℕ) (c : Call) (session : ℕ) (i : Span) (o : 
   unfolding verdictOn laterVerdict
   flood-unanswered =
       let P : Verdict → Type 0 = λ v. v ≡ Answer → false ≡ true in
-      λ e. false≢true (both P _ (λ q. cc) (pick-case P _ (λ t q. t) (λ _. both P _ (λ q. cc) (both P _ (λ q. cc) (both P _ (λ q. cc) (both P _ (λ q. cc) (λ q. cc)))))) e)
+      λ e. false≢true
+      (both P _ (λ q. cc) (pick-case P _ (λ t q. t) (λ _. both P _ (λ q. cc) (both P _ (λ q. cc) (both P _ (λ q. cc) (both P _ (λ q. cc) (λ q. cc)))))) e)
 
 -- ---- what a verdict does
 
 module _ (r : Record) (t : List ℕ) (c : Call) where
-  silent : {m : Message} {up : Bool} (v : Verdict) → (v ≡ Answer → false ≡ true) → (v ≡ Relay → false ≡ true) → Does r t c m v up (quiet v up (clocked r (c .clock)) (freed (c .clock) t) c)
+  silent : {m : Message} {up : Bool} (v : Verdict) → (v ≡ Answer → false ≡ true) → (v ≡ Relay → false ≡ true)
+      → Does r t c m v up (quiet v up (clocked r (c .clock)) (freed (c .clock) t) c)
   silent v a b = sends-nothing (λ q. false≢true (a q)) (λ q. false≢true (b q))
 
   spread-does : {m : Message} (s : Spread) (v : Verdict) → (v ≡ Answer → Does r t c m Answer false (answered (clocked r (c .clock)) (freed (c .clock) t) c s))
@@ -224,8 +230,12 @@ module _ (r : Record) (t : List ℕ) (c : Call) where
   read-verdicted e (M.Synch session o) = hands (refl, refl)
   read-verdicted e (M.Flood session i ttl first pairs) =
       let o = first .objective in
-      let v = flood-verdict r t c session i o in
-      (v, handed true v, flood-due r t c session i o (passes e), spread-does (spreadOf true session i o) v (λ q. absurd (flood-unanswered r t c session i o q)) relays-flood)
+      let v = flood-verdict r t c session i o in (
+        v,
+        handed true v,
+        flood-due r t c session i o (passes e),
+        spread-does (spreadOf true session i o) v (λ q. absurd (flood-unanswered r t c session i o q)) relays-flood,
+      )
   read-verdicted e (M.Invalid session item) = hands (refl, refl)
 
   -- the call by its refusals

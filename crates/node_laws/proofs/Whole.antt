@@ -1,4 +1,5 @@
--- Demand 3 for a whole list of node calls and link settings: each relay that is younger than its row's life has a row of its own, with its key and its clock.
+-- Demand 3 for a whole list of node calls and link settings: each relay that is younger than its row's life has a row
+-- of its own, with its key and its clock.
 -- Assumes nothing.
 use mathlib.Core.Path.{_≡_, refl, sym, ap, _∙_, subst}
 use mathlib.Core.Logic.{_≢_, inr}
@@ -29,7 +30,8 @@ use Rattle.node.specs.Role.{keyIn}
 use Rattle.writer.specs.Lower.{onward}
 use Rattle.node.specs.Call.{Call, After, relayed, nodeCall}
 use Rattle.node.specs.Passed.{Passed}
-use Rattle.node_laws.specs.History.{Event, call, links, Step, steps, finally, isRelay, saysRelay, maskOf, lengthOf, Told, told, relaysOf, given, sent, clockOf, arrivedOn, interfacesIn, copies, copiesOf, SameKey, apartBy, Apart, GoesOut, Near, Few, WholeList}
+use Rattle.node_laws.specs.History.{Event, call, links, Step, steps, finally, isRelay, saysRelay, maskOf, lengthOf, Told, told, relaysOf, given, sent}
+use Rattle.node_laws.specs.History.{clockOf, arrivedOn, interfacesIn, copies, copiesOf, SameKey, apartBy, Apart, GoesOut, Near, Few, WholeList}
 use Rattle.node_laws.specs.Demand.{Demand3}
 use Rattle.node_state.proofs.Masks.{record-links, up-below, taken-down, others-fewer}
 use Rattle.node_state.proofs.TableRows.{put-holds, length-free, life-least, table-sized}
@@ -93,7 +95,8 @@ unfolding keyIn
 same-key x y s s′ kx ky same =
     let gx = known-given x s kx in
     let gy = known-given y s′ ky in
-    let floods : s .flood ≡ s′ .flood = flag-same 9 1 (λ e. omega arith) (s .flood) (s′ .flood) (sym (ap (λ (g : Told). g .kind) gx) ∙ same .kind ∙ ap (λ (g : Told). g .kind) gy) in
+    let floods : s .flood ≡ s′ .flood =
+    flag-same 9 1 (λ e. omega arith) (s .flood) (s′ .flood) (sym (ap (λ (g : Told). g .kind) gx) ∙ same .kind ∙ ap (λ (g : Told). g .kind) gy) in
     let sessions : s .session ≡ s′ .session = sym (ap (λ (g : Told). g .session) gx) ∙ same .session ∙ ap (λ (g : Told). g .session) gy in
     let initiators : held (x .call .message) (s .initiator) ≡ held (y .call .message) (s′ .initiator) =
     sym (ap (λ (g : Told). g .initiator) gx) ∙ same .initiator ∙ ap (λ (g : Told). g .initiator) gy in
@@ -105,10 +108,12 @@ abbrev There : Step → Spread → ℕ → List ℕ → Type 0
 There x s now t = StillThere (keyIn (x .call .message) s) (rowOf x) (clockOf x) now t
 
 -- a row that was filled before a call, after it
-there-on : (x : Step) (s : Spread) (r : Record) (t : List ℕ) (c : Call) (b : After) → View r t c b → There x s (r .clock) t → There x s (b .called .node .clock) (b .table)
+there-on : (x : Step) (s : Spread) (r : Record) (t : List ℕ) (c : Call) (b : After) → View r t c b → There x s (r .clock) t
+    → There x s (b .called .node .clock) (b .table)
 unfolding clocked relayed tallied
 there-on x s r t c b (stayed nb tb e) there = rw (nb, tb) there
-there-on x s r t c b (ended p nb tb e) there = rw (nb, tb) (freed-there (keyIn (x .call .message) s) (rowOf x) (clockOf x) (r .clock) (c .clock) t (p .later) there)
+there-on x s r t c b (ended p nb tb e) there =
+    rw (nb, tb) (freed-there (keyIn (x .call .message) s) (rowOf x) (clockOf x) (r .clock) (c .clock) t (p .later) there)
 there-on x s r t c b (went s′ f e) there =
     rw e
     (put-there (keyIn (x .call .message) s) (rowOf x) (clockOf x) (keyIn (c .message) s′) (c .clock) (freed (c .clock) t) (row-used x s) (f .room)
@@ -129,7 +134,8 @@ known-behind x y s s′ k ky there =
       rows = λ e. omega (arith, life-least (key .first), one-row key (rowOf x) (clockOf x) (clockOf y) t (row-used x s) (ky .facts .room) there e);
     }
 
-says-relay : (r : Record) (t : List ℕ) (c : Call) (s : Spread) (b : After) → b ≡ relayed (clocked r (c .clock)) (freed (c .clock) t) c s → saysRelay (b .called .reply) ≡ true
+says-relay : (r : Record) (t : List ℕ) (c : Call) (s : Spread) (b : After) → b ≡ relayed (clocked r (c .clock)) (freed (c .clock) t) c s
+    → saysRelay (b .called .reply) ≡ true
 unfolding relayed saysRelay isRelay
 says-relay r t c s b e = ap (λ (z : After). saysRelay (z .called .reply)) e
 
@@ -141,7 +147,8 @@ listed r t c b P rest (stayed nb tb e) f g = rw e f
 listed r t c b P rest (ended p nb tb e) f g = rw e f
 listed r t c b P rest (went s k e) f g = rw (says-relay r t c s b e) (g s (record { facts = k; is = e }))
 
-future : (x : Step) (s : Spread) → Known x s → (es : List Event) → (r : Record) (t : List ℕ) → There x s (r .clock) t → Every (Behind x) (relaysOf (steps r t es))
+future : (x : Step) (s : Spread) → Known x s → (es : List Event) → (r : Record) (t : List ℕ) → There x s (r .clock) t
+    → Every (Behind x) (relaysOf (steps r t es))
 unfolding steps relaysOf rowOf clockOf
 future x s k [] r t there = tt
 future x s k (call c ∷ es) r t there =
@@ -149,17 +156,20 @@ future x s k (call c ∷ es) r t there =
     let rest = future x s k es (b .called .node) (b .table) (there-on x s r t c b (view r t c) there) in
     listed r t c b (Every (Behind x)) (relaysOf (steps (b .called .node) (b .table) es)) (view r t c) rest
     (λ s′ k′. (
-      known-behind x (stepOf r t c b) s s′ k k′ (freed-there (keyIn (x .call .message) s) (rowOf x) (clockOf x) (r .clock) (c .clock) t (k′ .facts .passes .later) there),
+      known-behind x (stepOf r t c b) s s′ k k′
+          (freed-there (keyIn (x .call .message) s) (rowOf x) (clockOf x) (r .clock) (c .clock) t (k′ .facts .passes .later) there),
       rest,
     ))
 future x s k (links mask ∷ es) r t there = future x s k es (setLinks r mask .node) t (rw (links-keep r mask .clock) there)
 
 -- a relay's own row, just filled
-own-row : (r : Record) (t : List ℕ) (c : Call) (b : After) (s : Spread) → Known (stepOf r t c b) s → There (stepOf r t c b) s (b .called .node .clock) (b .table)
+own-row : (r : Record) (t : List ℕ) (c : Call) (b : After) (s : Spread) → Known (stepOf r t c b) s
+    → There (stepOf r t c b) s (b .called .node .clock) (b .table)
 unfolding rowOf clockOf relayed clocked tallied freed
 own-row r t c b s k =
     let e = k .is in
-    rw e (inr (put-holds (freed (c .clock) t) (lowestFree (freed (c .clock) t)) (keyIn (c .message) s) (c .clock) (length-free (c .clock) t 64 ∙ table-sized (c .clock) t (k .facts .passes .table)) (k .facts .room)))
+    rw e (inr (put-holds (freed (c .clock) t) (lowestFree (freed (c .clock) t)) (keyIn (c .message) s) (c .clock)
+    (length-free (c .clock) t 64 ∙ table-sized (c .clock) t (k .facts .passes .table)) (k .facts .room)))
 
 pairs : (es : List Event) → (r : Record) (t : List ℕ) → EachPair Behind (relaysOf (steps r t es))
 unfolding steps relaysOf
@@ -200,18 +210,21 @@ module _ (x : Step) (passes : Passed (x .node) (x .table) (x .call .clock) (x .c
   copies-differ =
       let up = arrival-up (x .node) (x .call .interface) (passes .arrives) in
       every-imp (λ j. (j < 8) × (hasBit (outgoing x) j ≡ true)) (λ j. j ≢ x .call .interface)
-      (λ j h e. not-both (hasBit (outgoing x) (x .call .interface)) (subst (λ (z : ℕ). hasBit (outgoing x) z ≡ true) e (h .1)) (taken-down (x .node .links) (x .call .interface) up))
+      (λ j h e. not-both (hasBit (outgoing x) (x .call .interface)) (subst (λ (z : ℕ). hasBit (outgoing x) z ≡ true) e (h .1))
+      (taken-down (x .node .links) (x .call .interface) up))
       (interfacesIn 8 (outgoing x)) (interfaces-up 8 (outgoing x))
 
   copies-below : Every (λ j. j < x .node .interfaces) (interfacesIn 8 (outgoing x))
   copies-below =
-      every-imp (λ j. (j < 8) × (hasBit (outgoing x) j ≡ true)) (λ j. j < x .node .interfaces) (λ j h. up-below (x .node .interfaces) (outgoing x) j small-mask (h .1))
+      every-imp (λ j. (j < 8) × (hasBit (outgoing x) j ≡ true)) (λ j. j < x .node .interfaces)
+      (λ j h. up-below (x .node .interfaces) (outgoing x) j small-mask (h .1))
       (interfacesIn 8 (outgoing x)) (interfaces-up 8 (outgoing x))
 
   copies-many : length (interfacesIn 8 (outgoing x)) ≡ ones (outgoing x)
   copies-many = length-interfaces 8 (outgoing x) (le-trans small-mask (pow-mono (record-links (x .node) (passes .good) .most)))
 
-  went-tally : (s : Spread) → x .after ≡ relayed (clocked (x .node) (x .call .clock)) (freed (x .call .clock) (x .table)) (x .call) s → x .after .called .node .tally ≡ x .node .tally + length (copies x)
+  went-tally : (s : Spread) → x .after ≡ relayed (clocked (x .node) (x .call .clock)) (freed (x .call .clock) (x .table)) (x .call) s
+      → x .after .called .node .tally ≡ x .node .tally + length (copies x)
   unfolding relayed tallied clocked others outgoing
   went-tally s is =
       ap (λ (z : After). z .called .node .tally) is ∙ ap (λ (z : ℕ). x .node .tally + z) (sym copies-many ∙ ap length (sym (went-copies x s is)))
@@ -326,6 +339,7 @@ whole r t events none =
 -- Demand 3, entire.
 pub demand3 : Demand3
 demand3 = record {
-  node = λ address port ttl interfaces mask events. whole (fresh address port ttl interfaces mask .node) freshTable events (fresh-tally address port ttl interfaces mask);
+  node = λ address port ttl interfaces mask events. whole (fresh address port ttl interfaces mask .node) freshTable events
+      (fresh-tally address port ttl interfaces mask);
   negotiation = negotiation-bounded;
 }

@@ -47,7 +47,11 @@ pub data Barred (r : Record) (t : List ℕ) (c : Call) : ℕ → Type 0 where
   bad-record : BadRecord r → Barred r t c 12
   bad-arrival : (BadRecord r → ⊥) → BadArrival r c → Barred r t c 13
   bad-clock : (BadRecord r → ⊥) → (BadArrival r c → ⊥) → Earlier r c → Barred r t c 14
-  bad-table : (BadRecord r → ⊥) → (BadArrival r c → ⊥) → (Earlier r c → ⊥) → (GoodTable t (c .clock) → ⊥) → Barred r t c 15
-  bad-names : (BadRecord r → ⊥) → (BadArrival r c → ⊥) → (Earlier r c → ⊥) → GoodTable t (c .clock) → BadNames c → Barred r t c 16
-  short-output : (BadRecord r → ⊥) → (BadArrival r c → ⊥) → (Earlier r c → ⊥) → GoodTable t (c .clock) → OwnNames (c .names) → ShortOutput c → Barred r t c 17
-  nothing : (BadRecord r → ⊥) → (BadArrival r c → ⊥) → (Earlier r c → ⊥) → GoodTable t (c .clock) → OwnNames (c .names) → (ShortOutput c → ⊥) → Barred r t c 0
+  bad-table : (BadRecord r → ⊥) → (BadArrival r c → ⊥) → (Earlier r c → ⊥) → (GoodTable t (c .clock) → ⊥)
+      → Barred r t c 15
+  bad-names : (BadRecord r → ⊥) → (BadArrival r c → ⊥) → (Earlier r c → ⊥) → GoodTable t (c .clock) → BadNames c
+      → Barred r t c 16
+  short-output : (BadRecord r → ⊥) → (BadArrival r c → ⊥) → (Earlier r c → ⊥) → GoodTable t (c .clock)
+      → OwnNames (c .names) → ShortOutput c → Barred r t c 17
+  nothing : (BadRecord r → ⊥) → (BadArrival r c → ⊥) → (Earlier r c → ⊥) → GoodTable t (c .clock) → OwnNames (c .names)
+      → (ShortOutput c → ⊥) → Barred r t c 0

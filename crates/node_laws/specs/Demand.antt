@@ -1,4 +1,5 @@
--- Demand 3, entire: for every list of node calls and link settings from a fresh node, and for every list of steps on one negotiation state.
+-- Demand 3, entire: for every list of node calls and link settings from a fresh node, and for every list of steps on
+-- one negotiation state.
 use Prim.Native.Nat.{ℕ}
 use mathlib.Core.List.{List}
 use Rattle.negotiation.specs.Turns.{Sent, Bounded}

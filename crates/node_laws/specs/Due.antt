@@ -106,18 +106,24 @@ module _ (r : Record) (t : List ℕ) (c : Call) where
 
   -- ---- what comes of a node call
 
-  -- what a verdict does, once the clock is taken and the dead rows are freed: RELAY and ANSWER send, and the others send nothing
+  -- what a verdict does, once the clock is taken and the dead rows are freed: RELAY and ANSWER send, and the others
+  -- send nothing
   pub data Does : Message → Verdict → Bool → After → Type 0 where
-    sends-nothing : {m : Message} {v : Verdict} {up : Bool} → v ≢ Answer → v ≢ Relay → Does m v up (quiet v up (clocked r (c .clock)) (freed (c .clock) t) c)
+    sends-nothing : {m : Message} {v : Verdict} {up : Bool} → v ≢ Answer → v ≢ Relay
+        → Does m v up (quiet v up (clocked r (c .clock)) (freed (c .clock) t) c)
     answers : {session : ℕ} {i : Span} {o : Objective}
-        → Does (M.Discovery session i o) Answer false (answered (clocked r (c .clock)) (freed (c .clock) t) c (spreadOf false session i o))
+        → Does (M.Discovery session i o) Answer false
+        (answered (clocked r (c .clock)) (freed (c .clock) t) c (spreadOf false session i o))
     relays-discovery : {session : ℕ} {i : Span} {o : Objective}
-        → Does (M.Discovery session i o) Relay false (relayed (clocked r (c .clock)) (freed (c .clock) t) c (spreadOf false session i o))
+        → Does (M.Discovery session i o) Relay false
+        (relayed (clocked r (c .clock)) (freed (c .clock) t) c (spreadOf false session i o))
     relays-flood : {session ttl : ℕ} {i : Span} {first : Pair} {pairs : Series}
-        → Does (M.Flood session i ttl first pairs) Relay true (relayed (clocked r (c .clock)) (freed (c .clock) t) c (spreadOf true session i (first .objective)))
+        → Does (M.Flood session i ttl first pairs) Relay true
+        (relayed (clocked r (c .clock)) (freed (c .clock) t) c (spreadOf true session i (first .objective)))
 
   -- refused by 12 to 17; else by the reading; else given the verdict that is due
   pub data Comes : After → Type 0 where
     barred-by : (n : ℕ) → bar r t c ≡ n → n ≢ 0 → Comes (refuse n r t c)
     unread : (n : ℕ) → bar r t c ≡ 0 → readOf (c .message) ≡ Reading.Refused n → Comes (refuse n r t c)
-    given : (m : Message) (v : Verdict) (up : Bool) {a : After} → bar r t c ≡ 0 → readOf (c .message) ≡ Reading.Read m → Due m v up → Does m v up a → Comes a
+    given : (m : Message) (v : Verdict) (up : Bool) {a : After} → bar r t c ≡ 0 → readOf (c .message) ≡ Reading.Read m
+        → Due m v up → Does m v up a → Comes a

@@ -14,11 +14,13 @@ use Rattle.node_laws.specs.History.{Event, call, steps}
 
 -- an objective: where its name of 3 bytes stands, its flags, its count, where the count stands, and no value after it
 abbrev pub objective : ℕ → ℕ → ℕ → ℕ → Objective
-objective at flags count place = record { name = spanOf at 3; flags = flags; count = count; «count_at» = place; value = spanOf (place + 1) 0 }
+objective at flags count place =
+    record { name = spanOf at 3; flags = flags; count = count; «count_at» = place; value = spanOf (place + 1) 0 }
 
 -- the node's record after some calls: 3 interfaces all up, port 7017, ttl 60,000
 abbrev pub node : ℕ → ℕ → Record
-node clock tally = record { address = home; port = 7017; ttl = 60000; interfaces = 3; links = 7; clock = clock; tally = tally }
+node clock tally =
+    record { address = home; port = 7017; ttl = 60000; interfaces = 3; links = 7; clock = clock; tally = tally }
 
 -- a message on interface 0, with no own names and an output of 2,048 zeros
 abbrev pub arrives : ℕ → List ℕ → Event

@@ -1,4 +1,5 @@
--- A list of node calls and link settings on one node, each given the record and the table as those before it left them, and the relays in it.
+-- A list of node calls and link settings on one node, each given the record and the table as those before it left them,
+-- and the relays in it.
 use Prim.Native.Nat.{ℕ, zero, suc, _+_, _*_, _-_, _≤_, _<_}
 use mathlib.Core.Bool.{Bool, true, false}
 use mathlib.Core.List.{List, [], _∷_, Sublistᴰ}
@@ -40,7 +41,8 @@ pub record Step : Type 0 where
 unfoldable pub steps : Record → List ℕ → List Event → List Step
 steps r t [] = []
 steps r t (call c ∷ es) =
-    record { node = r; table = t; call = c; after = nodeCall r t c } ∷ steps (nodeCall r t c .called .node) (nodeCall r t c .table) es
+    record { node = r; table = t; call = c; after = nodeCall r t c }
+    ∷ steps (nodeCall r t c .called .node) (nodeCall r t c .table) es
 steps r t (links mask ∷ es) = steps (setLinks r mask .node) t es
 
 -- the record after the list
@@ -96,7 +98,12 @@ numberIn (Session.Number n) = n
 unfoldable pub toldReading : List ℕ → Reading → Told
 toldReading s (Reading.Refused number) = record { kind = 0; session = 0; initiator = []; count = 0 }
 toldReading s (Reading.Read m) =
-    record { kind = kindOf m; session = numberIn (sessionOf m); initiator = held s (initiatorOf m); count = countIn (objectiveOf m) }
+    record {
+      kind = kindOf m;
+      session = numberIn (sessionOf m);
+      initiator = held s (initiatorOf m);
+      count = countIn (objectiveOf m);
+    }
 
 -- of the bytes s
 unfoldable pub told : List ℕ → Told
@@ -178,5 +185,6 @@ pub record Few (interfaces : ℕ) (chosen : List Step) : Type 0 where
 pub record WholeList (r : Record) (t : List ℕ) (events : List Event) : Type 0 where
   pub apart : EachPair Apart (relaysOf (steps r t events))
   pub each : Every (GoesOut (r .interfaces)) (relaysOf (steps r t events))
-  pub few : (chosen : List Step) → Sublistᴰ chosen (relaysOf (steps r t events)) → EachPair Near chosen → Few (r .interfaces) chosen
+  pub few : (chosen : List Step) → Sublistᴰ chosen (relaysOf (steps r t events)) → EachPair Near chosen
+      → Few (r .interfaces) chosen
   pub tally : finally r t events .tally ≡ copiesOf (relaysOf (steps r t events))

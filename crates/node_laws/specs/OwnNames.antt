@@ -12,7 +12,8 @@ use Rattle.names.specs.Names.{mostNames}
 -- items that are texts of these contents, heads of any width; which widths are good is said by `Good` of `cbor Tree`
 pub data TextItems : Items → List (List ℕ) → Type 0 where
   empty : TextItems Items.done []
-  more : {w : ℕ} {content : List ℕ} {xs : Items} {contents : List (List ℕ)} → TextItems xs contents → TextItems (Items.more (text w content) xs) (content ∷ contents)
+  more : {w : ℕ} {content : List ℕ} {xs : Items} {contents : List (List ℕ)} → TextItems xs contents
+      → TextItems (Items.more (text w content) xs) (content ∷ contents)
 
 -- an array of texts
 pub data TextArray : Item → List (List ℕ) → Type 0 where
@@ -20,7 +21,8 @@ pub data TextArray : Item → List (List ℕ) → Type 0 where
 
 -- the names that bytes hold
 pub record OwnNames (s : List ℕ) : Type 0 where
-  -- s is one item that passes refusals 1 to 7: its encoding and nothing more, at most 2,048 bytes and 8 levels, every head without fault
+  -- s is one item that passes refusals 1 to 7: its encoding and nothing more, at most 2,048 bytes and 8 levels, every
+  -- head without fault
   pub one : OneItem s
   -- an array whose items are the names' texts, in their order
   pub names : List (List ℕ)

@@ -1,4 +1,5 @@
--- The interfaces in a mask: what is up is below a bound and part of the mask, and the mask without the arriving link, which has fewer ones.
+-- The interfaces in a mask: what is up is below a bound and part of the mask, and the mask without the arriving link,
+-- which has fewer ones.
 -- Assumes nothing.
 use mathlib.Core.Path.{_≡_, refl, ap, _∙_}
 use mathlib.Core.Bool.{true, false, _||_}

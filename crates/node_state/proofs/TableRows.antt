@@ -17,7 +17,8 @@ use Rattle.base.specs.Pick.{pick}
 use Rattle.base.proofs.Picks.{pick-case, both}
 use Rattle.base.proofs.Bools.{true-or-false, and-left, and-right, and-true, or-left, or-right, or-true, not-both}
 use Rattle.node_state.specs.declared.key.Key.{Key}
-use Rattle.node_state.specs.Table.{whereSized, cell, putRow, rowFree, rowKeyed, rowUsed, rowBad, firstFrom, someRow, tableBad, rowLife, rowDead, freeRows, freed, lowestFree, filled, rowMatches, isKnown}
+use Rattle.node_state.specs.Table.{whereSized, cell, putRow, rowFree, rowKeyed, rowUsed, rowBad, firstFrom, someRow, tableBad}
+use Rattle.node_state.specs.Table.{rowLife, rowDead, freeRows, freed, lowestFree, filled, rowMatches, isKnown}
 use Rattle.node_state.specs.Key.{noKey}
 
 -- ---- the table's length
@@ -54,7 +55,12 @@ put-other t i k clock n j ne h = put-apart t i k clock (4 * n + j) (λ e. ne (om
 put-out : (t : List ℕ) (i : ℕ) (k : Key) (clock : ℕ) → length t ≤ 4 * i → putRow t i k clock ≡ t
 unfolding putRow
 put-out t i k clock h =
-    rw (set-out t (4 * i) (k .first) h, set-out t (4 * i + 1) (k .second) (omega arith), set-out t (4 * i + 2) (k .third) (omega arith), set-out t (4 * i + 3) clock (omega arith)) refl
+    rw (
+      set-out t (4 * i) (k .first) h,
+      set-out t (4 * i + 1) (k .second) (omega arith),
+      set-out t (4 * i + 2) (k .third) (omega arith),
+      set-out t (4 * i + 3) clock (omega arith),
+    ) refl
 
 -- row i has the key k and was admitted at d
 pub record Holds (t : List ℕ) (i : ℕ) (k : Key) (d : ℕ) : Type 0 where
@@ -64,7 +70,8 @@ pub record Holds (t : List ℕ) (i : ℕ) (k : Key) (d : ℕ) : Type 0 where
   pub clock : cell t i 3 ≡ d
 
 -- a row that is put reads as it was put, where each of its numbers does
-put-reads : (t : List ℕ) (i : ℕ) (k : Key) (d : ℕ) (P : ℕ → Type 0) → ((l : List ℕ) (j v : ℕ) → length l ≡ length t → j < 4 → P v → getD (set l (4 * i + j) v) (4 * i + j) 0 ≡ v)
+put-reads : (t : List ℕ) (i : ℕ) (k : Key) (d : ℕ) (P : ℕ → Type 0)
+    → ((l : List ℕ) (j v : ℕ) → length l ≡ length t → j < 4 → P v → getD (set l (4 * i + j) v) (4 * i + j) 0 ≡ v)
     → P (k .first) → P (k .second) → P (k .third) → P d → Holds (putRow t i k d) i k d
 unfolding putRow cell
 put-reads t i k d P reads p₀ p₁ p₂ p₃ =
@@ -254,7 +261,8 @@ pub holds-matches : (k : Key) (t : List ℕ) (i d : ℕ) → Holds t i k d → r
 unfolding rowMatches
 holds-matches k t i d h =
     and-true (eqb (cell t i 0) (k .first) && eqb (cell t i 1) (k .second)) (eqb (cell t i 2) (k .third))
-    (and-true (eqb (cell t i 0) (k .first)) (eqb (cell t i 1) (k .second)) (eq-eqb (cell t i 0) (k .first) (h .first)) (eq-eqb (cell t i 1) (k .second) (h .second)))
+    (and-true (eqb (cell t i 0) (k .first)) (eqb (cell t i 1) (k .second)) (eq-eqb (cell t i 0) (k .first) (h .first))
+    (eq-eqb (cell t i 1) (k .second) (h .second)))
     (eq-eqb (cell t i 2) (k .third) (h .third))
 
 pub matches-holds : (k : Key) (t : List ℕ) (i : ℕ) → rowMatches k t i ≡ true → Holds t i k (cell t i 3)

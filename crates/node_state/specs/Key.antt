@@ -25,4 +25,5 @@ noKey = record { first = 0; second = 0; third = 0 }
 
 -- an initiator of a message has 4 or 16 bytes; another has no key, for which three zeros stand
 unfoldable pub keyFor : Bool → ℕ → List ℕ → Key
-keyFor flood session initiator = pick (eqb (length initiator) 4 || eqb (length initiator) 16) (keyOf flood session initiator) noKey
+keyFor flood session initiator =
+    pick (eqb (length initiator) 4 || eqb (length initiator) 16) (keyOf flood session initiator) noKey

@@ -1,4 +1,5 @@
--- The node's record (the rules, "Record and relay table"), and masks of links, whose bit i is set when interface i is up.
+-- The node's record (the rules, "Record and relay table"), and masks of links, whose bit i is set when interface i is
+-- up.
 use Prim.Native.Nat.{ℕ, _+_, _-_, _^_}
 use mathlib.Core.Bool.{Bool, not, _||_}
 use mathlib.Core.List.{List}
@@ -46,11 +47,20 @@ fresh address port ttl interfaces mask =
 -- the record with another mask
 unfoldable pub linked : Record → ℕ → Record
 linked r mask =
-    record { address = r .address; port = r .port; ttl = r .ttl; interfaces = r .interfaces; links = mask; clock = r .clock; tally = r .tally }
+    record {
+      address = r .address;
+      port = r .port;
+      ttl = r .ttl;
+      interfaces = r .interfaces;
+      links = mask;
+      clock = r .clock;
+      tally = r .tally;
+    }
 
 -- setting links: 12, then 13
 unfoldable pub setLinks : Record → ℕ → RecordAnswer
-setLinks r mask = pick (recordBad r) (keeps 12 r) (pick (leb (2 ^ r .interfaces) mask) (keeps 13 r) (keeps 0 (linked r mask)))
+setLinks r mask =
+    pick (recordBad r) (keeps 12 r) (pick (leb (2 ^ r .interfaces) mask) (keeps 13 r) (keeps 0 (linked r mask)))
 
 -- 13 of the node call: the arriving interface isn't below the count, or isn't in the mask of links: its link is down
 unfoldable pub arrivalBad : Record → ℕ → Bool
@@ -63,9 +73,25 @@ others r i = r .links - 2 ^ i
 -- the record with the clock taken
 unfoldable pub clocked : Record → ℕ → Record
 clocked r now =
-    record { address = r .address; port = r .port; ttl = r .ttl; interfaces = r .interfaces; links = r .links; clock = now; tally = r .tally }
+    record {
+      address = r .address;
+      port = r .port;
+      ttl = r .ttl;
+      interfaces = r .interfaces;
+      links = r .links;
+      clock = now;
+      tally = r .tally;
+    }
 
 -- the record with so many copies tallied
 unfoldable pub tallied : Record → ℕ → Record
 tallied r copies =
-    record { address = r .address; port = r .port; ttl = r .ttl; interfaces = r .interfaces; links = r .links; clock = r .clock; tally = r .tally + copies }
+    record {
+      address = r .address;
+      port = r .port;
+      ttl = r .ttl;
+      interfaces = r .interfaces;
+      links = r .links;
+      clock = r .clock;
+      tally = r .tally + copies;
+    }

@@ -30,7 +30,8 @@ cell t i j = getD t (4 * i + j) 0
 
 -- the table with row i filled
 unfoldable pub putRow : List ℕ → ℕ → Key → ℕ → List ℕ
-putRow t i k clock = set (set (set (set t (4 * i) (k .first)) (4 * i + 1) (k .second)) (4 * i + 2) (k .third)) (4 * i + 3) clock
+putRow t i k clock =
+    set (set (set (set t (4 * i) (k .first)) (4 * i + 1) (k .second)) (4 * i + 2) (k .third)) (4 * i + 3) clock
 
 -- a free row is four zeros
 unfoldable pub rowFree : List ℕ → ℕ → Bool

@@ -12,7 +12,8 @@ pub struct Key {
     pub third: u64,
 }
 
-// The key of a Discovery or a Flood. An initiator that has neither 4 nor 16 bytes is no message's: its key is three zeros.
+// The key of a Discovery or a Flood. An initiator that has neither 4 nor 16 bytes is no message's: its key is three
+// zeros.
 pub fn key_of(flood: bool, session: u32, initiator: &[u8]) -> Key
     ensures { λ r. ⌜ r ≡ keyFor flood session (now (initiator .entry)) ⌝ }
 {

@@ -1,4 +1,5 @@
-// What a node keeps from call to call (the rules, "Record and relay table"): its record, the relay table that it is lent, and the keys of the table's rows.
+// What a node keeps from call to call (the rules, "Record and relay table"): its record, the relay table that it is
+// lent, and the keys of the table's rows.
 ghost use mathlib.Core.Path.{_≡_};
 ghost use Rattle.node_state.specs.Record.{recordBad, fresh, setLinks};
 
@@ -6,8 +7,8 @@ pub mod key;
 mod links;
 pub mod table;
 
-// A node's record. Bit i of `links` is set when interface i is up; `clock` is the last accepted clock in ms; `tally` is the rules' own term: the
-// copies of all relays.
+// A node's record. Bit i of `links` is set when interface i is up; `clock` is the last accepted clock in ms; `tally` is
+// the rules' own term: the copies of all relays.
 #[repr(C)]
 pub struct Record {
     pub address: [u8; 16],
@@ -37,7 +38,8 @@ impl Record {
     // House limit: the greatest tally of a record that is not refused.
     pub const MOST_TALLY: u64 = 9_223_372_036_854_775_808;
 
-    // A fresh record: 12 where the interfaces aren't 1 to 8 or a link bit is at or above their number, with all zeros for the record.
+    // A fresh record: 12 where the interfaces aren't 1 to 8 or a link bit is at or above their number, with all zeros
+    // for the record.
     pub fn fresh(address: [u8; 16], port: u16, ttl: u32, interfaces: u64, mask: u64) -> RecordAnswer
         ensures { λ r. ⌜ r ≡ fresh address port ttl interfaces mask ⌝ }
     {

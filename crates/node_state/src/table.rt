@@ -3,7 +3,9 @@ ghost use mathlib.Core.Path.{_≡_};
 ghost use mathlib.Core.Bool.{false};
 ghost use Prim.Native.Nat.{_<_};
 ghost use lib.ListN.{length};
-ghost use Rattle.node_state.specs.Table.{mostRows, tableNumbers, whereSized, putRow, rowFree, rowKeyed, tagIn, rowBad, rowLife, rowDead, rowMatches, tableBad, freed, lowestFree, filled, isKnown};
+ghost use Rattle.node_state.specs.Table.{mostRows, tableNumbers, whereSized, putRow, rowFree};
+ghost use Rattle.node_state.specs.Table.{rowKeyed, tagIn, rowBad, rowLife, rowDead, rowMatches};
+ghost use Rattle.node_state.specs.Table.{tableBad, freed, lowestFree, filled, isKnown};
 use crate::Record;
 use crate::key::Key;
 
@@ -128,7 +130,8 @@ fn put_row(table: &mut [u64], i: usize, key: Key, clock: u64)
 
 // Frees every dead row. A table of another length stays as it is.
 pub fn free_dead(table: &mut [u64], clock: u64)
-    ensures { λ _. ⌜ now (table .exit) ≡ whereSized (now (table .entry)) (freed clock (now (table .entry))) (now (table .entry)) ⌝ }
+    ensures { λ _. ⌜ now (table .exit) ≡ whereSized (now (table .entry)) (freed clock (now (table .entry)))
+        (now (table .entry)) ⌝ }
 {
     if table.len() != 4 * Record::ROWS {
         return;
@@ -151,10 +154,12 @@ pub fn free_dead(table: &mut [u64], clock: u64)
     }
 }
 
-// Fills the lowest free row, and says which it is: 64 where none is free, or where the table has another length; then it stays as it is.
+// Fills the lowest free row, and says which it is: 64 where none is free, or where the table has another length; then
+// it stays as it is.
 pub fn fill_lowest(table: &mut [u64], key: Key, clock: u64) -> usize
     ensures { λ r. ⌜ r ≡ whereSized (now (table .entry)) (lowestFree (now (table .entry))) mostRows ⌝ }
-    ensures { λ _. ⌜ now (table .exit) ≡ whereSized (now (table .entry)) (filled (now (table .entry)) key clock) (now (table .entry)) ⌝ }
+    ensures { λ _. ⌜ now (table .exit) ≡ whereSized (now (table .entry)) (filled (now (table .entry)) key clock)
+        (now (table .entry)) ⌝ }
 {
     if table.len() != 4 * Record::ROWS {
         return Record::ROWS;

@@ -1,4 +1,5 @@
--- What is read lies within the part, has so many bytes at least, and is passed over by the walk; and what a `match` has found, said of the definitions.
+-- What is read lies within the part, has so many bytes at least, and is passed over by the walk; and what a `match` has
+-- found, said of the definitions.
 -- Assumes nothing.
 use mathlib.Core.Path.{_≡_, refl, sym, ap, _∙_, subst}
 use mathlib.Core.Logic.{inl, inr}
@@ -31,7 +32,8 @@ use Rattle.options.specs.Pair.{isEmpty, pairLevels, pairTagged, pairTail
 -- null is a leaf
 null-leaf : (t : Token) → isNull t ≡ true → Leaf t
 unfolding isNull
-null-leaf t q = inr (eqb-true (t .major) 7 (and-left (eqb (t .major) 7) (eqb (t .arg) 22) (and-left (eqb (t .major) 7 && eqb (t .arg) 22) (eqb (t .body - t .at) 1) q)))
+null-leaf t q =
+    inr (eqb-true (t .major) 7 (and-left (eqb (t .major) 7) (eqb (t .arg) 22) (and-left (eqb (t .major) 7 && eqb (t .arg) 22) (eqb (t .body - t .at) 1) q)))
 
 -- an address that fits its kind is a leaf
 address-leaf : (kind : ℕ) (t : Token) → addressFits kind t ≡ true → Leaf t
@@ -94,7 +96,8 @@ locator-told base s =
       (omega arith, token-end s (p .next)),
       λ left. array-passes s 0 four
           (rw (eqb-true (a .arg) 4 t₄)
-          (passes-then (passes-then (passes-then (leaf-passes s (a .next) (inl (omega arith))) (leaf-passes s (k .next) address)) (leaf-passes s (b .next) protocol)) (leaf-passes s (p .next) port))),
+          (passes-then (passes-then (passes-then (leaf-passes s (a .next) (inl (omega arith))) (leaf-passes s (k .next) address))
+          (leaf-passes s (b .next) protocol)) (leaf-passes s (p .next) port))),
     ))))
     (λ _. (tt, tt)))
     (λ _. (tt, tt)))))
@@ -172,7 +175,8 @@ objective-told levels base s =
     P r = ObjectiveOk base (length s) r × ObjectiveWalked levels s r
 
     got : n .major ≡ 3 → upTo 15 f ≤ 15 → upTo 255 c ≤ 255 → (len : ℕ)
-        → ObjectiveParts (base + length s) (objectiveFrom base n (upTo 15 f) c (upTo 255 c) len) × (4 ≤ c .next) × (c .next ≤ length s) × Passes (leftUnder levels) 3 s (a .next) (c .next)
+        → ObjectiveParts (base + length s) (objectiveFrom base n (upTo 15 f) c (upTo 255 c) len) × (4 ≤ c .next) × (c .next ≤ length s)
+        × Passes (leftUnder levels) 3 s (a .next) (c .next)
     got is-text few byte len =
         let (flags, _) = is-number 15 f few in
         let (number, same) = is-number 255 c byte in
@@ -191,7 +195,8 @@ objective-told levels base s =
           },
           omega arith,
           token-end s (f .next),
-          passes-then (passes-then (leaf-passes s (a .next) (inl (omega arith))) (leaf-passes s (n .next) (inl (omega arith)))) (leaf-passes s (f .next) (inl (omega arith))),
+          passes-then (passes-then (leaf-passes s (a .next) (inl (omega arith))) (leaf-passes s (n .next) (inl (omega arith))))
+              (leaf-passes s (f .next) (inl (omega arith))),
         )
 
 -- so it is passed
@@ -208,14 +213,17 @@ PairOk base room (PairRead.Got o t size bad long) = ObjectiveParts (base + room)
 pub locator-within : (s : List ℕ) (base at : ℕ) (r x : LocatorRead) → r ≡ locatorIn base (drop at s) → r ≡ x → LocatorOk (length s - at) x
 locator-within s base at r x e q = rw (length-drop at s) at (subst (LocatorOk (length (drop at s))) (sym e ∙ q) (locator-told base (drop at s) .0))
 
-pub objective-within : (levels : ℕ) (s : List ℕ) (base at : ℕ) (r x : ObjectiveRead) → r ≡ objectiveIn levels base (drop at s) → r ≡ x → ObjectiveOk base (length s - at) x
-objective-within levels s base at r x e q = rw (length-drop at s) at (subst (ObjectiveOk base (length (drop at s))) (sym e ∙ q) (objective-told levels base (drop at s) .0))
+pub objective-within : (levels : ℕ) (s : List ℕ) (base at : ℕ) (r x : ObjectiveRead) → r ≡ objectiveIn levels base (drop at s) → r ≡ x
+    → ObjectiveOk base (length s - at) x
+objective-within levels s base at r x e q =
+    rw (length-drop at s) at (subst (ObjectiveOk base (length (drop at s))) (sym e ∙ q) (objective-told levels base (drop at s) .0))
 
 -- at a part
 pub locator-fits : (s : List ℕ) (base at : ℕ) (r x : LocatorRead) → r ≡ locatorIn base (take (length s - at) (drop at s)) → r ≡ x → LocatorOk (length s - at) x
 locator-fits s base at r x e q = locator-within s base at r x (e ∙ ap (locatorIn base) (rest-is at s)) q
 
-pub objective-fits : (levels : ℕ) (s : List ℕ) (base at : ℕ) (r x : ObjectiveRead) → r ≡ objectiveIn levels base (take (length s - at) (drop at s)) → r ≡ x → ObjectiveOk base (length s - at) x
+pub objective-fits : (levels : ℕ) (s : List ℕ) (base at : ℕ) (r x : ObjectiveRead) → r ≡ objectiveIn levels base (take (length s - at) (drop at s)) → r ≡ x
+    → ObjectiveOk base (length s - at) x
 objective-fits levels s base at r x e q = objective-within levels s base at r x (e ∙ ap (objectiveIn levels base) (rest-is at s)) q
 
 -- what a `match` has found
@@ -252,11 +260,13 @@ module _ (base : ℕ) (s : List ℕ) where
   Second at = (e : ℕ) → Passes (suc (leftUnder pairLevels)) 1 s at e → Passes (suc (suc (leftUnder pairLevels))) 1 s 0 e
 
   -- a pair with its tag
-  tagged-told : (at : ℕ) (o : Objective) (bad long : ℕ) (x : LocatorRead) → ObjectiveParts (base + length s) o → base ≤ o .«count_at» → LocatorOk (length s - at) x → LocatorWalked (drop at s) x → Second at
+  tagged-told : (at : ℕ) (o : Objective) (bad long : ℕ) (x : LocatorRead) → ObjectiveParts (base + length s) o → base ≤ o .«count_at»
+      → LocatorOk (length s - at) x → LocatorWalked (drop at s) x → Second at
       → Told (pairTagged at o bad long x)
   unfolding pairTagged
   tagged-told at o bad long (LocatorRead.Bad place) parts later h walked close = (tt, tt)
-  tagged-told at o bad long (LocatorRead.Got l size b) parts later h walked close = ((parts, omega arith, omega arith, later), close (at + size) (passes-within (walked (leftUnder pairLevels))))
+  tagged-told at o bad long (LocatorRead.Got l size b) parts later h walked close =
+      ((parts, omega arith, omega arith, later), close (at + size) (passes-within (walked (leftUnder pairLevels))))
 
   -- a pair from its objective on
   led-told : (x : ObjectiveRead) → tokenAt s 0 .major ≡ 4 → ObjectiveOk (base + tokenAt s 0 .next) (length s - tokenAt s 0 .next) x
@@ -278,7 +288,8 @@ module _ (base : ℕ) (s : List ℕ) where
       let (four, none) = empty-is t e in
       let t₁ : at + size + 1 ≤ t .next = token-has s (at + size) .some (omega arith) in
       ((parts, omega arith, token-end s (at + size), omega (arith, h .3)), second (t .next) (array-passes s (at + size) four (rw none passes-none))))
-      (λ _. tagged-told (at + size) o bad long _ parts (omega (arith, h .3)) (locator-within s (base + (at + size)) (at + size) _ _ refl refl) (locator-walked (base + (at + size)) (drop (at + size) s)) second))
+      (λ _. tagged-told (at + size) o bad long _ parts (omega (arith, h .3)) (locator-within s (base + (at + size)) (at + size) _ _ refl refl)
+      (locator-walked (base + (at + size)) (drop (at + size) s)) second))
       (λ _. (tt, tt))
 
   -- four bytes are its objective's, and one its own head's and its tag's
@@ -289,7 +300,8 @@ module _ (base : ℕ) (s : List ℕ) where
       pick-case Told (eqb (itemsIn a) 0) (λ _. (tt, tt))
       (λ t.
       let four = is-array a (eqb-false (itemsIn a) 0 t) in
-      led-told _ four (objective-within pairLevels s (base + a .next) (a .next) _ _ refl refl) (objective-walked pairLevels (base + a .next) (drop (a .next) s)))
+      led-told _ four (objective-within pairLevels s (base + a .next) (a .next) _ _ refl refl)
+      (objective-walked pairLevels (base + a .next) (drop (a .next) s)))
 
   -- so it is passed
   pub pair-walked : PairWalked s (pairIn base s)

@@ -29,7 +29,8 @@ after-head : (s : List ℕ) (at : ℕ) → tokenAt s at .major < 8 → 1 ≤ tok
 after-head s at there = omega (arith, token-has s at .some there, token-has s (tokenAt s at .next) .here)
 
 -- ---- locators
--- what is read at another place, by what is read at this one: a locator without fault is one there too, of the same size
+-- what is read at another place, by what is read at this one: a locator without fault is one there too, of the same
+-- size
 abbrev pub LocatorMoves : LocatorRead → LocatorRead → Type 0
 LocatorMoves (LocatorRead.Bad place) y = Unit {0}
 LocatorMoves (LocatorRead.Got l size bad) y = bad ≡ 0 → (l′ : Locator) × (y ≡ LocatorRead.Got l′ size 0)
@@ -62,7 +63,8 @@ locator-moves base base′ s =
     tt)))
 
 -- ---- objectives
--- what is read at another place, by what is read at this one: an objective without fault is one there too, of the same size
+-- what is read at another place, by what is read at this one: an objective without fault is one there too, of the same
+-- size
 abbrev pub ObjectiveMoves : ObjectiveRead → ObjectiveRead → Type 0
 ObjectiveMoves (ObjectiveRead.Bad place) y = Unit {0}
 ObjectiveMoves (ObjectiveRead.Got o size bad long) y = bad ≡ 0 → long ≡ 0 → (o′ : Objective) × (y ≡ ObjectiveRead.Got o′ size 0 0)
@@ -102,7 +104,8 @@ PairMoves (PairRead.Bad place) y = Unit {0}
 PairMoves (PairRead.Got o t size bad long) y = bad ≡ 0 → long ≡ 0 → (o′ : Objective) × (t′ : Tag) × (y ≡ PairRead.Got o′ t′ size 0 0)
 
 -- a pair with a locator, of an objective without fault
-tagged-moves : (at : ℕ) (o o′ : Objective) (bad long : ℕ) (x y : LocatorRead) → LocatorMoves x y → PairMoves (pairTagged at o bad long x) (pairTagged at o′ 0 0 y)
+tagged-moves : (at : ℕ) (o o′ : Objective) (bad long : ℕ) (x y : LocatorRead) → LocatorMoves x y
+    → PairMoves (pairTagged at o bad long x) (pairTagged at o′ 0 0 y)
 unfolding pairTagged firstOf pick
 tagged-moves at o o′ bad long (LocatorRead.Bad place) y h = tt
 tagged-moves at o o′ bad long (LocatorRead.Got l size bad′) y h =
@@ -122,7 +125,8 @@ led-moves : (base base′ : ℕ) (s : List ℕ) (n at : ℕ) (x y : ObjectiveRea
 unfolding pairLed pairTail
 led-moves base base′ s n at (ObjectiveRead.Bad place) y h = tt
 led-moves base base′ s n at (ObjectiveRead.Got o size bad long) y h =
-    both None (eqb n 2) (both None (isEmpty t) (λ f z z′. f z z′ z z′) (tagged-none (at + size) o bad long (locatorIn (base + (at + size)) (drop (at + size) s)) _)) (λ _. tt)
+    both None (eqb n 2)
+    (both None (isEmpty t) (λ f z z′. f z z′ z z′) (tagged-none (at + size) o bad long (locatorIn (base + (at + size)) (drop (at + size) s)) _)) (λ _. tt)
     (λ z z′.
     let (o′, e) = h z z′ in
     rw e

@@ -1,4 +1,5 @@
--- The places of bad texts and long names, where 0 is none: where none is given, and that none is given at another place.
+-- The places of bad texts and long names, where 0 is none: where none is given, and that none is given at another
+-- place.
 -- Assumes nothing.
 use mathlib.Core.Path.{_≡_, refl}
 use mathlib.Core.List.{List}

@@ -1,5 +1,6 @@
--- Locator options (RFC 8990, section 2.9.5): what is read of the bytes s that begin at the own head and stand at `base` of the message. An array
--- is judged by its first item, then by its number of items, then by its other items from left to right; `Bad` has the place of the first departure.
+-- Locator options (RFC 8990, section 2.9.5): what is read of the bytes s that begin at the own head and stand at `base`
+-- of the message. An array is judged by its first item, then by its number of items, then by its other items from left
+-- to right; `Bad` has the place of the first departure.
 use Prim.Native.Nat.{ℕ, _+_, _-_}
 use mathlib.Core.List.{List, [], _∷_}
 use mathlib.Core.Bool.{Bool, _&&_}
@@ -20,7 +21,8 @@ isNull t = eqb (t .major) 7 && eqb (t .arg) 22 && eqb (t .body - t .at) 1
 
 -- 16 bytes for 103, 4 for 104, a text for 105 and 106
 unfoldable pub addressFits : ℕ → Token → Bool
-addressFits kind t = pick (leb 105 kind) (eqb (t .major) 3) (eqb (t .major) 2 && pick (eqb kind 103) (eqb (t .arg) 16) (eqb (t .arg) 4))
+addressFits kind t =
+    pick (leb 105 kind) (eqb (t .major) 3) (eqb (t .major) 2 && pick (eqb kind 103) (eqb (t .arg) 16) (eqb (t .arg) 4))
 
 -- what a locator has for a protocol that is null
 abbrev pub nullProtocol : ℕ
@@ -77,7 +79,8 @@ locatorReached base s kind at =
     unless (addressFits kind b) (LR.Bad (base + b .at))
     (pick (eqb (protocolOf kind p) noProtocol) (LR.Bad (base + p .at))
     (pick (eqb (portOf kind q) noPort) (LR.Bad (base + q .at))
-    (LR.Got (locatorOf kind (base + b .body) (b .next - b .body) (protocolOf kind p) (portOf kind q)) (q .next) (textOf kind (contentIn s b) (base + b .at)))))
+    (LR.Got (locatorOf kind (base + b .body) (b .next - b .body) (protocolOf kind p) (portOf kind q)) (q .next)
+    (textOf kind (contentIn s b) (base + b .at)))))
 
 -- a locator: an array of four items, the first a kind
 unfoldable pub locatorIn : ℕ → List ℕ → LocatorRead

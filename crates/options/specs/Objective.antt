@@ -1,4 +1,5 @@
--- Objective options (RFC 8990, section 2.10.1): what is read of the bytes s that begin at the own head and stand at `base` of the message.
+-- Objective options (RFC 8990, section 2.10.1): what is read of the bytes s that begin at the own head and stand at
+-- `base` of the message.
 use Prim.Native.Nat.{ℕ, _+_, _-_}
 use mathlib.Core.List.{List}
 use lib.ListN.{drop}
@@ -27,8 +28,8 @@ objectiveFrom base n flags c count len =
       value = spanOf (base + c .next) len;
     }
 
--- an objective of so many items, from its name on: flags, count and, in four items, a value, around which so many levels are open, the
--- objective's own among them
+-- an objective of so many items, from its name on: flags, count and, in four items, a value, around which so many
+-- levels are open, the objective's own among them
 unfoldable pub objectiveNamed : ℕ → ℕ → List ℕ → ℕ → Token → ObjectiveRead
 objectiveNamed levels base s items n =
     let f = tokenAt s (n .next) in

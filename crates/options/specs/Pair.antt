@@ -1,4 +1,5 @@
--- The pairs of a Flood (RFC 8990, section 2.8.11): what is read of the bytes s that begin at the own head and stand at `base` of the message.
+-- The pairs of a Flood (RFC 8990, section 2.8.11): what is read of the bytes s that begin at the own head and stand at
+-- `base` of the message.
 use Prim.Native.Nat.{ℕ, _+_}
 use mathlib.Core.List.{List, [], _∷_, _++_}
 use mathlib.Core.Bool.{Bool, _&&_}
@@ -32,14 +33,16 @@ pairTagged at o bad long (LR.Got l size bad′) = PR.Got o (Tag.At l) (at + size
 unfoldable pub pairTail : ℕ → List ℕ → ℕ → Objective → ℕ → ℕ → PairRead
 pairTail base s at o bad long =
     let t = tokenAt s at in
-    pick (isEmpty t) (PR.Got o Tag.Empty (t .next) bad long) (pairTagged at o bad long (locatorIn (base + at) (drop at s)))
+    pick (isEmpty t) (PR.Got o Tag.Empty (t .next) bad long)
+    (pairTagged at o bad long (locatorIn (base + at) (drop at s)))
 
 -- a pair of n items, by what was read of its objective at `at`
 unfoldable pub pairLed : ℕ → List ℕ → ℕ → ℕ → ObjectiveRead → PairRead
 pairLed base s n at (OR.Bad place) = PR.Bad place
 pairLed base s n at (OR.Got o size bad long) = unless (eqb n 2) (PR.Bad base) (pairTail base s (at + size) o bad long)
 
--- how many levels are open around the value of an objective in a pair: the message's, the pair's and the objective's own
+-- how many levels are open around the value of an objective in a pair: the message's, the pair's and the objective's
+-- own
 abbrev pub pairLevels : ℕ
 pairLevels = 3
 
@@ -47,7 +50,8 @@ pairLevels = 3
 unfoldable pub pairIn : ℕ → List ℕ → PairRead
 pairIn base s =
     let a = tokenAt s 0 in
-    pick (eqb (itemsIn a) 0) (PR.Bad base) (pairLed base s (a .arg) (a .next) (objectiveIn pairLevels (base + a .next) (drop (a .next) s)))
+    pick (eqb (itemsIn a) 0) (PR.Bad base)
+    (pairLed base s (a .arg) (a .next) (objectiveIn pairLevels (base + a .next) (drop (a .next) s)))
 
 -- the pair at a place of the message s
 abbrev pub pairAt : List ℕ → ℕ → PairRead
@@ -55,7 +59,8 @@ pairAt s at = pairIn at (drop at s)
 
 -- an objective's seven numbers
 abbrev pub objectiveNumbers : Objective → List ℕ
-objectiveNumbers o = o .name .at ∷ o .name .len ∷ o .flags ∷ o .count ∷ o .«count_at» ∷ o .value .at ∷ o .value .len ∷ []
+objectiveNumbers o =
+    o .name .at ∷ o .name .len ∷ o .flags ∷ o .count ∷ o .«count_at» ∷ o .value .at ∷ o .value .len ∷ []
 
 -- a tag's five numbers
 unfoldable pub tagNumbers : Tag → List ℕ

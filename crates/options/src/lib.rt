@@ -1,6 +1,6 @@
-// The parts of a GRASP message that are arrays of their own (RFC 8990, sections 2.9, 2.10 and 2.8.11): locator options, objective options, and the
-// pairs of a Flood. A reader is handed the part of the message that begins at its own head, and the place where that part
-// stands in the message: answers hold places in the message, and nothing is copied out.
+// The parts of a GRASP message that are arrays of their own (RFC 8990, sections 2.9, 2.10 and 2.8.11): locator options,
+// objective options, and the pairs of a Flood. A reader is handed the part of the message that begins at its own head,
+// and the place where that part stands in the message: answers hold places in the message, and nothing is copied out.
 ghost use mathlib.Core.Path.{_≡_};
 ghost use Rattle.options.specs.Text.{badText, firstOf};
 

@@ -2,7 +2,8 @@
 ghost use mathlib.Core.Path.{_≡_};
 ghost use Prim.Native.Nat.{_+_, _≤_, _<_, _^_};
 ghost use lib.ListN.{length};
-ghost use Rattle.options.specs.Locator.{isNull, addressFits, protocolOf, portOf, locatorOf, locatorReached, locatorIn, locatorAt, locatorNumbers};
+ghost use Rattle.options.specs.Locator.{isNull, addressFits, protocolOf, portOf, locatorOf};
+ghost use Rattle.options.specs.Locator.{locatorReached, locatorIn, locatorAt, locatorNumbers};
 use crate::Span;
 use cbor::token;
 use cbor::token::Token;
@@ -22,8 +23,8 @@ const NULL_PORT: u32 = 65_536;
 // What is read of anything else that is no port.
 const NO_PORT: u32 = 65_537;
 
-// Where a locator's address, domain name or URI stands in the message, its protocol and its port; a null protocol is 0, a
-// null port 65,536 (a URI's only).
+// Where a locator's address, domain name or URI stands in the message, its protocol and its port; a null protocol is 0,
+// a null port 65,536 (a URI's only).
 pub enum Locator {
     V6 { at: usize, protocol: u8, port: u32 },
     V4 { at: usize, protocol: u8, port: u32 },
@@ -31,8 +32,8 @@ pub enum Locator {
     Uri { uri: Span, protocol: u8, port: u32 },
 }
 
-// The place of the first departure from the shape; or a locator of `size` bytes, with the place `bad` of its text where that
-// isn't UTF-8, else 0.
+// The place of the first departure from the shape; or a locator of `size` bytes, with the place `bad` of its text where
+// that isn't UTF-8, else 0.
 pub enum LocatorRead {
     Bad(usize),
     Got {

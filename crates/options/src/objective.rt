@@ -19,8 +19,8 @@ pub struct Objective {
     pub value: Span,
 }
 
-// The place of the first departure from the shape; or an objective of `size` bytes, with the place `bad` of its name where
-// that isn't UTF-8, and `long` where it has over 64 bytes, else 0.
+// The place of the first departure from the shape; or an objective of `size` bytes, with the place `bad` of its name
+// where that isn't UTF-8, and `long` where it has over 64 bytes, else 0.
 pub enum ObjectiveRead {
     Bad(usize),
     Got {
@@ -65,7 +65,8 @@ pub(crate) fn read_in(levels: usize, s: &[u8], base: usize) -> ObjectiveRead
 
 // An objective of so many items, 3 or 4, from its name on: flags, count and, in four items, a value.
 fn read_named(levels: usize, s: &[u8], base: usize, items: u64, n: Token) -> ObjectiveRead
-    requires { ⌜ base + length (now s) < 2 ^ 63 ⌝ ∗ ⌜ (n .at ≤ length (now s)) × (n .body ≤ n .next) × (n .next ≤ length (now s)) ⌝ }
+    requires { ⌜ base + length (now s) < 2 ^ 63 ⌝
+        ∗ ⌜ (n .at ≤ length (now s)) × (n .body ≤ n .next) × (n .next ≤ length (now s)) ⌝ }
     ensures { λ r. ⌜ r ≡ objectiveNamed levels base (now (s .entry)) items n ⌝ }
 {
     let f = token::number_at(s, n.next);
@@ -107,7 +108,8 @@ fn read_named(levels: usize, s: &[u8], base: usize, items: u64, n: Token) -> Obj
 
 // The objective whose name and count these tokens head, with a value of so many bytes after the count.
 fn objective_of(base: usize, n: Token, flags: u8, c: Token, count: u8, len: usize) -> Objective
-    requires { ⌜ (n .body ≤ n .next) × (base + n .next < 2 ^ 63) × (base + c .at < 2 ^ 63) × (base + c .next < 2 ^ 63) ⌝ }
+    requires { ⌜ (n .body ≤ n .next) × (base + n .next < 2 ^ 63) × (base + c .at < 2 ^ 63)
+        × (base + c .next < 2 ^ 63) ⌝ }
     ensures { λ r. ⌜ r ≡ objectiveFrom base n flags c count len ⌝ }
 {
     Objective {
@@ -125,7 +127,8 @@ fn objective_of(base: usize, n: Token, flags: u8, c: Token, count: u8, len: usiz
     }
 }
 
-// The same objective, field by field: so the compiler carries its numbers in registers, where it would copy a whole one from place to place.
+// The same objective, field by field: so the compiler carries its numbers in registers, where it would copy a whole one
+// from place to place.
 pub fn copied(o: Objective) -> Objective
     ensures { λ r. ⌜ r ≡ o ⌝ }
 {

@@ -27,8 +27,8 @@ pub struct Pair {
     pub tag: Tag,
 }
 
-// The place of the first departure from the shape; or a pair of `size` bytes, with the places of its first text that isn't
-// UTF-8 and of a name over 64 bytes, else 0.
+// The place of the first departure from the shape; or a pair of `size` bytes, with the places of its first text that
+// isn't UTF-8 and of a name over 64 bytes, else 0.
 pub enum PairRead {
     Bad(usize),
     Got {
@@ -126,8 +126,8 @@ fn is_empty(t: Token) -> bool
     false
 }
 
-// A pair as twelve numbers: the place and length of the name, flags, count, the place of the count's head, the place and length
-// of the value; then the locator's five, or five zeros.
+// A pair as twelve numbers: the place and length of the name, flags, count, the place of the count's head, the place
+// and length of the value; then the locator's five, or five zeros.
 pub fn numbers_of(o: Objective, tag: Tag) -> [u64; 12]
     ensures { λ r. ⌜ r ≡ pairNumbers o tag ⌝ }
 {

@@ -1,5 +1,5 @@
--- How the code's answers meet the definition of reading. A message that its parts make up is accepted by the walk, which ends where they end: so what was
--- read of its parts is the answer.
+-- How the code's answers meet the definition of reading. A message that its parts make up is accepted by the walk,
+-- which ends where they end: so what was read of its parts is the answer.
 -- Assumes nothing.
 use mathlib.Core.Path.{_≡_, refl, sym, ap, _∙_}
 use mathlib.Core.Logic.{_≢_}
@@ -49,7 +49,8 @@ module _ (s : List ℕ) (r : Examined) (most : length s ≤ mostBytes) (is : r �
   read-over more = sym (ap placeless walked ∙ rw (ne-eqb end (length s) more))
 
 -- a refusal by the parts comes after the walk's
-due-later : (s : List ℕ) (number place : ℕ) → examined s ≡ E.Refused number place → (x : ItemRead) → placeless (framed s x) ≡ Reading.Refused (walkedBy number (length s) x)
+due-later : (s : List ℕ) (number place : ℕ) → examined s ≡ E.Refused number place → (x : ItemRead)
+    → placeless (framed s x) ≡ Reading.Refused (walkedBy number (length s) x)
 unfolding walkedBy framed placeless pick
 due-later s number place later (ItemRead.Refused number′ place′) = refl
 due-later s number place later (ItemRead.Ends end) = by (eqb end (length s))

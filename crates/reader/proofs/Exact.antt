@@ -1,4 +1,5 @@
--- Reading held against RFC 8990 and the rules' limits: which bytes are accepted, and what the answer says of them. For readers: each statement stands alone.
+-- Reading held against RFC 8990 and the rules' limits: which bytes are accepted, and what the answer says of them. For
+-- readers: each statement stands alone.
 -- Assumes nothing.
 use mathlib.Core.Path.{_≡_, ap, _∙_, subst}
 use mathlib.Core.Logic.{_↔_}
@@ -63,7 +64,8 @@ accepted-described s m q a =
     let (a′, d) = read-answer (readPlaced s) (answer (accepted-bytes s a)) q in
     subst (Describes s m) (message-once s (a′ .message) (a .message) .1) d
 
--- So an answer is given exactly if it is the description of accepted bytes: no other place and no other number fits them.
+-- So an answer is given exactly if it is the description of accepted bytes: no other place and no other number fits
+-- them.
 pub read-exactly : (s : List ℕ) (m : Message) → Bytes s → readOf s ≡ Reading.Read m ↔ ((a : Accepted s) × Describes s m (a .message .msg))
 unfolding readOf placeless
 read-exactly s m b = (

@@ -1,8 +1,10 @@
--- For readers: `Exact`, which bytes are accepted and what is said of them; `Refused`, each refusal held against its row.
+-- For readers: `Exact`, which bytes are accepted and what is said of them; `Refused`, each refusal held against its
+-- row.
 pub mod Exact
 pub mod Refused
 -- Their proof: what any bytes are answered.
 pub mod Placed
--- For callers' proofs: `Answers`, how the code's answers meet the definition; `ReadParts`, what is known of a message that was read.
+-- For callers' proofs: `Answers`, how the code's answers meet the definition; `ReadParts`, what is known of a message
+-- that was read.
 pub mod Answers
 pub mod ReadParts

@@ -1,4 +1,5 @@
--- What `readPlaced` answers of any bytes: one item that is the whole is what it is by its shape; the other answers have their reasons.
+-- What `readPlaced` answers of any bytes: one item that is the whole is what it is by its shape; the other answers have
+-- their reasons.
 -- Assumes nothing.
 use mathlib.Core.Path.{_≡_, refl, sym, ap, _∙_}
 use mathlib.Core.Logic.{_⊎_, inl, inr, _↔_}
@@ -66,7 +67,8 @@ pub record MessageShape (s : List ℕ) (msg : Msg Value) : Type 0 where
 pub judged-number : (m : Message) (end bad long : ℕ) {number place : ℕ} → judgedShape (S.Good m end bad long) ≡ E.Refused number place → 10 ≤ number
 unfolding judgedShape
 judged-number m end bad long {number} {place} =
-    pick-case P (eqb bad 0) (λ _. pick-case P (eqb long 0) (λ _ q. absurd (let z : _≡_ {A = ℕ} 0 1 = cc in omega arith)) (λ _ q. let e : 10 ≡ number = cc in omega arith))
+    pick-case P (eqb bad 0)
+    (λ _. pick-case P (eqb long 0) (λ _ q. absurd (let z : _≡_ {A = ℕ} 0 1 = cc in omega arith)) (λ _ q. let e : 10 ≡ number = cc in omega arith))
     (λ _ q. let e : 11 ≡ number = cc in omega arith)
   where
     P : Examined → Type 0

@@ -1,5 +1,5 @@
--- What is known of a message that was read, of any list of numbers: how long it is, and what is known of its parts; and of a refusal, that its number is at
--- most 11.
+-- What is known of a message that was read, of any list of numbers: how long it is, and what is known of its parts; and
+-- of a refusal, that its number is at most 11.
 -- Assumes nothing.
 use mathlib.Core.Path.{_≡_, refl, subst}
 use mathlib.Core.List.{List}

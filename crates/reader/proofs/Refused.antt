@@ -50,13 +50,17 @@ row-given s _ (Row.size (inl e)) = rw (eq-eqb (length s) 0 e)
 row-given s _ (Row.size (inr h)) = rw (ne-eqb (length s) 0 (λ z. omega arith), lt-ltb mostBytes (length s) h)
 row-given s n (Row.head {place = place} fits f) = ap placeless (placed-fit fits ∙ ap (framed s) (refusal-complete 0 s n place f))
 row-given s _ (Row.more {e} most i less) =
-    ap placeless (placed-fit (record { some = λ z. omega arith; most = most }) ∙ ap (framed s) (item-found 0 s e i)) ∙ rw (ne-eqb e (length s) (λ z. omega arith))
+    ap placeless (placed-fit (record { some = λ z. omega arith; most = most }) ∙ ap (framed s) (item-found 0 s e i))
+    ∙ rw (ne-eqb e (length s) (λ z. omega arith))
 row-given s _ (Row.kind one u) = ap placeless (placed-one one ∙ unknown-complete (stands one) u .1)
 row-given s _ (Row.shape one known none) =
     ap placeless (placed-one one)
-    ∙ examined-case one (λ (r : Examined). placeless r ≡ Reading.Refused 9) (λ place u. absurd (known u)) (λ place. refl) (λ m end bad long h. absurd (none (h .msg) (h .is)))
-row-given s _ (Row.text i bad) = let h = message-shape i in ap placeless (h .is) ∙ judged-bad (h .message) (h .end) (h .bad) (h .long) (λ z. bad (h .texts .0 z))
-row-given s _ (Row.name i texts long) = let h = message-shape i in ap placeless (h .is) ∙ judged-long (h .message) (h .end) (h .bad) (h .long) (h .texts .1 texts) (λ z. long (h .names .0 z))
+    ∙ examined-case one (λ (r : Examined). placeless r ≡ Reading.Refused 9) (λ place u. absurd (known u)) (λ place. refl)
+    (λ m end bad long h. absurd (none (h .msg) (h .is)))
+row-given s _ (Row.text i bad) = let h = message-shape i in
+    ap placeless (h .is) ∙ judged-bad (h .message) (h .end) (h .bad) (h .long) (λ z. bad (h .texts .0 z))
+row-given s _ (Row.name i texts long) = let h = message-shape i in
+    ap placeless (h .is) ∙ judged-long (h .message) (h .end) (h .bad) (h .long) (h .texts .1 texts) (λ z. long (h .names .0 z))
 
 -- ---- a refusal has its row
 -- an answer has one number

@@ -1,4 +1,5 @@
--- What `reader::read` answers: the message that s is, or the refusal, in the order of the rules: 1, the walk's 2 to 6, 7, 8, 9, 11, 10.
+-- What `reader::read` answers: the message that s is, or the refusal, in the order of the rules: 1, the walk's 2 to 6,
+-- 7, 8, 9, 11, 10.
 use Prim.Native.Nat.{ℕ}
 use mathlib.Core.List.{List}
 use lib.ListN.{length}
@@ -18,7 +19,8 @@ framed s r = framedBy Refused (examined s) (length s) r
 
 -- the message that s is, or the refusal with its place
 unfoldable pub readPlaced : List ℕ → Examined
-readPlaced s = pick (eqb (length s) 0) (Refused 1 0) (pick (ltb mostBytes (length s)) (Refused 1 0) (framed s (firstItem 0 s)))
+readPlaced s =
+    pick (eqb (length s) 0) (Refused 1 0) (pick (ltb mostBytes (length s)) (Refused 1 0) (framed s (firstItem 0 s)))
 
 -- an answer without its place
 unfoldable pub placeless : Examined → Reading

@@ -14,8 +14,8 @@ pub enum Reading {
     Read(Message),
 }
 
-// 1; the walk's 2 to 6; 7; then 8, 9, 11 and 10 by the message's parts. Bytes that begin with a message's parts begin with one item where
-// these end: so a message is read once, and the walk is left for what is refused.
+// 1; the walk's 2 to 6; 7; then 8, 9, 11 and 10 by the message's parts. Bytes that begin with a message's parts begin
+// with one item where these end: so a message is read once, and the walk is left for what is refused.
 pub fn read(s: &[u8]) -> Reading
     ensures { λ r. ⌜ r ≡ readOf (now (s .entry)) ⌝ }
 {

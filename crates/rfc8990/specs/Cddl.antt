@@ -1,5 +1,5 @@
--- Which CBOR items are which message, as the CDDL of RFC 8990 (section 4) has it, with the limits of the rules on numbers. Heads have any width here; which
--- widths are good is said by `Good` of `cbor Tree`.
+-- Which CBOR items are which message, as the CDDL of RFC 8990 (section 4) has it, with the limits of the rules on
+-- numbers. Heads have any width here; which widths are good is said by `Good` of `cbor Tree`.
 use Prim.Native.Nat.{ℕ, _≤_}
 use mathlib.Core.List.{List, [], _∷_}
 use mathlib.Core.Bool.{true, false}
@@ -70,24 +70,30 @@ Value = Option Item
 -- [objective-name, objective-flags, loop-count, ?objective-value]
 pub data ObjectiveItem : Item → Obj Value → Type 0 where
   bare : {w a b c : ℕ} {name : List ℕ} {flags count : ℕ} → flags ≤ 15 → count ≤ 255
-      → ObjectiveItem (array w (text a name ∷ uint b flags ∷ uint c count ∷ [])) (record { name = name; flags = flags; count = count; value = none })
+      → ObjectiveItem (array w (text a name ∷ uint b flags ∷ uint c count ∷ []))
+      (record { name = name; flags = flags; count = count; value = none })
   valued : {w a b c : ℕ} {name : List ℕ} {flags count : ℕ} {x : Item} → flags ≤ 15 → count ≤ 255
-      → ObjectiveItem (array w (text a name ∷ uint b flags ∷ uint c count ∷ x ∷ [])) (record { name = name; flags = flags; count = count; value = some x })
+      → ObjectiveItem (array w (text a name ∷ uint b flags ∷ uint c count ∷ x ∷ []))
+      (record { name = name; flags = flags; count = count; value = some x })
 
 -- *locator-option; that there is one at least is asked where it is due
 pub data LocatorItems : Items → List Loc → Type 0 where
   empty : LocatorItems Items.done []
-  more : {x : Item} {l : Loc} {xs : Items} {ls : List Loc} → LocatorItem x l → LocatorItems xs ls → LocatorItems (Items.more x xs) (l ∷ ls)
+  more : {x : Item} {l : Loc} {xs : Items} {ls : List Loc} → LocatorItem x l → LocatorItems xs ls
+      → LocatorItems (Items.more x xs) (l ∷ ls)
 
 -- [objective, (locator-option / [])]
 pub data PairItem : Item → Pair Value → Type 0 where
-  untagged : {w v : ℕ} {x : Item} {obj : Obj Value} → ObjectiveItem x obj → PairItem (array w (x ∷ array v [] ∷ [])) (obj, none)
-  tagged : {w : ℕ} {x y : Item} {obj : Obj Value} {loc : Loc} → ObjectiveItem x obj → LocatorItem y loc → PairItem (array w (x ∷ y ∷ [])) (obj, some loc)
+  untagged : {w v : ℕ} {x : Item} {obj : Obj Value} → ObjectiveItem x obj
+      → PairItem (array w (x ∷ array v [] ∷ [])) (obj, none)
+  tagged : {w : ℕ} {x y : Item} {obj : Obj Value} {loc : Loc} → ObjectiveItem x obj → LocatorItem y loc
+      → PairItem (array w (x ∷ y ∷ [])) (obj, some loc)
 
 -- *[objective, (locator-option / [])]; that there is one at least is asked where it is due
 pub data PairItems : Items → List (Pair Value) → Type 0 where
   empty : PairItems Items.done []
-  more : {x : Item} {p : Pair Value} {xs : Items} {ps : List (Pair Value)} → PairItem x p → PairItems xs ps → PairItems (Items.more x xs) (p ∷ ps)
+  more : {x : Item} {p : Pair Value} {xs : Items} {ps : List (Pair Value)} → PairItem x p → PairItems xs ps
+      → PairItems (Items.more x xs) (p ∷ ps)
 
 -- ---- the messages
 -- session-id, ttl, waiting-time: 0..4294967295
@@ -96,7 +102,8 @@ pub data Number : Item → ℕ → Type 0 where
 
 -- initiator: ipv4-address / ipv6-address
 pub data Initiator : Item → List ℕ → Type 0 where
-  initiator : {w : ℕ} {content : List ℕ} → (length content ≡ 4) ⊎ (length content ≡ 16) → Initiator (bytes w content) content
+  initiator : {w : ℕ} {content : List ℕ} → (length content ≡ 4) ⊎ (length content ≡ 16)
+      → Initiator (bytes w content) content
 
 -- ?objective, after a message's other items
 pub data OptionalItems : Items → Option (Obj Value) → Type 0 where
@@ -110,9 +117,11 @@ joined (Items.more x xs) ys = Items.more x (joined xs ys)
 
 -- (+locator-option // divert-option), ?objective
 pub data TgtsItems : Items → Tgts → Option (Obj Value) → Type 0 where
-  locators : {xs ys : Items} {l : Loc} {ls : List Loc} {obj : Option (Obj Value)} → LocatorItems xs (l ∷ ls) → OptionalItems ys obj
+  locators : {xs ys : Items} {l : Loc} {ls : List Loc} {obj : Option (Obj Value)} → LocatorItems xs (l ∷ ls)
+      → OptionalItems ys obj
       → TgtsItems (joined xs ys) (Tgts.locators (l ∷ ls)) obj
-  divert : {w k : ℕ} {xs ys : Items} {l : Loc} {ls : List Loc} {obj : Option (Obj Value)} → LocatorItems xs (l ∷ ls) → OptionalItems ys obj
+  divert : {w k : ℕ} {xs ys : Items} {l : Loc} {ls : List Loc} {obj : Option (Obj Value)} → LocatorItems xs (l ∷ ls)
+      → OptionalItems ys obj
       → TgtsItems (Items.more (Item.array w (Items.more (uint k 100) xs)) ys) (Tgts.divert (l ∷ ls)) obj
 
 -- accept-option / decline-option
@@ -124,23 +133,30 @@ pub data OutcItem : Item → Outc → Type 0 where
 -- grasp-message: one case for each kind, and two for Invalid
 pub data MessageItem : Item → Msg Value → Type 0 where
   noop : {w k : ℕ} → MessageItem (array w (uint k 0 ∷ [])) Msg.noop
-  discovery : {w k session : ℕ} {s i x : Item} {from : List ℕ} {obj : Obj Value} → Number s session → Initiator i from → ObjectiveItem x obj
+  discovery : {w k session : ℕ} {s i x : Item} {from : List ℕ} {obj : Obj Value} → Number s session → Initiator i from
+      → ObjectiveItem x obj
       → MessageItem (array w (uint k 1 ∷ s ∷ i ∷ x ∷ [])) (Msg.discovery session from obj)
   response : {w k session ttl : ℕ} {s i t : Item} {from : List ℕ} {xs : Items} {tgts : Tgts} {obj : Option (Obj Value)}
       → Number s session → Initiator i from → Number t ttl → TgtsItems xs tgts obj
-      → MessageItem (Item.array w (Items.more (uint k 2) (Items.more s (Items.more i (Items.more t xs))))) (Msg.response session from ttl tgts obj)
+      → MessageItem (Item.array w (Items.more (uint k 2) (Items.more s (Items.more i (Items.more t xs)))))
+      (Msg.response session from ttl tgts obj)
   request-negotiation : {w k session : ℕ} {s x : Item} {obj : Obj Value} → Number s session → ObjectiveItem x obj
       → MessageItem (array w (uint k 3 ∷ s ∷ x ∷ [])) (Msg.request-negotiation session obj)
   request-synchronization : {w k session : ℕ} {s x : Item} {obj : Obj Value} → Number s session → ObjectiveItem x obj
       → MessageItem (array w (uint k 4 ∷ s ∷ x ∷ [])) (Msg.request-synchronization session obj)
   negotiate : {w k session : ℕ} {s x : Item} {obj : Obj Value} → Number s session → ObjectiveItem x obj
       → MessageItem (array w (uint k 5 ∷ s ∷ x ∷ [])) (Msg.negotiate session obj)
-  end : {w k session : ℕ} {s x : Item} {e : Outc} → Number s session → OutcItem x e → MessageItem (array w (uint k 6 ∷ s ∷ x ∷ [])) (Msg.end session e)
-  wait : {w k session time : ℕ} {s t : Item} → Number s session → Number t time → MessageItem (array w (uint k 7 ∷ s ∷ t ∷ [])) (Msg.wait session time)
+  end : {w k session : ℕ} {s x : Item} {e : Outc} → Number s session → OutcItem x e
+      → MessageItem (array w (uint k 6 ∷ s ∷ x ∷ [])) (Msg.end session e)
+  wait : {w k session time : ℕ} {s t : Item} → Number s session → Number t time
+      → MessageItem (array w (uint k 7 ∷ s ∷ t ∷ [])) (Msg.wait session time)
   synch : {w k session : ℕ} {s x : Item} {obj : Obj Value} → Number s session → ObjectiveItem x obj
       → MessageItem (array w (uint k 8 ∷ s ∷ x ∷ [])) (Msg.synch session obj)
   flood : {w k session ttl : ℕ} {s i t : Item} {from : List ℕ} {xs : Items} {p : Pair Value} {ps : List (Pair Value)}
       → Number s session → Initiator i from → Number t ttl → PairItems xs (p ∷ ps)
-      → MessageItem (Item.array w (Items.more (uint k 9) (Items.more s (Items.more i (Items.more t xs))))) (Msg.flood session from ttl (p ∷ ps))
-  invalid : {w k session : ℕ} {s : Item} → Number s session → MessageItem (array w (uint k 99 ∷ s ∷ [])) (Msg.invalid session none)
-  invalid-with : {w k session : ℕ} {s x : Item} → Number s session → MessageItem (array w (uint k 99 ∷ s ∷ x ∷ [])) (Msg.invalid session (some x))
+      → MessageItem (Item.array w (Items.more (uint k 9) (Items.more s (Items.more i (Items.more t xs)))))
+      (Msg.flood session from ttl (p ∷ ps))
+  invalid : {w k session : ℕ} {s : Item} → Number s session
+      → MessageItem (array w (uint k 99 ∷ s ∷ [])) (Msg.invalid session none)
+  invalid-with : {w k session : ℕ} {s x : Item} → Number s session
+      → MessageItem (array w (uint k 99 ∷ s ∷ x ∷ [])) (Msg.invalid session (some x))

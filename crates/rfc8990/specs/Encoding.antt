@@ -1,5 +1,5 @@
--- A message's encoding with shortest heads, kind by kind of the CDDL (RFC 8990, section 4). What stands for a value is the bytes of one item, or no bytes
--- where there is none: no item has none.
+-- A message's encoding with shortest heads, kind by kind of the CDDL (RFC 8990, section 4). What stands for a value is
+-- the bytes of one item, or no bytes where there is none: no item has none.
 use Prim.Native.Nat.{ℕ, _+_}
 use mathlib.Core.List.{List, [], _∷_, _++_, flatMap}
 use mathlib.Core.Option.{Option, none, some}
@@ -40,7 +40,8 @@ oneMore (x ∷ xs) = 1
 
 -- an objective, with its value or without
 unfoldable pub encodeObj : Obj (List ℕ) → List ℕ
-encodeObj o = head 4 (3 + oneMore (o .value)) ++ string 3 (o .name) ++ head 0 (o .flags) ++ head 0 (o .count) ++ o .value
+encodeObj o =
+    head 4 (3 + oneMore (o .value)) ++ string 3 (o .name) ++ head 0 (o .flags) ++ head 0 (o .count) ++ o .value
 
 -- an objective that may be left out
 unfoldable pub maybeObj : Option (Obj (List ℕ)) → List ℕ
@@ -90,7 +91,8 @@ exchange kind session o = preamble 3 kind session ++ encodeObj o
 unfoldable pub encodeMsg : Msg (List ℕ) → List ℕ
 encodeMsg Msg.noop = head 4 1 ++ head 0 0
 encodeMsg (Msg.discovery s i o) = preamble 4 1 s ++ string 2 i ++ encodeObj o
-encodeMsg (Msg.response s i t x o) = preamble (4 + (targetItems x + howMany o)) 2 s ++ string 2 i ++ head 0 t ++ encodeTargets x ++ maybeObj o
+encodeMsg (Msg.response s i t x o) =
+    preamble (4 + (targetItems x + howMany o)) 2 s ++ string 2 i ++ head 0 t ++ encodeTargets x ++ maybeObj o
 encodeMsg (Msg.request-negotiation s o) = exchange 3 s o
 encodeMsg (Msg.request-synchronization s o) = exchange 4 s o
 encodeMsg (Msg.negotiate s o) = exchange 5 s o

@@ -1,5 +1,6 @@
 -- What RFC 8990 and the rules say of messages, without reading one.
--- `Message`: the messages as data, whatever stands for a value. `Cddl`: which CBOR items are which message, rule by rule of section 4.
+-- `Message`: the messages as data, whatever stands for a value. `Cddl`: which CBOR items are which message, rule by
+-- rule of section 4.
 -- `Limits`: bytes, named texts and names. `Encoding`: a message's encoding with shortest heads.
 -- `Accepted`: the bytes that are to be accepted. `Refusals`: which refusal is due.
 pub mod Message

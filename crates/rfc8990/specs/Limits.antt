@@ -1,4 +1,5 @@
--- The rules' limits on bytes and on texts: a message has at most 2,048 bytes, named texts are UTF-8, and names have at most 64 bytes.
+-- The rules' limits on bytes and on texts: a message has at most 2,048 bytes, named texts are UTF-8, and names have at
+-- most 64 bytes.
 use Prim.Native.Nat.{ℕ, _≤_}
 use mathlib.Core.List.{List, [], _∷_, _++_, map, flatMap}
 use mathlib.Core.Option.{Option, none, some}

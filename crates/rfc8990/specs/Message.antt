@@ -1,5 +1,5 @@
--- The messages of RFC 8990 (section 4) as data. What stands for an objective's value, and for Invalid's item, is a parameter: one of CBOR's items
--- or none in the grammar, the bytes of one in an encoding.
+-- The messages of RFC 8990 (section 4) as data. What stands for an objective's value, and for Invalid's item, is a
+-- parameter: one of CBOR's items or none in the grammar, the bytes of one in an encoding.
 use Prim.Native.Nat.{ℕ}
 use mathlib.Core.List.{List, map}
 use mathlib.Core.Option.{Option, none, some, Option·map}

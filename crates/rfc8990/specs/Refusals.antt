@@ -33,7 +33,8 @@ pub data Row (s : List ℕ) : ℕ → Type 0 where
   -- one item of no known kind
   kind : (one : OneItem s) → UnknownKind (one .item) → Row s 8
   -- one item that is no message for another reason
-  shape : (one : OneItem s) → (UnknownKind (one .item) → ⊥) → ((msg : Msg Value) → MessageItem (one .item) msg → ⊥) → Row s 9
+  shape : (one : OneItem s) → (UnknownKind (one .item) → ⊥)
+      → ((msg : Msg Value) → MessageItem (one .item) msg → ⊥) → Row s 9
   -- a message with a text that isn't UTF-8
   text : (m : IsMessage s) → (TextsGood (m .msg) → ⊥) → Row s 11
   -- a message with good texts, and with a long name

@@ -1,4 +1,5 @@
--- One scalar value and its bytes: they are accepted, what is accepted after a lead byte spells one, and the bytes tell which one.
+-- One scalar value and its bytes: they are accepted, what is accepted after a lead byte spells one, and the bytes tell
+-- which one.
 -- Assumes nothing.
 use mathlib.Core.Path.{_≡_, refl, _∙_}
 use mathlib.Core.Logic.{inl, inr, ⊎-elim}
@@ -101,7 +102,8 @@ passed c r g =
     scalar-case c (λ s. goesOn 0 0x80 0xBF (s ++ r) ≡ goesOn 0 0x80 0xBF r)
     (ascii c r) (passed-two c r) (passed-three c r g) (λ l. passed-four c r l (⊎-elim (λ k. omega arith) (λ k. k .1) g))
 
--- What two, three and four bytes spell: their lower bits put together, which is their sum less what the upper bits add to it.
+-- What two, three and four bytes spell: their lower bits put together, which is their sum less what the upper bits add
+-- to it.
 
 abbrev value-two : (b t : ℕ) → ℕ
 value-two b t = b * 2 ^ 6 + t - 0x3080
@@ -119,8 +121,10 @@ Spells s = (c : ℕ) × Scalar c × (scalarBytes c ≡ s)
 
 -- the first tail, whatever the lead byte
 first-tail : (b t : ℕ) → leastTail b ≤ t → t ≤ greatestTail b → (0x80 ≤ t) × (t ≤ 0xBF)
-first-tail b t l h =
-    (least-case b (λ x. x ≤ t → 0x80 ≤ t) (omega arith) (omega arith) (omega arith) l, greatest-case b (λ x. t ≤ x → t ≤ 0xBF) (omega arith) (omega arith) (omega arith) h)
+first-tail b t l h = (
+  least-case b (λ x. x ≤ t → 0x80 ≤ t) (omega arith) (omega arith) (omega arith) l,
+  greatest-case b (λ x. t ≤ x → t ≤ 0xBF) (omega arith) (omega arith) (omega arith) h,
+)
 
 pub spells-one : (b : ℕ) → b < 0x80 → Spells (b ∷ [])
 unfolding scalarBytes pick

@@ -16,7 +16,8 @@ tailsOf b = pick (ltb b 0xC2) 0 (pick (ltb b 0xE0) 1 (pick (ltb b 0xF0) 2 (pick 
 unfoldable pub leastTail : ℕ → ℕ
 leastTail b = pick (eqb b 0xE0) 0xA0 (pick (eqb b 0xF0) 0x90 0x80)
 
--- The greatest first tail after the lead byte b (RFC 3629, section 4): a higher one would spell a surrogate, or more than 0x10FFFF.
+-- The greatest first tail after the lead byte b (RFC 3629, section 4): a higher one would spell a surrogate, or more
+-- than 0x10FFFF.
 unfoldable pub greatestTail : ℕ → ℕ
 greatestTail b = pick (eqb b 0xED) 0x9F (pick (eqb b 0xF4) 0x8F 0xBF)
 

@@ -25,13 +25,15 @@ use Rattle.encode.proofs.Puts.{finished, drafted, long}
 abbrev numberBy : (good short : Bool) → ℕ
 numberBy good short = pick good (pick short 19 0) 18
 
-module _ (test : Bool) (bs out : List ℕ) {good : Bool} {len number : ℕ} (g : good ≡ passes test bs) (l : len ≡ length bs) (e : number ≡ numberBy good (ltb (length out) len)) where
+module _ (test : Bool) (bs out : List ℕ) {good : Bool} {len number : ℕ} (g : good ≡ passes test bs) (l : len ≡ length bs)
+    (e : number ≡ numberBy good (ltb (length out) len)) where
   pub pass-not : number ≢ 0 → (Written.Refused number ≡ passAnswer test bs out) × (out ≡ passOut test bs out)
   unfolding passAnswer passOut handAnswer handOut pick
   pass-not h = rw (e, ← g, ← l) (go good (ltb (length out) len) (λ z. h (e ∙ z)))
     where
       go : (x y : Bool) → numberBy x y ≢ 0
-          → (Written.Refused (numberBy x y) ≡ pick x (pick y (Written.Refused 19) (Written.Length len)) (Written.Refused 18)) × (out ≡ pick x (pick y out (bs ++ drop len out)) out)
+          → (Written.Refused (numberBy x y) ≡ pick x (pick y (Written.Refused 19) (Written.Length len)) (Written.Refused 18))
+          × (out ≡ pick x (pick y out (bs ++ drop len out)) out)
       go true true m = (refl, refl)
       go true false m = absurd (m refl)
       go false y m = (refl, refl)
@@ -41,7 +43,8 @@ module _ (test : Bool) (bs out : List ℕ) {good : Bool} {len number : ℕ} (g :
   pass-put {r} {out′} z w = rw (← g, ← l) (go good (ltb (length out) len) refl (sym e ∙ z))
     where
       go : (x y : Bool) → ltb (length out) len ≡ y → numberBy x y ≡ 0
-          → (Written.Length len ≡ pick x (pick y (Written.Refused 19) (Written.Length len)) (Written.Refused 18)) × (out′ ≡ pick x (pick y out (bs ++ drop len out)) out)
+          → (Written.Length len ≡ pick x (pick y (Written.Refused 19) (Written.Length len)) (Written.Refused 18))
+          × (out′ ≡ pick x (pick y out (bs ++ drop len out)) out)
       go true true q m = absurd (let z : _≡_ {A = ℕ} 19 0 = m in omega arith)
       go true false q m = (refl, rw l (finished w (omega (arith, ltb-false (length out) len q)) .1))
       go false y q m = absurd (let z : _≡_ {A = ℕ} 18 0 = m in omega arith)
@@ -72,7 +75,8 @@ module _ {l l′ bs : List ℕ} {r : ℕ} (w : Wrote l l′ 0 bs r) (h : r ≤ l
   draft-is : take r l′ ≡ bs
   draft-is = drafted w h .0
 
-  pub passed : (out : List ℕ) {out′ : List ℕ} {x : Bool} {a : Written} → x ≡ accepts (take r l′) → a ≡ passAnswer x (take r l′) out → out′ ≡ passOut x (take r l′) out
+  pub passed : (out : List ℕ) {out′ : List ℕ} {x : Bool} {a : Written} → x ≡ accepts (take r l′) → a ≡ passAnswer x (take r l′) out
+      → out′ ≡ passOut x (take r l′) out
       → (a ≡ passAnswer (accepts bs) bs out) × (out′ ≡ passOut (accepts bs) bs out)
   passed out e p q = rw (← draft-is, ← e) (p, q)
 
@@ -92,7 +96,8 @@ module _ (source list : List ℕ) (m : Description) (out : List ℕ) (b : Bool) 
   not-described h = rw (← e, h) (refl, refl)
 
   pub described : {out′ : List ℕ} {a : Written} → b ≡ true
-      → (a ≡ passAnswer (accepts (draftOf source list m)) (draftOf source list m) out) × (out′ ≡ passOut (accepts (draftOf source list m)) (draftOf source list m) out)
+      → (a ≡ passAnswer (accepts (draftOf source list m)) (draftOf source list m) out)
+      × (out′ ≡ passOut (accepts (draftOf source list m)) (draftOf source list m) out)
       → (a ≡ writeAnswer source list m out) × (out′ ≡ writeOut source list m out)
   unfolding writeAnswer writeOut pick
   described h p = rw (← e, h) p

@@ -39,7 +39,14 @@ pub lowered-length : (message : List ℕ) (at end count n : ℕ) → at ≤ leng
     → at + (length message - end) + n ≡ length (lowered message at end count)
 unfolding lowered
 lowered-length message at end count n h e =
-    rw (length-append (take at message ++ head 0 (count - 1)) (drop end message), length-append (take at message) (head 0 (count - 1)), length-take-le at message h, length-drop end message, length-shortest 0 (count - 1), e)
+    rw (
+      length-append (take at message ++ head 0 (count - 1)) (drop end message),
+      length-append (take at message) (head 0 (count - 1)),
+      length-take-le at message h,
+      length-drop end message,
+      length-shortest 0 (count - 1),
+      e,
+    )
     (omega arith)
 
 -- the heads of an answer that are always the same
@@ -59,7 +66,8 @@ answer-length session initiator ttl address port a b c d e ea eb ec ed ee =
 pub initiator-sized : (initiator : List ℕ) → okInitiator initiator ≡ true ↔ ((length initiator ≡ 4) ⊎ (length initiator ≡ 16))
 unfolding okInitiator pick
 initiator-sized initiator = (
-  pick-case (λ t. t ≡ true → (length initiator ≡ 4) ⊎ (length initiator ≡ 16)) _ (λ q _. inl (eqb-true (length initiator) 4 q)) (λ _ q. inr (eqb-true (length initiator) 16 q)),
+  pick-case (λ t. t ≡ true → (length initiator ≡ 4) ⊎ (length initiator ≡ 16)) _ (λ q _. inl (eqb-true (length initiator) 4 q))
+      (λ _ q. inr (eqb-true (length initiator) 16 q)),
   back,
 )
   where

@@ -1,4 +1,5 @@
--- For callers' proofs: `Lengths`, how many bytes are written; `HandedOver`, bytes handed over to an output; `Onward`, a message that is relayed.
+-- For callers' proofs: `Lengths`, how many bytes are written; `HandedOver`, bytes handed over to an output; `Onward`, a
+-- message that is relayed.
 pub mod Lengths
 pub mod HandedOver
 pub mod Onward

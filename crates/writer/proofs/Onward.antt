@@ -53,7 +53,8 @@ neither (inr e) f g = g e
 pub lowers-by : (m : Message) (o : Objective) → (kindOf m ≡ 1) ⊎ (kindOf m ≡ 9) → objectiveOf m ≡ Extra.With o → Lowers m o
 unfolding objectiveOf
 lowers-by (M.Discovery session i o′) o k e = let same : o′ ≡ o = cc in subst (Lowers (M.Discovery session i o′)) same Lowers.discovery
-lowers-by (M.Flood session i ttl first series) o k e = let same : first .objective ≡ o = cc in subst (Lowers (M.Flood session i ttl first series)) same Lowers.flood
+lowers-by (M.Flood session i ttl first series) o k e = let same : first .objective ≡ o = cc in
+    subst (Lowers (M.Flood session i ttl first series)) same Lowers.flood
 lowers-by M.Noop o k e = absurd (neither k (λ e. omega arith) (λ e. omega arith))
 lowers-by (M.Response session i ttl targets extra) o k e = absurd (neither k (λ e. omega arith) (λ e. omega arith))
 lowers-by (M.RequestNegotiation session objective) o k e = absurd (neither k (λ e. omega arith) (λ e. omega arith))
@@ -69,7 +70,8 @@ pub lowered-shorter : (s : List ℕ) (m : Message) (o : Objective) → readOf s 
 lowered-shorter s m o q low = shorter s o (lowers-parts s low (read-parts s m q .1))
 
 -- So `lower` gives it, where the count is above 0 and the output has room for it.
-pub lowered-given : (s : List ℕ) (m : Message) (o : Objective) (out : List ℕ) → readOf s ≡ Reading.Read m → Lowers m o → 1 ≤ o .count → length (onward s o) ≤ length out
+pub lowered-given : (s : List ℕ) (m : Message) (o : Objective) (out : List ℕ) → readOf s ≡ Reading.Read m → Lowers m o → 1 ≤ o .count
+    → length (onward s o) ≤ length out
     → (lowerAnswer s (o .«count_at») (o .value .at) (o .count) out ≡ Written.Length (length (onward s o)))
     × (lowerOut s (o .«count_at») (o .value .at) (o .count) out ≡ written (onward s o) out)
 unfolding lowerAnswer lowerOut okLower passAnswer passOut passes pick

@@ -39,7 +39,8 @@ lowerMsg (Msg.invalid s item) = Msg.invalid s item
 -- the objective whose count a relay lowers
 pub data Lowers : Message → Objective → Type 0 where
   discovery : {session : ℕ} {i : Span} {o : Objective} → Lowers (M.Discovery session i o) o
-  flood : {session ttl : ℕ} {i : Span} {first : Pair} {series : Series} → Lowers (M.Flood session i ttl first series) (first .objective)
+  flood : {session ttl : ℕ} {i : Span} {first : Pair} {series : Series}
+      → Lowers (M.Flood session i ttl first series) (first .objective)
 
 -- the message as it is relayed: that count's head is replaced by the shortest head of one less
 abbrev pub onward : List ℕ → Objective → List ℕ

@@ -1,5 +1,5 @@
--- What the writer answers: 18, then 19, then the encoding at the front of the output; the bytes after it, and on a refusal all of them,
--- are as they were.
+-- What the writer answers: 18, then 19, then the encoding at the front of the output; the bytes after it, and on a
+-- refusal all of them, are as they were.
 use Prim.Native.Nat.{ℕ, _-_}
 use mathlib.Core.Bool.{Bool, true, false}
 use mathlib.Core.List.{List, [], _∷_, _++_}
@@ -55,20 +55,23 @@ draftOf source list m = encodeMsg (msgOf source list m)
 -- what `write` answers
 unfoldable pub writeAnswer : List ℕ → List ℕ → Description → List ℕ → Written
 writeAnswer source list m out =
-    pick (okDescribed source list m) (passAnswer (accepts (draftOf source list m)) (draftOf source list m) out) (Written.Refused 18)
+    pick (okDescribed source list m) (passAnswer (accepts (draftOf source list m)) (draftOf source list m) out)
+    (Written.Refused 18)
 
 -- the output that it leaves
 unfoldable pub writeOut : List ℕ → List ℕ → Description → List ℕ → List ℕ
 writeOut source list m out =
     pick (okDescribed source list m) (passOut (accepts (draftOf source list m)) (draftOf source list m) out) out
 
--- ---- `lower`: the message with its bytes from `at` to `end`, the count's head, replaced by the shortest head of one less
+-- ---- `lower`: the message with its bytes from `at` to `end`, the count's head, replaced by the shortest head of one
+-- less
 unfoldable pub lowered : List ℕ → ℕ → ℕ → ℕ → List ℕ
 lowered message at end count = take at message ++ head 0 (count - 1) ++ drop end message
 
 -- a count above 0, and a part of the message
 unfoldable pub okLower : List ℕ → ℕ → ℕ → ℕ → Bool
-okLower message at end count = pick (eqb count 0) false (pick (ltb end at) false (pick (ltb (length message) end) false true))
+okLower message at end count =
+    pick (eqb count 0) false (pick (ltb end at) false (pick (ltb (length message) end) false true))
 
 -- what `lower` answers
 unfoldable pub lowerAnswer : List ℕ → ℕ → ℕ → ℕ → List ℕ → Written
@@ -77,11 +80,13 @@ lowerAnswer message at end count out =
 
 -- the output that it leaves
 unfoldable pub lowerOut : List ℕ → ℕ → ℕ → ℕ → List ℕ → List ℕ
-lowerOut message at end count out = pick (okLower message at end count) (passOut true (lowered message at end count) out) out
+lowerOut message at end count out =
+    pick (okLower message at end count) (passOut true (lowered message at end count) out) out
 
 -- ---- `answer`: a Response with one locator of kind 103, protocol 6
 abbrev pub answerMsg : {A : Type 0} → ℕ → List ℕ → ℕ → List ℕ → ℕ → Msg A
-answerMsg session initiator ttl address port = Msg.response session initiator ttl (Tgts.locators (Loc.v6 address 6 port ∷ [])) none
+answerMsg session initiator ttl address port =
+    Msg.response session initiator ttl (Tgts.locators (Loc.v6 address 6 port ∷ [])) none
 
 -- its bytes
 unfoldable pub answerOf : ℕ → List ℕ → ℕ → List ℕ → ℕ → List ℕ
@@ -93,8 +98,10 @@ okInitiator initiator = pick (eqb (length initiator) 4) true (eqb (length initia
 
 -- what `answer` answers
 unfoldable pub answerAnswer : ℕ → List ℕ → ℕ → List ℕ → ℕ → List ℕ → Written
-answerAnswer session initiator ttl address port out = passAnswer (okInitiator initiator) (answerOf session initiator ttl address port) out
+answerAnswer session initiator ttl address port out =
+    passAnswer (okInitiator initiator) (answerOf session initiator ttl address port) out
 
 -- the output that it leaves
 unfoldable pub answerOut : ℕ → List ℕ → ℕ → List ℕ → ℕ → List ℕ → List ℕ
-answerOut session initiator ttl address port out = passOut (okInitiator initiator) (answerOf session initiator ttl address port) out
+answerOut session initiator ttl address port out =
+    passOut (okInitiator initiator) (answerOf session initiator ttl address port) out

@@ -8,7 +8,8 @@ use crate::Written;
 use cbor::put;
 use message::MOST_BYTES;
 
-// A Response with one locator of kind 103 and protocol 6, as a node answers: 18 if the initiator has neither 4 nor 16 bytes.
+// A Response with one locator of kind 103 and protocol 6, as a node answers: 18 if the initiator has neither 4 nor 16
+// bytes.
 pub fn answer(
     session: u32,
     initiator: &[u8],
@@ -17,8 +18,10 @@ pub fn answer(
     port: u16,
     out: &mut [u8],
 ) -> Written
-    ensures { λ r. ⌜ r ≡ answerAnswer session (now (initiator .entry)) ttl (now (address .entry)) port (now (out .entry)) ⌝ }
-    ensures { λ r. ⌜ now (out .exit) ≡ answerOut session (now (initiator .entry)) ttl (now (address .entry)) port (now (out .entry)) ⌝ }
+    ensures { λ r.
+        ⌜ r ≡ answerAnswer session (now (initiator .entry)) ttl (now (address .entry)) port (now (out .entry)) ⌝ }
+    ensures { λ r. ⌜ now (out .exit) ≡ answerOut session (now (initiator .entry)) ttl (now (address .entry)) port
+        (now (out .entry)) ⌝ }
 {
     if !ok_initiator(initiator) {
         return Written::Refused(18);
@@ -62,7 +65,8 @@ fn put_answer(
     address: &[u8],
     port: u16,
 ) -> usize
-    ensures { λ r. ⌜ Wrote (now (out .entry)) (now (out .exit)) 0 (answerOf session (now (initiator .entry)) ttl (now (address .entry)) port) r ⌝ }
+    ensures { λ r. ⌜ Wrote (now (out .entry)) (now (out .exit)) 0
+        (answerOf session (now (initiator .entry)) ttl (now (address .entry)) port) r ⌝ }
 {
     let a = put::head(out, 0, 4, 5);
     let b = put::head(out, a, 0, 2);

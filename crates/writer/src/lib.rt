@@ -1,4 +1,5 @@
-// GRASP messages written (RFC 8990), every head in its shortest form: from a description, from a message that is relayed, and a node's answer.
+// GRASP messages written (RFC 8990), every head in its shortest form: from a description, from a message that is
+// relayed, and a node's answer.
 // What is written goes to the front of the output and the bytes after it stay; on a refusal all of the output stays.
 ghost use mathlib.Core.Path.{_≡_};
 ghost use Prim.Native.Nat.{_≤_};
@@ -56,7 +57,8 @@ fn is_accepted(reading: Reading) -> bool
     }
 }
 
-// 18 where there is no such message, however short the output; then 19 where the output is shorter than the message; 0 for neither.
+// 18 where there is no such message, however short the output; then 19 where the output is shorter than the message; 0
+// for neither.
 pub(crate) fn refusal(good: bool, len: usize, room: usize) -> u8
     ensures { λ r. ⌜ r ≡ pick good (pick (ltb room len) 19 0) 18 ⌝ }
 {

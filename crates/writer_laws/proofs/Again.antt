@@ -30,7 +30,8 @@ described-says s list m q room a =
 
 -- So what was read, described and written again is the same bytes, where the output has room for them.
 pub described-written : (s list out : List ℕ) (m : Message) → Bytes s → readOf s ≡ Reading.Read m → rowsEnd m list ≤ length list → length s ≤ length out
-    → (writeAnswer s (rowsLent s m list) (descriptionOf m) out ≡ Written.Length (length s)) × (writeOut s (rowsLent s m list) (descriptionOf m) out ≡ s ++ drop (length s) out)
+    → (writeAnswer s (rowsLent s m list) (descriptionOf m) out ≡ Written.Length (length s))
+    × (writeOut s (rowsLent s m list) (descriptionOf m) out ≡ s ++ drop (length s) out)
 described-written s list out m b q room =
     let a = accepted-exactly s b .0 (m, q) in
     read-written s s (rowsLent s m list) (descriptionOf m) out a (described-says s list m q room a)

@@ -1,5 +1,5 @@
--- A node's answer held against reading: it is read back as that Response, and 18 and 19 are answered exactly where they are due. For readers: each
--- statement at the end stands alone.
+-- A node's answer held against reading: it is read back as that Response, and 18 and 19 are answered exactly where they
+-- are due. For readers: each statement at the end stands alone.
 -- Assumes nothing.
 use mathlib.Core.Path.{_≡_, refl, sym, _∙_, subst}
 use mathlib.Core.Logic.{_↔_, _⊎_}
@@ -72,7 +72,13 @@ module _ (session : ℕ) (initiator : List ℕ) (ttl : ℕ) (address : List ℕ)
     unfolding count
     locator-good = (
       shortest-right 4 4 (lit< tt) (lit< tt),
-      (number-good 103 (lit< tt), (string-good address (g .address-bytes) (omega (arith, g .address-length)), (number-good 6 (lit< tt), (number-good port (omega (arith, g .port-fits)), tt)))),
+      (
+        number-good 103 (lit< tt),
+        (
+          string-good address (g .address-bytes) (omega (arith, g .address-length)),
+          (number-good 6 (lit< tt), (number-good port (omega (arith, g .port-fits)), tt)),
+        ),
+      ),
     )
 
     -- the item is a message without fault, and so it is accepted
@@ -81,11 +87,19 @@ module _ (session : ℕ) (initiator : List ℕ) (ttl : ℕ) (address : List ℕ)
     response-accepted sized =
         let good : Good item = (
           shortest-right 4 5 (lit< tt) (lit< tt),
-          (number-good 2 (lit< tt), (number-good session (omega (arith, g .session-fits)), (string-good initiator (g .initiator-bytes) (sized-few sized), (number-good ttl (omega (arith, g .ttl-fits)), (locator-good, tt))))),
+          (
+            number-good 2 (lit< tt),
+            (
+              number-good session (omega (arith, g .session-fits)),
+              (string-good initiator (g .initiator-bytes) (sized-few sized), (number-good ttl (omega (arith, g .ttl-fits)), (locator-good, tt))),
+            ),
+          ),
         ) in
         let is : MessageItem item response =
-        MessageItem.response (Number.number {n = session} (omega (arith, g .session-fits))) (Initiator.initiator sized) (Number.number {n = ttl} (omega (arith, g .ttl-fits)))
-        (TgtsItems.locators (LocatorItems.more (LocatorItem.v6 (g .address-length) Protocol.tcp (Port.port {n = port} (omega (arith, g .port-fits)))) LocatorItems.empty) OptionalItems.without) in (
+        MessageItem.response (Number.number {n = session} (omega (arith, g .session-fits))) (Initiator.initiator sized)
+        (Number.number {n = ttl} (omega (arith, g .ttl-fits)))
+        (TgtsItems.locators (LocatorItems.more (LocatorItem.v6 (g .address-length) Protocol.tcp (Port.port {n = port} (omega (arith, g .port-fits))))
+        LocatorItems.empty) OptionalItems.without) in (
           record {
             message =
                 record {
@@ -109,7 +123,8 @@ module _ (session : ℕ) (initiator : List ℕ) (ttl : ℕ) (address : List ℕ)
     -- for readers
 
     -- A Response to an initiator of 4 or 16 bytes is read as that Response.
-    pub answer-reads : (length initiator ≡ 4) ⊎ (length initiator ≡ 16) → ReadAs (answerOf session initiator ttl address port) (answerMsg session initiator ttl address port)
+    pub answer-reads : (length initiator ≡ 4) ⊎ (length initiator ≡ 16)
+        → ReadAs (answerOf session initiator ttl address port) (answerMsg session initiator ttl address port)
     answer-reads sized =
         let (a, is) = response-accepted sized in
         let (m, q) = accepted-exactly encoded (accepted-bytes encoded a) .1 a in
@@ -148,9 +163,11 @@ module _ (session : ℕ) (initiator : List ℕ) (ttl : ℕ) (address : List ℕ)
         ↔ ((s : List ℕ) × (a : Accepted s) × (a .message .msg ≡ answerMsg session initiator ttl address port) × (length out < length s))
     unfolding answerAnswer
     answer-19 out = (
-      pass-case (okInitiator initiator) encoded out (λ r o. r ≡ Written.Refused 19 → (s : List ℕ) × (a : Accepted s) × (a .message .msg ≡ response) × (length out < length s))
+      pass-case (okInitiator initiator) encoded out
+          (λ r o. r ≡ Written.Refused 19 → (s : List ℕ) × (a : Accepted s) × (a .message .msg ≡ response) × (length out < length s))
           (λ ok _ q. let (a, is) = response-accepted (initiator-sized initiator .0 ok) in (encoded, a, is, hand-19 encoded out .0 q))
           (λ _ q. absurd (let z : _≡_ {A = ℕ} 18 19 = cc in omega arith)),
       λ (s, a, e, room). let (same, ok, few) = response-is s a e in
-          pass-case (okInitiator initiator) encoded out (λ r o. r ≡ Written.Refused 19) (λ _ _. hand-19 encoded out .1 (rw same room)) (λ not. absurd (not ok few)),
+          pass-case (okInitiator initiator) encoded out (λ r o. r ≡ Written.Refused 19) (λ _ _. hand-19 encoded out .1 (rw same room))
+          (λ not. absurd (not ok few)),
     )

@@ -72,24 +72,31 @@ module _ (s : List ℕ) where
   paired-rows chain =
       let (says, are) = told-rows rowAt (pairOf s) (InOrder s) row-shift (lit< tt) chain in
       record {
-        says = record { whole = says .whole; each = λ i h. let r = says .each i h in record { count-at = r .count-at; objective = r .objective; locator = r .locator } };
+        says = record {
+          whole = says .whole;
+          each = λ i h. let r = says .each i h in record { count-at = r .count-at; objective = r .objective; locator = r .locator };
+        };
         are = are;
       }
 
   -- ---- a list that is lent
   -- of a series of locators
-  locators-lent : {e : ℕ} {series : Series} {ls : List Loc} (list : List ℕ) → SeriesIs s series e (λ xs. LocatorItems xs ls) → R.seriesEnd locatorRow series list ≤ length list
+  locators-lent : {e : ℕ} {series : Series} {ls : List Loc} (list : List ℕ) → SeriesIs s series e (λ xs. LocatorItems xs ls)
+      → R.seriesEnd locatorRow series list ≤ length list
       → LocatorsTold (take (R.seriesEnd locatorRow series list) (R.seriesFilled locatorRow (R.locatorNext s) (R.locatorStored s) series list)) ls
   locators-lent {ls = ls} list i room =
       let (rows, chain) = locators-rows s (i .stand) (i .are) in
       subst (λ (l : List ℕ). LocatorsTold l ls) (sym (lent chain list (i .many ∙ locators-count (i .are)) room)) (locators-told chain)
 
   -- of a series of pairs
-  pairs-lent : {e : ℕ} {series : Series} {ps : List (Pair Value)} (list : List ℕ) (i : SeriesIs s series e (λ xs. PairItems xs ps)) → depths (i .items) ≤ leftUnder 1
-      → R.seriesEnd pairRow series list ≤ length list → Paired (take (R.seriesEnd pairRow series list) (R.seriesFilled pairRow (R.pairNext s) (R.pairStored s) series list)) (map (valuedPair valueBytes) ps)
+  pairs-lent : {e : ℕ} {series : Series} {ps : List (Pair Value)} (list : List ℕ) (i : SeriesIs s series e (λ xs. PairItems xs ps))
+      → depths (i .items) ≤ leftUnder 1
+      → R.seriesEnd pairRow series list ≤ length list → Paired
+      (take (R.seriesEnd pairRow series list) (R.seriesFilled pairRow (R.pairNext s) (R.pairStored s) series list)) (map (valuedPair valueBytes) ps)
   pairs-lent {ps = ps} list i d room =
       let (rows, chain) = pairs-rows s d (i .stand) (i .are) in
-      subst (λ (l : List ℕ). Paired l (map (valuedPair valueBytes) ps)) (sym (lent chain list (i .many ∙ pairs-count (i .are) ∙ pairs-many ps) room)) (paired-rows chain)
+      subst (λ (l : List ℕ). Paired l (map (valuedPair valueBytes) ps)) (sym (lent chain list (i .many ∙ pairs-count (i .are) ∙ pairs-many ps) room))
+      (paired-rows chain)
 
   -- ---- the parts of a description
   -- a Response's locators
@@ -101,7 +108,8 @@ module _ (s : List ℕ) where
   tgts-lent list (TargetsIs.divert {ls = ls} head lead i) room = (ls, locators-lent list i room, λ l e. ap Tgts.divert e)
 
   -- an objective that may be left out
-  extra-says : {p : ℕ} {extra : Extra} {obj : Option (Obj Value)} → ExtraIs s p extra obj → ExtraSays s (D.givenExtra extra) × (extraOf s (D.givenExtra extra) ≡ Option·map (valuedObj valueBytes) obj)
+  extra-says : {p : ℕ} {extra : Extra} {obj : Option (Obj Value)} → ExtraIs s p extra obj
+      → ExtraSays s (D.givenExtra extra) × (extraOf s (D.givenExtra extra) ≡ Option·map (valuedObj valueBytes) obj)
   unfolding D.givenExtra extraOf
   extra-says (ExtraIs.without e) = (tt, refl)
   extra-says (ExtraIs.with-one o) = let gives = objective-gives o in (gives .says, ap some (gives .is))
@@ -119,11 +127,13 @@ module _ (s : List ℕ) where
       (c .inside, ap Outc.reason (c .is))
 
   -- a Response by its parts
-  response-is : {session ttl : ℕ} {i i′ : List ℕ} {t t′ : Tgts} {o o′ : Option (Obj (List ℕ))} → i ≡ i′ → t ≡ t′ → o ≡ o′ → Msg.response session i ttl t o ≡ Msg.response session i′ ttl t′ o′
+  response-is : {session ttl : ℕ} {i i′ : List ℕ} {t t′ : Tgts} {o o′ : Option (Obj (List ℕ))} → i ≡ i′ → t ≡ t′ → o ≡ o′
+      → Msg.response session i ttl t o ≡ Msg.response session i′ ttl t′ o′
   response-is a b c = cc
 
   -- ---- the kinds
-  -- The description of what was read, with the rows in a list that has room for them, says the message that stands in the bytes.
+  -- The description of what was read, with the rows in a list that has room for them, says the message that stands in
+  -- the bytes.
   pub kind-says : (list : List ℕ) {m : Message} {msg : Msg Value} {x : Item} → Describes s m msg → MessageItem x msg → depth x ≤ mostLevels → encode x ≡ s
       → R.rowsEnd m list ≤ length list → Says s (rowsLent s m list) (D.descriptionOf m) (plain msg)
   unfolding R.rowsEnd R.rowsFilled R.rowsIn R.endBy R.filledBy D.descriptionOf msgOf plain valued encode count depth

@@ -19,7 +19,8 @@ use Rattle.message_laws.specs.Describes.{KindIs, NumberIs, InitiatorIs, Describ
 use Rattle.writer.specs.Lower.{withCount, lowerObj, lowerMsg, Lowers}
 use Rattle.writer_laws.proofs.Places.{past-head, past-item, opened-place}
 
--- s is a message msg, whose count n has its head from `at` to `end`; its item, of no more levels than allowed, with any other head there
+-- s is a message msg, whose count n has its head from `at` to `end`; its item, of no more levels than allowed, with any
+-- other head there
 pub record Hole (s : List ℕ) (at end n : ℕ) (msg : Msg Value) : Type 0 where
   pub item : ℕ → ℕ → Item
   pub before : List ℕ
@@ -78,7 +79,8 @@ module _ (a : ℕ) (name flags : Item) (vs : Items) where
   length-front = simp length-append (omega arith)
 
 -- the count stands where the answer says
-count-place : {s : List ℕ} {p e e′ a w : ℕ} {name flags : Item} {vs : Items} {o : Objective} {obj : Obj Value} → Stands s p e (counted a name flags vs w (obj .count)) → ObjectiveIs s p e′ o obj
+count-place : {s : List ℕ} {p e e′ a w : ℕ} {name flags : Item} {vs : Items} {o : Objective} {obj : Obj Value}
+    → Stands s p e (counted a name flags vs w (obj .count)) → ObjectiveIs s p e′ o obj
     → (o .«count_at» ≡ p + length (front a name flags vs)) × (o .value .at ≡ o .«count_at» + length (headBytes 0 w (obj .count)))
 unfolding encode count
 count-place {a = a} {name = name} {flags} {vs} x o =
@@ -123,7 +125,8 @@ discovery-hole {w = w} {k} {y = y} {z} {o = o} kind number initiator objective s
     }
 
 -- a Flood's first count
-flood-hole : {s : List ℕ} {w k p q r session ttl t a e : ℕ} {i : Span} {from : List ℕ} {y z v x : Item} {xs : Items} {o : Objective} {obj : Obj Value} {loc : Option Loc} {ps : List (Pair Value)}
+flood-hole : {s : List ℕ} {w k p q r session ttl t a e : ℕ} {i : Span} {from : List ℕ} {y z v x : Item} {xs : Items} {o : Objective} {obj : Obj Value}
+    {loc : Option Loc} {ps : List (Pair Value)}
     → KindIs s 9 p → NumberIs s p q session → InitiatorIs s q r i from → NumberIs s r t ttl → ArrayHead s t a 2 → ObjectiveIs s a e o obj
     → Number y session → Initiator z from → Number v ttl → Paired x (obj, loc) → PairItems xs ps
     → Stands s 0 (length s) (Item.array w (Items.more (uint k 9) (Items.more y (Items.more z (Items.more v (Items.more x xs))))))
@@ -144,12 +147,22 @@ flood-hole {s} {w} {k} {y = y} {z} {v} {xs = xs} {o} kind number initiator live 
     let og = pg .1 .0 in
     let same : o .count ≡ obj .count = objective .count in
     record {
-      item = λ j n. Item.array w (Items.more (uint k 9) (Items.more y (Items.more z (Items.more v (Items.more (array u (counted a name flags vs j n ∷ tag ∷ [])) xs)))));
-      before = headBytes 4 w (suc (suc (suc (suc (suc (count xs)))))) ++ (encode (uint k 9) ++ (encode y ++ (encode z ++ (encode v ++ (headBytes 4 u 2 ++ front a name flags vs)))));
+      item = λ j n.
+          Item.array w (Items.more (uint k 9) (Items.more y (Items.more z (Items.more v (Items.more (array u (counted a name flags vs j n ∷ tag ∷ [])) xs)))));
+      before = headBytes 4 w (suc (suc (suc (suc (suc (count xs))))))
+          ++ (encode (uint k 9) ++ (encode y ++ (encode z ++ (encode v ++ (headBytes 4 u 2 ++ front a name flags vs)))));
       after = encodes vs ++ (encode tag ++ encodes xs);
       spelt = λ j n. rw (counted-spelt a name flags vs j n) (simp (append-assoc, append-nil));
-      good = λ j n r.
-          (g .0, (g .1 .0, (g .1 .1 .0, (g .1 .1 .1 .0, (g .1 .1 .1 .1 .0, ((pg .0, ((og .0, (og .1 .0, (og .1 .1 .0, (r, og .1 .1 .1 .1)))), pg .1 .1)), g .1 .1 .1 .1 .1 .1))))));
+      good = λ j n r. (
+        g .0,
+        (
+          g .1 .0,
+          (
+            g .1 .1 .0,
+            (g .1 .1 .1 .0, (g .1 .1 .1 .1 .0, ((pg .0, ((og .0, (og .1 .0, (og .1 .1 .0, (r, og .1 .1 .1 .1)))), pg .1 .1)), g .1 .1 .1 .1 .1 .1))),
+          ),
+        ),
+      );
       shallow = λ j n. deep;
       width = d;
       whole = rw same (whole-stands all);
@@ -160,7 +173,8 @@ flood-hole {s} {w} {k} {y = y} {z} {v} {xs = xs} {o} kind number initiator live 
     }
 
 -- a message that was read, and the objective whose count a relay lowers
-pub hole : {s : List ℕ} {m : Message} {msg : Msg Value} {x : Item} {o : Objective} → Lowers m o → Describes s m msg → MessageItem x msg → Good x → depth x ≤ mostLevels → encode x ≡ s
+pub hole : {s : List ℕ} {m : Message} {msg : Msg Value} {x : Item} {o : Objective} → Lowers m o → Describes s m msg → MessageItem x msg → Good x
+    → depth x ≤ mostLevels → encode x ≡ s
     → Hole s (o .«count_at») (o .value .at) (o .count) msg
 hole Lowers.discovery (Describes.discovery kind number initiator objective) (MessageItem.discovery sy sz i) g deep e =
     discovery-hole kind number initiator objective sy sz (counted-is i) (stands-whole g e) deep

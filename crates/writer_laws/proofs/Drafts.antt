@@ -23,8 +23,10 @@ use Rattle.options.specs.declared.Outcome.{Outcome}
 use Rattle.options.specs.declared.Outcome.the-variants as E
 use Rattle.description.specs.declared.Description.{Description}
 use Rattle.description.specs.declared.Description.the-variants as D
-use Rattle.rfc8990.specs.Encoding.{string, numberOrNull, reached, fixed, encodeLoc, encodeObj, maybeObj, locOrEmpty, encodePair, encodeTargets, encodeOutc, preamble, exchange, encodeMsg}
-use Rattle.description.specs.Meaning.{locatorRow, pairRow, objectiveRow, objectiveRowOf, objOf, locatorRowLoc, locatorRowAt, objectiveRowAt, rowLoc, locsOf, targetsOf, extraOf, locOrNone, rowPair, pairsOf, endOf, msgOf}
+use Rattle.rfc8990.specs.Encoding.{string, numberOrNull, reached, fixed, encodeLoc, encodeObj, maybeObj, locOrEmpty}
+use Rattle.rfc8990.specs.Encoding.{encodePair, encodeTargets, encodeOutc, preamble, exchange, encodeMsg}
+use Rattle.description.specs.Meaning.{locatorRow, pairRow, objectiveRow, objectiveRowOf, objOf, locatorRowLoc, locatorRowAt}
+use Rattle.description.specs.Meaning.{objectiveRowAt, rowLoc, locsOf, targetsOf, extraOf, locOrNone, rowPair, pairsOf, endOf, msgOf}
 use Rattle.message_laws.proofs.Bytes.{bytes-append, bytes-more, bytes-none, bytes-of}
 use Rattle.writer_laws.proofs.Script.{info-least}
 use Rattle.writer_laws.proofs.Judged.{bytes-held, up-to-exactly}
@@ -97,20 +99,23 @@ module _ (source : List ℕ) (b : Bytes source) where
       both (λ l. AllBytes (encodeLoc l)) (eqb (p .kind) 103) (fixed-bytes 103 2 (p .content) (p .protocol) (p .port) (lit< tt))
       (both (λ l. AllBytes (encodeLoc l)) (eqb (p .kind) 104) (fixed-bytes 104 2 (p .content) (p .protocol) (p .port) (lit< tt))
       (both (λ l. AllBytes (encodeLoc l)) (eqb (p .kind) 105) (fixed-bytes 105 3 (p .content) (p .protocol) (p .port) (lit< tt))
-      (then (then (then (then (array-bytes 4) (number-bytes 106)) (text-bytes (p .content))) (or-null-bytes (orNull 0 (p .protocol)))) (or-null-bytes (orNull 65536 (p .port))))))
+      (then (then (then (then (array-bytes 4) (number-bytes 106)) (text-bytes (p .content))) (or-null-bytes (orNull 0 (p .protocol))))
+      (or-null-bytes (orNull 65536 (p .port))))))
 
   -- a described objective
   objective-bytes : (o : ObjectiveRow) → AllBytes (encodeObj (objOf source o))
   unfolding objOf encodeObj
   objective-bytes o =
-      then (then (then (then (array-bytes _) (text-bytes (o .name))) (number-bytes (o .flags))) (number-bytes (o .count))) (record { are = bytes-held source (o .value) b })
+      then (then (then (then (array-bytes _) (text-bytes (o .name))) (number-bytes (o .flags))) (number-bytes (o .count)))
+      (record { are = bytes-held source (o .value) b })
 
   -- the locators of a list
   rows-bytes : (list : List ℕ) → AllBytes (flatMap encodeLoc (locsOf source list))
   unfolding locsOf rowLoc
   rows-bytes list =
       all-bytes encodeLoc (locsOf source list)
-      (up-to-exactly (λ l. AllBytes (encodeLoc l)) (rowLoc source list) (length list / locatorRow) .1 (λ i l. locator-bytes (locatorRowAt list (locatorRow * i))))
+      (up-to-exactly (λ l. AllBytes (encodeLoc l)) (rowLoc source list) (length list / locatorRow) .1
+      (λ i l. locator-bytes (locatorRowAt list (locatorRow * i))))
 
   -- a pair's locator or none
   tag-bytes : (p : LocatorRow) → AllBytes (locOrEmpty (locOrNone source p))
@@ -120,7 +125,8 @@ module _ (source : List ℕ) (b : Bytes source) where
   -- a described pair
   pair-bytes : (list : List ℕ) (i : ℕ) → AllBytes (encodePair (rowPair source list i))
   unfolding rowPair encodePair
-  pair-bytes list i = then (then (array-bytes 2) (objective-bytes (objectiveRowAt list (pairRow * i)))) (tag-bytes (locatorRowAt list (pairRow * i + objectiveRow)))
+  pair-bytes list i =
+      then (then (array-bytes 2) (objective-bytes (objectiveRowAt list (pairRow * i)))) (tag-bytes (locatorRowAt list (pairRow * i + objectiveRow)))
 
   -- an objective that may be left out
   extra-bytes : (o : GivenExtra) → AllBytes (maybeObj (extraOf source o))
@@ -148,7 +154,8 @@ module _ (source : List ℕ) (b : Bytes source) where
   message-bytes list (D.Response s i t false o) =
       then (then (then (then (preamble-bytes _ 2 s) (address-bytes i)) (number-bytes t)) (rows-bytes list)) (extra-bytes o)
   message-bytes list (D.Response s i t true o) =
-      then (then (then (then (preamble-bytes _ 2 s) (address-bytes i)) (number-bytes t)) (then (then (array-bytes _) (number-bytes 100)) (rows-bytes list))) (extra-bytes o)
+      then (then (then (then (preamble-bytes _ 2 s) (address-bytes i)) (number-bytes t)) (then (then (array-bytes _) (number-bytes 100)) (rows-bytes list)))
+      (extra-bytes o)
   message-bytes list (D.RequestNegotiation s o) = exchange-bytes 3 s (objectiveRowOf o)
   message-bytes list (D.RequestSynchronization s o) = exchange-bytes 4 s (objectiveRowOf o)
   message-bytes list (D.Negotiate s o) = exchange-bytes 5 s (objectiveRowOf o)

@@ -1,4 +1,5 @@
--- An item without fault that is a message is encoded as the writer encodes that message: every head is the shortest one.
+-- An item without fault that is a message is encoded as the writer encodes that message: every head is the shortest
+-- one.
 -- Assumes nothing.
 use mathlib.Core.Path.{_≡_, refl, ap, _∙_}
 use mathlib.Core.List.{List, [], _∷_, _++_, map, flatMap, append-assoc, append-nil}
@@ -13,8 +14,10 @@ use Rattle.cbor.specs.Put.{head}
 use Rattle.cbor.specs.Tree.{Item, Items, Right, infoOf, headBytes, count, encode, encodes, Good, Goods}
 use Rattle.base.specs.BigEndian.{bytesOf}
 use Rattle.rfc8990.specs.Message.{Loc, Obj, Pair, Tgts, Outc, Msg, valuedObj, valuedPair, valued}
-use Rattle.rfc8990.specs.Cddl.{uint, list, array, Protocol, Port, OrNull, LocatorItem, LocatorItems, Value, ObjectiveItem, PairItem, PairItems, Number, Initiator, OptionalItems, joined, TgtsItems, OutcItem, MessageItem}
-use Rattle.rfc8990.specs.Encoding.{string, numberOrNull, reached, fixed, encodeLoc, oneMore, encodeObj, maybeObj, howMany, locOrEmpty, encodePair, targetItems, encodeTargets, encodeOutc, preamble, exchange, encodeMsg}
+use Rattle.rfc8990.specs.Cddl.{uint, list, array, Protocol, Port, OrNull, LocatorItem, LocatorItems, Value, ObjectiveItem, PairItem}
+use Rattle.rfc8990.specs.Cddl.{PairItems, Number, Initiator, OptionalItems, joined, TgtsItems, OutcItem, MessageItem}
+use Rattle.rfc8990.specs.Encoding.{string, numberOrNull, reached, fixed, encodeLoc, oneMore, encodeObj, maybeObj, howMany, locOrEmpty}
+use Rattle.rfc8990.specs.Encoding.{encodePair, targetItems, encodeTargets, encodeOutc, preamble, exchange, encodeMsg}
 use Rattle.message_laws.proofs.Response.{count-joined}
 use Rattle.message_laws.proofs.Described.{short-width, locators-count, pairs-count}
 use Rattle.writer_laws.specs.Plain.{valueBytes, plain}
@@ -52,7 +55,8 @@ unfolding encode count encodeObj string valuedObj valueBytes oneMore
 objective-encodes g (ObjectiveItem.bare _ _) =
     rw (short-head tt (g .0), short-head tt (g .1 .0 .0), short-head tt (g .1 .1 .0), short-head tt (g .1 .1 .1 .0)) (simp (append-assoc, append-nil))
 objective-encodes g (ObjectiveItem.valued {x = x} _ _) =
-    rw (short-head tt (g .0), short-head tt (g .1 .0 .0), short-head tt (g .1 .1 .0), short-head tt (g .1 .1 .1 .0), has-bytes x) (simp (append-assoc, append-nil))
+    rw (short-head tt (g .0), short-head tt (g .1 .0 .0), short-head tt (g .1 .1 .0), short-head tt (g .1 .1 .1 .0), has-bytes x)
+    (simp (append-assoc, append-nil))
 
 -- a locator's protocol
 protocol-encodes : {x : Item} {n : ℕ} → Good x → Protocol x n → encode x ≡ head 0 n
@@ -75,13 +79,22 @@ or-null-encodes f (OrNull.is {n = n} i) = f n i
 locator-encodes : {x : Item} {l : Loc} → Good x → LocatorItem x l → encode x ≡ encodeLoc l
 unfolding encode count encodeLoc fixed reached string
 locator-encodes g (LocatorItem.v6 _ i j) =
-    rw (short-head tt (g .0), short-head tt (g .1 .0), short-head tt (g .1 .1 .0 .0), protocol-encodes (g .1 .1 .1 .0) i, port-encodes (g .1 .1 .1 .1 .0) j) (simp (append-assoc, append-nil))
+    rw (short-head tt (g .0), short-head tt (g .1 .0), short-head tt (g .1 .1 .0 .0), protocol-encodes (g .1 .1 .1 .0) i, port-encodes (g .1 .1 .1 .1 .0) j)
+    (simp (append-assoc, append-nil))
 locator-encodes g (LocatorItem.v4 _ i j) =
-    rw (short-head tt (g .0), short-head tt (g .1 .0), short-head tt (g .1 .1 .0 .0), protocol-encodes (g .1 .1 .1 .0) i, port-encodes (g .1 .1 .1 .1 .0) j) (simp (append-assoc, append-nil))
+    rw (short-head tt (g .0), short-head tt (g .1 .0), short-head tt (g .1 .1 .0 .0), protocol-encodes (g .1 .1 .1 .0) i, port-encodes (g .1 .1 .1 .1 .0) j)
+    (simp (append-assoc, append-nil))
 locator-encodes g (LocatorItem.domain i j) =
-    rw (short-head tt (g .0), short-head tt (g .1 .0), short-head tt (g .1 .1 .0 .0), protocol-encodes (g .1 .1 .1 .0) i, port-encodes (g .1 .1 .1 .1 .0) j) (simp (append-assoc, append-nil))
+    rw (short-head tt (g .0), short-head tt (g .1 .0), short-head tt (g .1 .1 .0 .0), protocol-encodes (g .1 .1 .1 .0) i, port-encodes (g .1 .1 .1 .1 .0) j)
+    (simp (append-assoc, append-nil))
 locator-encodes g (LocatorItem.uri i j) =
-    rw (short-head tt (g .0), short-head tt (g .1 .0), short-head tt (g .1 .1 .0 .0), or-null-encodes (λ n. protocol-encodes (g .1 .1 .1 .0)) i, or-null-encodes (λ n. port-encodes (g .1 .1 .1 .1 .0)) j)
+    rw (
+      short-head tt (g .0),
+      short-head tt (g .1 .0),
+      short-head tt (g .1 .1 .0 .0),
+      or-null-encodes (λ n. protocol-encodes (g .1 .1 .1 .0)) i,
+      or-null-encodes (λ n. port-encodes (g .1 .1 .1 .1 .0)) j,
+    )
     (simp (append-assoc, append-nil))
 
 -- ---- lists
@@ -95,7 +108,8 @@ locators-encode g (LocatorItems.more i is) = rw (locator-encodes (g .0) i, locat
 pair-encodes : {x : Item} {p : Pair Value} → Good x → PairItem x p → encode x ≡ encodePair (valuedPair valueBytes p)
 unfolding encode count encodePair locOrEmpty valuedPair
 pair-encodes g (PairItem.untagged o) = rw (short-head tt (g .0), objective-encodes (g .1 .0) o, short-head tt (g .1 .1 .0 .0)) (simp (append-assoc, append-nil))
-pair-encodes g (PairItem.tagged o l) = rw (short-head tt (g .0), objective-encodes (g .1 .0) o, locator-encodes (g .1 .1 .0) l) (simp (append-assoc, append-nil))
+pair-encodes g (PairItem.tagged o l) =
+    rw (short-head tt (g .0), objective-encodes (g .1 .0) o, locator-encodes (g .1 .1 .0) l) (simp (append-assoc, append-nil))
 
 -- pairs
 pairs-encode : {xs : Items} {ps : List (Pair Value)} → Goods xs → PairItems xs ps → encodes xs ≡ flatMap encodePair (map (valuedPair valueBytes) ps)
@@ -129,7 +143,8 @@ optional-encodes g (OptionalItems.with-one i) = (append-nil _ ∙ objective-enco
 
 -- a Response's locators or divert, and its objective
 tgts-encodes : {xs : Items} {tgts : Tgts} {o : Option (Obj Value)} → Goods xs → TgtsItems xs tgts o
-    → (encodes xs ≡ encodeTargets tgts ++ maybeObj (Option·map (valuedObj valueBytes) o)) × (count xs ≡ targetItems tgts + howMany (Option·map (valuedObj valueBytes) o))
+    → (encodes xs ≡ encodeTargets tgts ++ maybeObj (Option·map (valuedObj valueBytes) o))
+    × (count xs ≡ targetItems tgts + howMany (Option·map (valuedObj valueBytes) o))
 unfolding encode count encodeTargets targetItems
 tgts-encodes g (TgtsItems.locators {xs = xs} {ys = ys} is i) =
     let (gs, gy) = joined-goods xs ys g in
@@ -171,7 +186,8 @@ pub plain-encodes : {x : Item} {msg : Msg Value} → Good x → MessageItem x ms
 unfolding encode count encodeMsg oneMore plain valued valueBytes
 plain-encodes g MessageItem.noop = rw (short-head tt (g .0), short-head tt (g .1 .0)) (simp append-nil)
 plain-encodes g (MessageItem.discovery {i = y} {x = x} i j o) =
-    preamble-encodes (list (y ∷ x ∷ [])) g i ∙ rw (initiator-encodes (g .1 .1 .1 .0) j, objective-encodes (g .1 .1 .1 .1 .0) o) (simp (append-assoc, append-nil))
+    preamble-encodes (list (y ∷ x ∷ [])) g i
+    ∙ rw (initiator-encodes (g .1 .1 .1 .0) j, objective-encodes (g .1 .1 .1 .1 .0) o) (simp (append-assoc, append-nil))
 plain-encodes g (MessageItem.response {i = y} {t = z} {xs = xs} i j t is) =
     let (bytes, many) = tgts-encodes (g .1 .1 .1 .1 .1) is in
     preamble-encodes (Items.more y (Items.more z xs)) g i
@@ -184,6 +200,7 @@ plain-encodes g (MessageItem.wait {t = x} i t) = preamble-encodes (list (x ∷ [
 plain-encodes g (MessageItem.synch i o) = exchange-encodes g i o
 plain-encodes g (MessageItem.flood {i = y} {t = z} {xs = xs} i j t is) =
     preamble-encodes (Items.more y (Items.more z xs)) g i
-    ∙ rw (initiator-encodes (g .1 .1 .1 .0) j, number-encodes (g .1 .1 .1 .1 .0) t, pairs-encode (g .1 .1 .1 .1 .1) is, pairs-count is, pairs-many) (simp (append-assoc, four-more))
+    ∙ rw (initiator-encodes (g .1 .1 .1 .0) j, number-encodes (g .1 .1 .1 .1 .0) t, pairs-encode (g .1 .1 .1 .1 .1) is, pairs-count is, pairs-many)
+    (simp (append-assoc, four-more))
 plain-encodes g (MessageItem.invalid i) = preamble-encodes Items.done g i ∙ simp append-nil
 plain-encodes g (MessageItem.invalid-with {x = x} i) = preamble-encodes (list (x ∷ [])) g i ∙ rw (has-bytes x) (simp append-nil)

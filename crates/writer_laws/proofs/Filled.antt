@@ -39,10 +39,12 @@ up-same f g (suc n) h = ap₂ (λ l x. l ++ (x ∷ [])) (up-same f g n h) (h n)
 abbrev pub Tells : {A X : Type 0} → (List ℕ → ℕ → A) → (A → X) → (A → Type 0) → List ℕ → X → Type 0
 Tells view f Holds list x = (f (view list 0) ≡ x) × Holds (view list 0)
 
--- the elements xs from `at` on, each with its row of `size` numbers: they are stored in their place, and tell the element, whatever follows them
+-- the elements xs from `at` on, each with its row of `size` numbers: they are stored in their place, and tell the
+-- element, whatever follows them
 pub data Chain {X : Type 0} (size : ℕ) (next : ℕ → ℕ) (row : ℕ → ℕ → List ℕ → List ℕ) (Told : List ℕ → X → Type 0) : ℕ → List (List ℕ) → List X → Type 0 where
   end : {at : ℕ} → Chain size next row Told at [] []
-  step : {at after : ℕ} {ns : List ℕ} {x : X} {rows : List (List ℕ)} {xs : List X} → length ns ≡ size → ((i : ℕ) (list : List ℕ) → row at i list ≡ sets list (size * i) ns)
+  step : {at after : ℕ} {ns : List ℕ} {x : X} {rows : List (List ℕ)} {xs : List X} → length ns ≡ size
+      → ((i : ℕ) (list : List ℕ) → row at i list ≡ sets list (size * i) ns)
       → ((rest : List ℕ) → Told (ns ++ rest) x) → next at ≡ after → Chain size next row Told after rows xs → Chain size next row Told at (ns ∷ rows) (x ∷ xs)
 
 module _ {X : Type 0} {size : ℕ} {next : ℕ → ℕ} {row : ℕ → ℕ → List ℕ → List ℕ} {Told : List ℕ → X → Type 0} where
@@ -65,7 +67,8 @@ module _ {X : Type 0} {size : ℕ} {next : ℕ → ℕ} {row : ℕ → ℕ → L
   stored-from Chain.end i list = refl
   stored-from (Chain.step {at} {ns} {rows = rows} len stored told goes more) i list =
       let e : size * (i + 1) ≡ size * i + length ns = ap (λ (k : ℕ). size * k) (add-one i) ∙ omega (arith, mul-suc size i, len) in
-      ap (λ (k : ℕ). rowsFrom next row (length rows) (i + 1) k (row at i list)) goes ∙ stored-from more (i + 1) (row at i list) ∙ ap₂ (λ (l : List ℕ) (k : ℕ). sets l k (joined rows)) (stored i list) e ∙ sets-append list (size * i) ns (joined rows)
+      ap (λ (k : ℕ). rowsFrom next row (length rows) (i + 1) k (row at i list)) goes ∙ stored-from more (i + 1) (row at i list)
+      ∙ ap₂ (λ (l : List ℕ) (k : ℕ). sets l k (joined rows)) (stored i list) e ∙ sets-append list (size * i) ns (joined rows)
 
   -- from the front on
   stored-all : {at : ℕ} {rows : List (List ℕ)} {xs : List X} → Chain size next row Told at rows xs → (list : List ℕ) → size * length rows ≤ length list
@@ -77,12 +80,14 @@ module _ {X : Type 0} {size : ℕ} {next : ℕ → ℕ} {row : ℕ → ℕ → L
       ap (take (size * length rows)) all ∙ take-at (joined rows) (drop (0 + length (joined rows)) list) (size * length rows) n
 
   -- a list that is long enough, where a series is as many as there are elements
-  pub lent : {series : Series} {rows : List (List ℕ)} {xs : List X} → Chain size next row Told (series .at) rows xs → (list : List ℕ) → series .many ≡ length xs → seriesEnd size series list ≤ length list
+  pub lent : {series : Series} {rows : List (List ℕ)} {xs : List X} → Chain size next row Told (series .at) rows xs → (list : List ℕ) → series .many ≡ length xs
+      → seriesEnd size series list ≤ length list
       → take (seriesEnd size series list) (seriesFilled size next row series list) ≡ joined rows
   unfolding seriesEnd seriesFilled pick
   lent {series} {rows} chain list many = by (ltb (length list / size) (series .many)) (many ∙ sym (rows-many chain))
     where
-      by : (t : Bool) {n : ℕ} → n ≡ length rows → pick t (length list + 1) (size * n) ≤ length list → take (pick t (length list + 1) (size * n)) (pick t list (rowsFrom next row n 0 (series .at) list)) ≡ joined rows
+      by : (t : Bool) {n : ℕ} → n ≡ length rows → pick t (length list + 1) (size * n) ≤ length list
+          → take (pick t (length list + 1) (size * n)) (pick t list (rowsFrom next row n 0 (series .at) list)) ≡ joined rows
       by true e room = absurd (omega arith)
       by false e room = rw e (stored-all chain list (rw e at room))
 
@@ -92,7 +97,8 @@ whole-rows : (n k len : ℕ) → 0 < n → len ≡ n * k → (len % n ≡ 0) × 
 whole-rows n k len h e = (rw e (mul-mod-right n k), rw e (mul-div-cancel-left k h))
 
 -- row i + 1, behind the first, is row i
-behind : {A : Type 0} {size : ℕ} (view : List ℕ → ℕ → A) → ((a b : List ℕ) (k : ℕ) → view (a ++ b) (length a + k) ≡ view b k) → (ns rest : List ℕ) (i : ℕ) → length ns ≡ size
+behind : {A : Type 0} {size : ℕ} (view : List ℕ → ℕ → A) → ((a b : List ℕ) (k : ℕ) → view (a ++ b) (length a + k) ≡ view b k) → (ns rest : List ℕ) (i : ℕ)
+    → length ns ≡ size
     → view (ns ++ rest) (size * suc i) ≡ view rest (size * i)
 behind {size = size} view shift ns rest i e =
     let sum : size * suc i ≡ length ns + size * i = omega (arith, mul-suc size i) in
@@ -101,7 +107,8 @@ behind {size = size} view shift ns rest i e =
 module _ {A X : Type 0} {size : ℕ} {next : ℕ → ℕ} {row : ℕ → ℕ → List ℕ → List ℕ} (view : List ℕ → ℕ → A) (f : A → X) (Holds : A → Type 0)
     (shift : (a b : List ℕ) (k : ℕ) → view (a ++ b) (length a + k) ≡ view b k) where
   -- each is in order
-  told-each : {at : ℕ} {rows : List (List ℕ)} {xs : List X} → Chain size next row (Tells view f Holds) at rows xs → (i : ℕ) → i < length rows → Holds (view (joined rows) (size * i))
+  told-each : {at : ℕ} {rows : List (List ℕ)} {xs : List X} → Chain size next row (Tells view f Holds) at rows xs → (i : ℕ) → i < length rows
+      → Holds (view (joined rows) (size * i))
   unfolding joined
   told-each Chain.end i h = absurd (omega arith)
   told-each (Chain.step {rows = rows} len stored told goes more) zero h = rw (mul-zero size) (told (joined rows) .1)
@@ -116,11 +123,13 @@ module _ {A X : Type 0} {size : ℕ} {next : ℕ → ℕ} {row : ℕ → ℕ →
   told-all (Chain.step {ns = ns} {rows = rows} len stored told goes more) =
       up-first (λ i. f (view (ns ++ joined rows) (size * i))) (length rows)
       ∙ ap₂ (λ x l. x ∷ l) (rw (mul-zero size) (told (joined rows) .0))
-      (up-same (λ i. f (view (ns ++ joined rows) (size * suc i))) (λ i. f (view (joined rows) (size * i))) (length rows) (λ i. ap f (behind view shift ns (joined rows) i len)) ∙ told-all more)
+      (up-same (λ i. f (view (ns ++ joined rows) (size * suc i))) (λ i. f (view (joined rows) (size * i))) (length rows)
+      (λ i. ap f (behind view shift ns (joined rows) i len)) ∙ told-all more)
 
   -- so they are whole rows, in order, of xs
   pub told-rows : {at : ℕ} {rows : List (List ℕ)} {xs : List X} → 0 < size → Chain size next row (Tells view f Holds) at rows xs
-      → Rows (joined rows) size (λ i. Holds (view (joined rows) (size * i))) × (listOf (λ i. f (view (joined rows) (size * i))) (length (joined rows) / size) ≡ xs)
+      → Rows (joined rows) size (λ i. Holds (view (joined rows) (size * i)))
+      × (listOf (λ i. f (view (joined rows) (size * i))) (length (joined rows) / size) ≡ xs)
   told-rows {rows = rows} some chain =
       let (whole, many) = whole-rows size (length rows) (length (joined rows)) some (joined-length chain) in
       (record { whole = whole; each = λ i h. told-each chain i (rw many at h) }, rw many (told-all chain))

@@ -1,4 +1,5 @@
--- The judge of descriptions, held against what they say: it passes those that say something, with values that are items.
+-- The judge of descriptions, held against what they say: it passes those that say something, with values that are
+-- items.
 -- Assumes nothing.
 use mathlib.Core.Path.{_≡_, refl, sym, ap, _∙_, subst}
 use mathlib.Core.Logic.{_↔_, _⊎_, inl, inr}
@@ -33,8 +34,10 @@ use Rattle.options.specs.declared.Outcome.{Outcome}
 use Rattle.options.specs.declared.Outcome.the-variants as E
 use Rattle.description.specs.declared.Description.{Description}
 use Rattle.description.specs.declared.Description.the-variants as D
-use Rattle.description.specs.Meaning.{locatorRow, pairRow, objectiveRow, listOf, objectiveRowOf, objOf, locatorRowAt, objectiveRowAt, rowPair, pairsOf, extraOf, msgOf}
-use Rattle.description.specs.Judge.{okDiscovery, okResponse, okFlood, okParts, okList, okDescribed, alone, whole, inside, okValue, okItem, okObjectiveRow, okLocatorRow, blankLocatorRow, okNoneOr, allFrom, okEach, okRow, okRows, okPair, okPairs, okExtra, okOutcome}
+use Rattle.description.specs.Meaning.{locatorRow, pairRow, objectiveRow, listOf, objectiveRowOf, objOf}
+use Rattle.description.specs.Meaning.{locatorRowAt, objectiveRowAt, rowPair, pairsOf, extraOf, msgOf}
+use Rattle.description.specs.Judge.{okDiscovery, okResponse, okFlood, okParts, okList, okDescribed, alone, whole, inside, okValue, okItem, okObjectiveRow}
+use Rattle.description.specs.Judge.{okLocatorRow, blankLocatorRow, okNoneOr, allFrom, okEach, okRow, okRows, okPair, okPairs, okExtra, okOutcome}
 use Rattle.writer_laws.specs.Says.{Inside, ObjectiveRowSays, LocatorRowSays, Blank, PairSays, Rows, ExtraSays, OutcomeSays, PartsSay}
 use Rattle.writer_laws.proofs.Script.{Each, Valued}
 use Rattle.writer_laws.proofs.Once.{ValuedObj, ValuedPair, ValuedMsg}
@@ -116,7 +119,8 @@ value-ok _ (Valued.one x g d) =
 value-is : (bs : List ℕ) → Bytes bs → okValue bs ≡ true → Valued bs
 unfolding okValue
 value-is bs b =
-    pick-case (λ r. r ≡ true → Valued bs) (eqb (length bs) 0) (λ e h. subst Valued (sym (drop-of-length-le bs {i = 0} (omega (arith, eqb-true (length bs) 0 e)))) Valued.none) (λ e h. whole-is bs b h)
+    pick-case (λ r. r ≡ true → Valued bs) (eqb (length bs) 0)
+    (λ e h. subst Valued (sym (drop-of-length-le bs {i = 0} (omega (arith, eqb-true (length bs) 0 e)))) Valued.none) (λ e h. whole-is bs b h)
 
 -- the bytes of a span are bytes
 pub bytes-held : (source : List ℕ) (s : Span) → Bytes source → Bytes (held source s)
@@ -124,7 +128,8 @@ bytes-held source s b = bytes-take (s .len) (drop (s .at) source) (bytes-drop (s
 
 -- ---- rows
 -- each of the first n
-all-exactly : {G : Type 0} (p : ℕ → Bool) (P : ℕ → Type 0) → ((i : ℕ) → Tells G (p i ≡ true) (P i)) → (n i : ℕ) → Tells G (allFrom p n i ≡ true) ((j : ℕ) → j < n → P (i + j))
+all-exactly : {G : Type 0} (p : ℕ → Bool) (P : ℕ → Type 0) → ((i : ℕ) → Tells G (p i ≡ true) (P i)) → (n i : ℕ)
+    → Tells G (allFrom p n i ≡ true) ((j : ℕ) → j < n → P (i + j))
 unfolding allFrom
 all-exactly p P f zero i = (λ b h j l. absurd (omega arith), λ h. refl)
 all-exactly p P f (suc n) i =
@@ -140,7 +145,8 @@ all-exactly p P f (suc n) i =
     split h (suc j) l = rw step (h .1 j (omega arith))
 
 -- whole rows
-each-exactly : {G : Type 0} (size : ℕ) (ok : ℕ → Bool) (P : ℕ → Type 0) → ((i : ℕ) → Tells G (ok i ≡ true) (P i)) → (list : List ℕ) → Tells G (okEach size ok list ≡ true) (Rows list size P)
+each-exactly : {G : Type 0} (size : ℕ) (ok : ℕ → Bool) (P : ℕ → Type 0) → ((i : ℕ) → Tells G (ok i ≡ true) (P i)) → (list : List ℕ)
+    → Tells G (okEach size ok list ≡ true) (Rows list size P)
 unfolding okEach
 each-exactly size ok P f list =
     retold (and-exactly (equal-exactly (length list % size) 0) (all-exactly ok P f (length list / size) 0))
@@ -161,7 +167,8 @@ up-to-exactly P f (suc n) =
     last h i e = rw e (h .1 .0)
 
 -- five zeros
-blank-exactly : {G : Type 0} (p : LocatorRow) → Tells G (blankLocatorRow p ≡ true) ((p .content .at ≡ 0) × ((p .content .len ≡ 0) × ((p .protocol ≡ 0) × (p .port ≡ 0))))
+blank-exactly : {G : Type 0} (p : LocatorRow)
+    → Tells G (blankLocatorRow p ≡ true) ((p .content .at ≡ 0) × ((p .content .len ≡ 0) × ((p .protocol ≡ 0) × (p .port ≡ 0))))
 unfolding blankLocatorRow
 blank-exactly p =
     and-exactly (equal-exactly (p .content .at) 0)
@@ -203,22 +210,26 @@ module _ (source : List ℕ) where
   unfolding okNoneOr
   tag-exactly {G} p = (
     λ b. pick-case (λ r. r ≡ true → Blank p ⊎ LocatorRowSays source p) (eqb (p .kind) 0)
-        (λ e h. let f = blank-exactly p .0 b h in inl (record { kind = eqb-true (p .kind) 0 e; at = f .0; len = f .1 .0; protocol = f .1 .1 .0; port = f .1 .1 .1 }))
+        (λ e h. let f = blank-exactly p .0 b h in
+        inl (record { kind = eqb-true (p .kind) 0 e; at = f .0; len = f .1 .0; protocol = f .1 .1 .0; port = f .1 .1 .1 }))
         (λ e h. inr (locator-row-exactly p .0 b h)),
     back,
   )
     where
       back : Blank p ⊎ LocatorRowSays source p → pick (eqb (p .kind) 0) (blankLocatorRow p) (okLocatorRow source p) ≡ true
       back (inl h) =
-          pick-case (λ r. r ≡ true) (eqb (p .kind) 0) (λ e. blank-exactly {G = G} p .1 (h .at, (h .len, (h .protocol, h .port)))) (λ e. absurd (eqb-false (p .kind) 0 e (h .kind)))
+          pick-case (λ r. r ≡ true) (eqb (p .kind) 0) (λ e. blank-exactly {G = G} p .1 (h .at, (h .len, (h .protocol, h .port))))
+          (λ e. absurd (eqb-false (p .kind) 0 e (h .kind)))
       back (inr h) =
           pick-case (λ r. r ≡ true) (eqb (p .kind) 0) (λ e. absurd (omega (arith, eqb-true (p .kind) 0 e, h .least))) (λ e. locator-row-exactly {G = G} p .1 h)
 
   -- the locators of a list
-  rows-exactly : {G : Type 0} (list : List ℕ) → Tells G (okRows source list ≡ true) (Rows list locatorRow (λ k. LocatorRowSays source (locatorRowAt list (locatorRow * k))))
+  rows-exactly : {G : Type 0} (list : List ℕ)
+      → Tells G (okRows source list ≡ true) (Rows list locatorRow (λ k. LocatorRowSays source (locatorRowAt list (locatorRow * k))))
   unfolding okRows okRow
   rows-exactly list =
-      each-exactly locatorRow (okRow source list) (λ k. LocatorRowSays source (locatorRowAt list (locatorRow * k))) (λ k. locator-row-exactly (locatorRowAt list (locatorRow * k))) list
+      each-exactly locatorRow (okRow source list) (λ k. LocatorRowSays source (locatorRowAt list (locatorRow * k)))
+      (λ k. locator-row-exactly (locatorRowAt list (locatorRow * k))) list
 
   -- a pair's row, with its value
   pair-exactly : (list : List ℕ) (i : ℕ) → Judges (okPair source list i) (PairSays source list i × ValuedPair (rowPair source list i))
@@ -235,8 +246,12 @@ module _ (source : List ℕ) where
   unfolding okPairs pairsOf
   pairs-exactly list =
       retold (each-exactly pairRow (okPair source list) (λ i. PairSays source list i × ValuedPair (rowPair source list i)) (pair-exactly list) list)
-      (λ h. (record { whole = h .whole; each = λ i l. h .each i l .0 }, up-to-exactly ValuedPair (rowPair source list) (length list / pairRow) .1 (λ i l. h .each i l .1)))
-      (λ h. record { whole = h .0 .whole; each = λ i l. (h .0 .each i l, up-to-exactly ValuedPair (rowPair source list) (length list / pairRow) .0 (h .1) i l) })
+      (λ h. (
+        record { whole = h .whole; each = λ i l. h .each i l .0 },
+        up-to-exactly ValuedPair (rowPair source list) (length list / pairRow) .1 (λ i l. h .each i l .1),
+      ))
+      (λ h.
+      record { whole = h .0 .whole; each = λ i l. (h .0 .each i l, up-to-exactly ValuedPair (rowPair source list) (length list / pairRow) .0 (h .1) i l) })
 
   -- an objective that may be left out
   extra-exactly : (o : GivenExtra) → Judges (okExtra source o) (ExtraSays source o × Each ValuedObj (extraOf source o))
@@ -253,7 +268,8 @@ module _ (source : List ℕ) where
 
   -- ---- descriptions
   -- an objective, and no list
-  exchange-exactly : (list : List ℕ) (o : ObjectiveRow) → Judges (pick (eqb (length list) 0) (okObjectiveRow source o) false) (((list ≡ []) × ObjectiveRowSays source o) × Valued (held source (o .value)))
+  exchange-exactly : (list : List ℕ) (o : ObjectiveRow)
+      → Judges (pick (eqb (length list) 0) (okObjectiveRow source o) false) (((list ≡ []) × ObjectiveRowSays source o) × Valued (held source (o .value)))
   exchange-exactly list o =
       retold (and-exactly (list-exactly list) (objective-row-exactly o)) (λ h. ((h .0, h .1 .0), h .1 .1)) (λ h. (h .0 .0, (h .0 .1, h .1)))
 

@@ -46,7 +46,8 @@ abbrev pub LocatorTold : List ℕ → List ℕ → Loc → Type 0
 LocatorTold s = Tells locatorRowAt (locatorRowLoc s) (LocatorRowSays s)
 
 -- by its items
-addressed-told : {m : List ℕ} {q p : ℕ} {kind address : Item} {l : Locator} {loc : Loc} → Stands m q p address → Addressed p kind address l loc → (rest : List ℕ)
+addressed-told : {m : List ℕ} {q p : ℕ} {kind address : Item} {l : Locator} {loc : Loc} → Stands m q p address → Addressed p kind address l loc
+    → (rest : List ℕ)
     → LocatorTold m (locatorNumbers l ++ rest) loc
 unfolding locatorNumbers locatorRowAt locatorRowLoc pick
 addressed-told st (Addressed.v6 h) rest = let c = string-cuts st h in (rw (c .is), record { least = lit≤ tt; most = lit≤ tt; content = c .inside })

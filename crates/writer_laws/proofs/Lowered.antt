@@ -109,7 +109,8 @@ module _ (u h r : List ℕ) (n : ℕ) where
     pub within : i .at + i .len ≤ length u
     pub shape : Recounted u h n read (λ o e. S.Good (make o) e 0 0) end
 
-  discovery-recounted : n ≤ 255 → (m at session : ℕ) (i : Span) (o : Objective) (end : ℕ) → CountAt u h 0 o → discoveryAt old m at ≡ S.Good (M.Discovery session i o) end 0 0
+  discovery-recounted : n ≤ 255 → (m at session : ℕ) (i : Span) (o : Objective) (end : ℕ) → CountAt u h 0 o
+      → discoveryAt old m at ≡ S.Good (M.Discovery session i o) end 0 0
       → ShapeRecounted at i (discoveryAt new m at) (M.Discovery session i) end
   unfolding discoveryAt discovered pick
   discovery-recounted few m at session i o end place =
@@ -127,7 +128,8 @@ module _ (u h r : List ℕ) (n : ℕ) where
       P : Shape → Type 0
       P x = x ≡ S.Good (M.Discovery session i o) end 0 0 → ShapeRecounted at i (discoveryAt new m at) (M.Discovery session i) end
 
-      made : eqb m 4 ≡ true → ltb mostNumber (upTo mostNumber k) ≡ false → isInitiator j ≡ true → {size : ℕ} → j .next + size ≡ end → upTo mostNumber k ≡ session → contentOf j ≡ i
+      made : eqb m 4 ≡ true → ltb mostNumber (upTo mostNumber k) ≡ false → isInitiator j ≡ true → {size : ℕ} → j .next + size ≡ end
+          → upTo mostNumber k ≡ session → contentOf j ≡ i
           → (j .next ≤ length u) × Recounted (drop (j .next) u) h n (objectiveAt objectiveLevels new (j .next)) (λ o e. ObjectiveRead.Got o e 0 0) size
           → ShapeRecounted at i (discoveryAt new m at) (M.Discovery session i) end
       made t₁ t₂ t₃ all same same′ (low, x) =
@@ -141,10 +143,13 @@ module _ (u h r : List ℕ) (n : ℕ) where
             shape =
                 rw all at
                 (further (j .next) (discoveryAt new m at) (λ o e. S.Good (M.Discovery session i o) e 0 0)
-                (λ o e got. rw (front-token h r n u at (omega arith) (omega arith), front-token h r n u (k .next) (omega arith) low, t₁, t₂, t₃, got, ← same, ← same′)) x);
+                (λ o e got.
+                rw (front-token h r n u at (omega arith) (omega arith), front-token h r n u (k .next) (omega arith) low, t₁, t₂, t₃, got, ← same, ← same′))
+                x);
           }
 
-      by : eqb m 4 ≡ true → ltb mostNumber (upTo mostNumber k) ≡ false → isInitiator j ≡ true → (x : ObjectiveRead) → objectiveAt objectiveLevels old (j .next) ≡ x
+      by : eqb m 4 ≡ true → ltb mostNumber (upTo mostNumber k) ≡ false → isInitiator j ≡ true → (x : ObjectiveRead)
+          → objectiveAt objectiveLevels old (j .next) ≡ x
           → P (discovered (upTo mostNumber k) (contentOf j) (j .next) x)
       by t₁ t₂ t₃ (ObjectiveRead.Bad place) e = λ q. absurd (no-shape q)
       by t₁ t₂ t₃ (ObjectiveRead.Got o₁ size bad long) e =
@@ -152,7 +157,8 @@ module _ (u h r : List ℕ) (n : ℕ) where
           let same : o₁ ≡ o = cc in
           let fine : bad ≡ 0 = cc in
           let short : long ≡ 0 = cc in
-          made t₁ t₂ t₃ (cc) (cc) (cc) (objective-beyond h r n few u objectiveLevels 0 (j .next) (j .next) o size (omega arith) place (rw (same, fine, short) at e))
+          made t₁ t₂ t₃ (cc) (cc) (cc)
+          (objective-beyond h r n few u objectiveLevels 0 (j .next) (j .next) o size (omega arith) place (rw (same, fine, short) at e))
 
   -- what stands before the pairs of a Flood
   opening-kept : (at : ℕ) (o : Opening) (next : ℕ) → next ≤ length u → openingAt old at ≡ OpeningRead.Got o next
@@ -173,7 +179,14 @@ module _ (u h r : List ℕ) (n : ℕ) where
       let is : contentOf j ≡ o .initiator = ap initiatorIn q in (
         omega arith,
         omega (arith, token-is old (k .next) j refl .start, ap (λ (v : Span). v .at) is, ap (λ (v : Span). v .len) is),
-        rw (front-token h r n u at (omega arith) (omega arith), t₁, front-token h r n u (k .next) (omega arith) (omega arith), t₂, front-token h r n u (j .next) (omega arith) (omega arith), t₃) q,
+        rw (
+          front-token h r n u at (omega arith) (omega arith),
+          t₁,
+          front-token h r n u (k .next) (omega arith) (omega arith),
+          t₂,
+          front-token h r n u (j .next) (omega arith) (omega arith),
+          t₃,
+        ) q,
       )))
       (λ _ q. absurd (never q)))
     where
@@ -217,7 +230,8 @@ module _ (u h r : List ℕ) (n : ℕ) where
           (pairsFrom new (m - 4 - 1) (next + (length (drop next u) + length (head 0 n) + x .rest)) 0 0)
           → opening .session ≡ session → opening .initiator ≡ i → opening .ttl ≡ ttl → record { at = next; many = m - 4 } ≡ series → Found
       made t {next = next} {tag} (start, within, first) x (size, ends, run) a b c d =
-          let to : next + (length (drop next u) + length (head 0 n) + x .rest) + size ≡ length u + length (head 0 n) + (x .rest + size + (next - length u)) = omega (arith, length-drop next u) in (
+          let to : next + (length (drop next u) + length (head 0 n) + x .rest) + size ≡ length u + length (head 0 n) + (x .rest + size + (next - length u)) =
+          omega (arith, length-drop next u) in (
             tag,
             record {
               start = start;
@@ -242,12 +256,14 @@ module _ (u h r : List ℕ) (n : ℕ) where
           (pairs-move old new (m - 4 - 1) (next + size) (next + (length (drop next u) + length (head 0 n) + x .rest)) end
           (λ y.
           let from : next + size + y ≡ length u + length h + (x .rest + y) = omega (arith, x .sized, length-drop next u) in
-          let to : next + (length (drop next u) + length (head 0 n) + x .rest) + y ≡ length u + length (head 0 n) + (x .rest + y) = omega (arith, length-drop next u) in
+          let to : next + (length (drop next u) + length (head 0 n) + x .rest) + y ≡ length u + length (head 0 n) + (x .rest + y) =
+          omega (arith, length-drop next u) in
           rw (from, to) (rest-kept h r n u (x .rest + y)))
           run)
 
       ran : ltb m 5 ≡ false → {opening : Opening} {next : ℕ} → openingAt old at ≡ OpeningRead.Got opening next → {first : Pair} {size bad long : ℕ}
-          → pairAt old next ≡ PairRead.Got (first .objective) (first .tag) size bad long → (x : PairsRead) → pairsFrom old (m - 4 - 1) (next + size) bad long ≡ x
+          → pairAt old next ≡ PairRead.Got (first .objective) (first .tag) size bad long → (x : PairsRead)
+          → pairsFrom old (m - 4 - 1) (next + size) bad long ≡ x
           → P (floodedBy opening first (record { at = next; many = m - 4 }) x)
       ran t e f (PairsRead.Bad place) g = λ q. absurd (no-shape q)
       ran t {opening} {next} e {first} {size} {bad} {long} f (PairsRead.Ran end₁ bad₁ long₁) g =
@@ -255,7 +271,8 @@ module _ (u h r : List ℕ) (n : ℕ) where
           let same : first ≡ pair = cc in
           let run : pairsFrom old (m - 4 - 1) (next + size) bad long ≡ PairsRead.Ran end 0 0 = cc in
           let (fine, short) = none-before old (m - 4 - 1) (next + size) bad long end run in
-          paired t e (pair-beyond h r n few u 0 next next (pair .objective) (pair .tag) size (omega arith) place (rw (same, fine, short) at f)) (rw (fine, short) at run) (cc) (cc) (cc) (cc)
+          paired t e (pair-beyond h r n few u 0 next next (pair .objective) (pair .tag) size (omega arith) place (rw (same, fine, short) at f))
+          (rw (fine, short) at run) (cc) (cc) (cc) (cc)
 
       opened : ltb m 5 ≡ false → (x : OpeningRead) → openingAt old at ≡ x → P (floodBy old m x)
       opened t (OpeningRead.Bad place) e = λ q. absurd (no-shape q)
@@ -303,16 +320,20 @@ module _ (u h r : List ℕ) (n : ℕ) where
   of-kind : (m : Message) (end : ℕ) → Led old m end → OfKind (kind .arg) m × MessageParts old m
   of-kind m end l = subst (ShapeParts old (kind .arg)) (l .shape) (kind-parts old (kind .arg) (array .arg) (kind .next))
 
-  pub message-recounted : {m : Message} {o : Objective} (end : ℕ) → Lowers m o → CountAt u h 0 o → n ≡ o .count - 1 → examined old ≡ E.Accepted m end → MessageRecounted m o end
+  pub message-recounted : {m : Message} {o : Objective} (end : ℕ) → Lowers m o → CountAt u h 0 o → n ≡ o .count - 1 → examined old ≡ E.Accepted m end
+      → MessageRecounted m o end
   unfolding byKind sessionOf initiatorOf pick
   message-recounted end (Lowers.discovery {session} {i} {o}) place lower q =
       let l = led old q in
       let (one, parts) = of-kind (M.Discovery session i o) end l in
-      whole (M.Discovery session i o) (M.Discovery session i) o end i l (omega arith) (rw one (discovery-recounted (omega (arith, parts .1 .limit)) (array .arg) (kind .next) session i o end place (rw one at (l .shape))))
+      whole (M.Discovery session i o) (M.Discovery session i) o end i l (omega arith)
+      (rw one (discovery-recounted (omega (arith, parts .1 .limit)) (array .arg) (kind .next) session i o end place (rw one at (l .shape))))
       (λ o′ same e. record { kind = refl; session = refl; initiator = same; objective = o′; lowers = Lowers.discovery; lower = e ∙ lower })
   message-recounted end (Lowers.flood {session} {ttl} {i} {first} {series}) place lower q =
       let l = led old q in
       let (nine, parts) = of-kind (M.Flood session i ttl first series) end l in
-      let (tag, shape) = flood-recounted (omega (arith, parts .1 .limit)) (array .arg) (kind .next) session i ttl first series end place (rw nine at (l .shape)) in
-      whole (M.Flood session i ttl first series) (λ o. M.Flood session i ttl (record { objective = o; tag = tag }) series) (first .objective) end i l (omega arith) (rw nine shape)
+      let (tag, shape) =
+      flood-recounted (omega (arith, parts .1 .limit)) (array .arg) (kind .next) session i ttl first series end place (rw nine at (l .shape)) in
+      whole (M.Flood session i ttl first series) (λ o. M.Flood session i ttl (record { objective = o; tag = tag }) series) (first .objective) end i l
+      (omega arith) (rw nine shape)
       (λ o′ same e. record { kind = refl; session = refl; initiator = same; objective = o′; lowers = Lowers.flood; lower = e ∙ lower })

@@ -32,8 +32,10 @@ none-before s (suc n) at bad long end q = by (pairAt s at) (none-before s n) q
 abbrev pub PairsMove : ℕ → ℕ → ℕ → PairsRead → Type 0
 PairsMove at end at′ x = (size : ℕ) × (end ≡ at + size) × (x ≡ PairsRead.Ran (at′ + size) 0 0)
 
--- The pairs without fault that are read of s from `at` on are read of l from `at′` on, where both go on alike, and have the same size.
-pub pairs-move : (s l : List ℕ) (n at at′ end : ℕ) → ((x : ℕ) → drop (at′ + x) l ≡ drop (at + x) s) → pairsFrom s n at 0 0 ≡ PairsRead.Ran end 0 0 → PairsMove at end at′ (pairsFrom l n at′ 0 0)
+-- The pairs without fault that are read of s from `at` on are read of l from `at′` on, where both go on alike, and have
+-- the same size.
+pub pairs-move : (s l : List ℕ) (n at at′ end : ℕ) → ((x : ℕ) → drop (at′ + x) l ≡ drop (at + x) s) → pairsFrom s n at 0 0 ≡ PairsRead.Ran end 0 0
+    → PairsMove at end at′ (pairsFrom l n at′ 0 0)
 unfolding pairsFrom pairThen firstOf pick
 pairs-move s l zero at at′ end same q = (0, let z : end ≡ at = cc in omega arith, rw (add-zero at′) refl)
 pairs-move s l (suc n) at at′ end same q =

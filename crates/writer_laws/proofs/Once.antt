@@ -12,9 +12,11 @@ use Rattle.cbor.specs.Put.{head}
 use Rattle.cbor.specs.Tree.{headBytes}
 use Rattle.rfc8990.specs.Limits.{mostBytes}
 use Rattle.rfc8990.specs.Message.{Loc, Obj, Pair, Tgts, Outc, Msg}
-use Rattle.rfc8990.specs.Encoding.{string, numberOrNull, reached, fixed, encodeLoc, oneMore, encodeObj, maybeObj, howMany, locOrEmpty, encodePair, targetItems, encodeTargets, encodeOutc, preamble, exchange, encodeMsg}
+use Rattle.rfc8990.specs.Encoding.{string, numberOrNull, reached, fixed, encodeLoc, oneMore, encodeObj, maybeObj, howMany, locOrEmpty}
+use Rattle.rfc8990.specs.Encoding.{encodePair, targetItems, encodeTargets, encodeOutc, preamble, exchange, encodeMsg}
 use Rattle.description.proofs.Items.{more-le}
-use Rattle.writer_laws.proofs.Script.{Small, Piece, spell, spells, Like, Valued, array-rest, array-next, number-next, string-next, array-none, none-array, text-number, number-text, turned, perhaps, Each, perhaps-next, value-next}
+use Rattle.writer_laws.proofs.Script.{Small, Piece, spell, spells, Like, Valued, array-rest, array-next, number-next, string-next, array-none}
+use Rattle.writer_laws.proofs.Script.{none-array, text-number, number-text, turned, perhaps, Each, perhaps-next, value-next}
 
 -- a piece, and then others
 piece-spelt : (t : Piece) (ts : List Piece) → spells (t ∷ ts) ≡ spell t ++ spells ts
@@ -44,7 +46,8 @@ all-few encode some-bytes (x ∷ xs) = omega (arith, length-append (encode x) (f
 -- ---- objectives
 -- its pieces
 abbrev objective : Obj (List ℕ) → List Piece → List Piece
-objective o ts = Piece.array (3 + oneMore (o .value)) ∷ Piece.string 3 (o .name) ∷ Piece.number (o .flags) ∷ Piece.number (o .count) ∷ Piece.value (o .value) ∷ ts
+objective o ts = Piece.array (3 + oneMore (o .value)) ∷ Piece.string 3 (o .name) ∷ Piece.number (o .flags) ∷ Piece.number (o .count)
+    ∷ Piece.value (o .value) ∷ ts
 
 -- its numbers are small
 abbrev pub SmallObj : Obj (List ℕ) → Type 0
@@ -67,7 +70,8 @@ pub objective-ext : {n n′ v v′ : List ℕ} {f f′ c c′ : ℕ} → n ≡ n
 objective-ext a b c d = cc
 
 -- an objective passed
-objective-next : {o o′ : Obj (List ℕ)} {ts ts′ : List Piece} → SmallObj o → ValuedObj o → ValuedObj o′ → Like (objective o ts) (objective o′ ts′) → (o ≡ o′) × Like ts ts′
+objective-next : {o o′ : Obj (List ℕ)} {ts ts′ : List Piece} → SmallObj o → ValuedObj o → ValuedObj o′ → Like (objective o ts) (objective o′ ts′)
+    → (o ≡ o′) × Like ts ts′
 objective-next {o} {o′} (hf, hc) v v′ l =
     let (many, l₁) = array-next (omega (arith, more-le (o .value))) l in
     let (name, l₂) = string-next l₁ in
@@ -163,7 +167,8 @@ fixed-next hp hq l =
     (a, p, q, l₃)
 
 -- locators of one kind
-located-next : {k : ℕ} {l l′ : Loc} {ts ts′ : List Piece} → Locates k l → Locates k l′ → SmallLoc l → Like (located l ts) (located l′ ts′) → (l ≡ l′) × Like ts ts′
+located-next : {k : ℕ} {l l′ : Loc} {ts ts′ : List Piece} → Locates k l → Locates k l′ → SmallLoc l → Like (located l ts) (located l′ ts′)
+    → (l ≡ l′) × Like ts ts′
 located-next Locates.v6 Locates.v6 (hp, hq) l = let (a, p, q, r) = fixed-next hp hq l in (rw (a, p, q), r)
 located-next Locates.v4 Locates.v4 (hp, hq) l = let (a, p, q, r) = fixed-next hp hq l in (rw (a, p, q), r)
 located-next Locates.domain Locates.domain (hp, hq) l = let (a, p, q, r) = fixed-next hp hq l in (rw (a, p, q), r)
@@ -199,7 +204,8 @@ locators-few : (ls : List Loc) → length ls ≤ length (flatMap encodeLoc ls)
 locators-few = all-few encodeLoc locator-bytes
 
 -- as many locators passed
-locators-next : (ls ls′ : List Loc) {ts ts′ : List Piece} → length ls ≡ length ls′ → Every SmallLoc ls → Like (locators ls ts) (locators ls′ ts′) → (ls ≡ ls′) × Like ts ts′
+locators-next : (ls ls′ : List Loc) {ts ts′ : List Piece} → length ls ≡ length ls′ → Every SmallLoc ls → Like (locators ls ts) (locators ls′ ts′)
+    → (ls ≡ ls′) × Like ts ts′
 unfolding all
 locators-next [] [] e h like = (refl, like)
 locators-next [] (x ∷ ls) e h like = absurd (omega arith)
@@ -243,7 +249,8 @@ ValuedPair p = ValuedObj (p .0)
 -- its pieces spell it
 pair-spelt : (p : Pair (List ℕ)) (ts : List Piece) → spells (pair p ts) ≡ encodePair p ++ spells ts
 unfolding spell encodePair
-pair-spelt p ts = piece-spelt (Piece.array 2) (objective (p .0) (tagged (p .1) ts)) ∙ rw (objective-spelt (p .0) (tagged (p .1) ts), tagged-spelt (p .1) ts) (simp append-assoc)
+pair-spelt p ts = piece-spelt (Piece.array 2) (objective (p .0) (tagged (p .1) ts))
+    ∙ rw (objective-spelt (p .0) (tagged (p .1) ts), tagged-spelt (p .1) ts) (simp append-assoc)
 
 -- pairs by their parts
 pair-ext : (p p′ : Pair (List ℕ)) → p .0 ≡ p′ .0 → p .1 ≡ p′ .1 → p ≡ p′
@@ -305,10 +312,12 @@ targets-spelt : (x : Tgts) (ts : List Piece) → spells (targets x ts) ≡ encod
 unfolding spell targets encodeTargets
 targets-spelt (Tgts.locators ls) ts = locators-spelt ls ts
 targets-spelt (Tgts.divert ls) ts =
-    piece-spelt (Piece.array (1 + length ls)) (Piece.number 100 ∷ locators ls ts) ∙ rw (piece-spelt (Piece.number 100) (locators ls ts), locators-spelt ls ts) (simp append-assoc)
+    piece-spelt (Piece.array (1 + length ls)) (Piece.number 100 ∷ locators ls ts)
+    ∙ rw (piece-spelt (Piece.number 100) (locators ls ts), locators-spelt ls ts) (simp append-assoc)
 
 -- locators, and then an objective or none: no objective is a locator
-tgts-followed-once : (ls ls′ : List Loc) (o o′ : Option (Obj (List ℕ))) → Every SmallLoc ls → Each SmallObj o → Like (locators ls (extra o)) (locators ls′ (extra o′)) → (ls ≡ ls′) × (o ≡ o′)
+tgts-followed-once : (ls ls′ : List Loc) (o o′ : Option (Obj (List ℕ))) → Every SmallLoc ls → Each SmallObj o
+    → Like (locators ls (extra o)) (locators ls′ (extra o′)) → (ls ≡ ls′) × (o ≡ o′)
 unfolding all
 tgts-followed-once [] [] o o′ h ho l = (refl, extra-once o o′ ho l)
 tgts-followed-once [] (x′ ∷ ls′) none o′ h ho l = absurd (none-array l)
@@ -338,7 +347,8 @@ many-small ls ts l =
     omega (arith, l .few, ap length (targets-spelt (Tgts.divert ls) ts), length-append (encodeTargets (Tgts.divert ls)) (spells ts), divert-few ls)
 
 -- so they are the same
-targets-once : (x x′ : Tgts) (o o′ : Option (Obj (List ℕ))) → SmallTargets x → Each SmallObj o → Like (targets x (extra o)) (targets x′ (extra o′)) → (x ≡ x′) × (o ≡ o′)
+targets-once : (x x′ : Tgts) (o o′ : Option (Obj (List ℕ))) → SmallTargets x → Each SmallObj o → Like (targets x (extra o)) (targets x′ (extra o′))
+    → (x ≡ x′) × (o ≡ o′)
 unfolding targets
 targets-once (Tgts.locators ls) (Tgts.locators ls′) o o′ h ho l =
     let (same, obj) = tgts-followed-once ls ls′ o o′ h ho l in

@@ -118,7 +118,8 @@ module _ (s : List ℕ) where
   pair-next p {e} {o} {tag} {bad} {long} q = ap (R.pairNextFrom p) q ∙ omega (arith, pair-within s p p _ (PairRead.Got o tag (e - p) bad long) refl q .1)
 
   -- what the numbers of a pair that was read tell
-  pair-told : {p : ℕ} {o : Objective} {tag : Tag} {pair : Pair Value} → PairIs s p o tag pair → (rest : List ℕ) → PairTold (R.pairCells o tag ++ rest) (valuedPair valueBytes pair)
+  pair-told : {p : ℕ} {o : Objective} {tag : Tag} {pair : Pair Value} → PairIs s p o tag pair → (rest : List ℕ)
+      → PairTold (R.pairCells o tag ++ rest) (valuedPair valueBytes pair)
   unfolding R.pairCells pairNumbers rowAt objectiveRowAt locatorRowAt objectiveRowOf givenOf valuedPair
   pair-told {tag = tag} {pair} i rest =
       let gives = objective-gives (i .objective) in
@@ -126,7 +127,8 @@ module _ (s : List ℕ) where
       (ap₂ (λ (x : Obj (List ℕ)) (y : Option Loc). (x, y)) (gives .is) is, record { count-at = refl; objective = gives .says; locator = says })
 
   -- the pairs that stand in a message
-  pub pairs-rows : {p e : ℕ} {xs : Items} {ps : List (Pair Value)} → depths xs ≤ leftUnder 1 → StandAll s p e xs → PairItems xs ps → (rows : List (List ℕ)) × Pairs p rows (map (valuedPair valueBytes) ps)
+  pub pairs-rows : {p e : ℕ} {xs : Items} {ps : List (Pair Value)} → depths xs ≤ leftUnder 1 → StandAll s p e xs → PairItems xs ps
+      → (rows : List (List ℕ)) × Pairs p rows (map (valuedPair valueBytes) ps)
   unfolding depth
   pairs-rows d a PairItems.empty = ([], Chain.end)
   pairs-rows {p} d a (PairItems.more i is) =

@@ -1,4 +1,5 @@
--- Where the items of an array stand, when its head and its first items are known to stand somewhere; and so those of a message.
+-- Where the items of an array stand, when its head and its first items are known to stand somewhere; and so those of a
+-- message.
 -- Assumes nothing.
 use mathlib.Core.Path.{_≡_, refl, sym, _∙_, subst}
 use mathlib.Core.List.{List}
@@ -34,7 +35,8 @@ past-item {s} {e = e} {xs = xs} a b =
 pub opened-place : {s : List ℕ} {w k kind p q r session : ℕ} {i : Span} {from : List ℕ} {y z : Item} {xs : Items}
     → Stands s 0 (length s) (Item.array w (Items.more (uint k kind) (Items.more y (Items.more z xs))))
     → KindIs s kind p → NumberIs s p q session → InitiatorIs s q r i from
-    → StandAll s r (length s) xs × (r ≡ length (headBytes 4 w (suc (suc (suc (count xs))))) + length (encode (uint k kind)) + length (encode y) + length (encode z))
+    → StandAll s r (length s) xs
+    × (r ≡ length (headBytes 4 w (suc (suc (suc (count xs))))) + length (encode (uint k kind)) + length (encode y) + length (encode z))
 unfolding encode count
 opened-place a kind number initiator =
     let (b₀, e₀) = past-head a (kind .opened) in

@@ -1,5 +1,5 @@
--- The head of a count replaced by that of another count: an objective, and a pair, is read as it was but for that count. What stands before it is
--- read as it was, and what follows it as it was, at another place.
+-- The head of a count replaced by that of another count: an objective, and a pair, is read as it was but for that
+-- count. What stands before it is read as it was, and what follows it as it was, at another place.
 -- Assumes nothing.
 use mathlib.Core.Path.{_≡_, refl, sym, ap, _∙_, subst}
 use mathlib.Core.List.{List, _++_}
@@ -57,7 +57,8 @@ pub record CountAt (u h : List ℕ) (base : ℕ) (o : Objective) : Type 0 where
 count-beyond : {u h : List ℕ} {base base′ : ℕ} {o : Objective} (p : ℕ) → p ≤ length u → base′ ≡ base + p → CountAt u h base o → CountAt (drop p u) h base′ o
 count-beyond {u} p within e c = record { from = omega (arith, c .from, length-drop p u); end = omega (arith, c .end, length-drop p u) }
 
--- what had so many bytes, the head h of its count after the front u, is answered with an objective of the count n, its shortest head and as many bytes after it
+-- what had so many bytes, the head h of its count after the front u, is answered with an objective of the count n, its
+-- shortest head and as many bytes after it
 pub record Recounted {X : Type 0} (u h : List ℕ) (n : ℕ) (read : X) (answer : Objective → ℕ → X) (size : ℕ) : Type 0 where
   pub rest : ℕ
   pub objective : Objective
@@ -67,9 +68,11 @@ pub record Recounted {X : Type 0} (u h : List ℕ) (n : ℕ) (read : X) (answer 
 
 -- so is what has p bytes before it
 pub further : {X Y : Type 0} {u h : List ℕ} {n : ℕ} {read : X} {answer : Objective → ℕ → X} {size : ℕ} (p : ℕ) (read′ : Y) (answer′ : Objective → ℕ → Y)
-    → ((o : Objective) (e : ℕ) → read ≡ answer o e → read′ ≡ answer′ o (p + e)) → Recounted (drop p u) h n read answer size → Recounted u h n read′ answer′ (p + size)
+    → ((o : Objective) (e : ℕ) → read ≡ answer o e → read′ ≡ answer′ o (p + e)) → Recounted (drop p u) h n read answer size
+    → Recounted u h n read′ answer′ (p + size)
 further {u = u} {n = n} p read′ answer′ then x =
-    let to : p + (length (drop p u) + length (head 0 n) + x .rest) ≡ length u + length (head 0 n) + (x .rest + (p - length u)) = omega (arith, length-drop p u) in
+    let to : p + (length (drop p u) + length (head 0 n) + x .rest) ≡ length u + length (head 0 n) + (x .rest + (p - length u)) =
+    omega (arith, length-drop p u) in
     record {
       rest = x .rest + (p - length u);
       objective = x .objective;
@@ -120,7 +123,8 @@ module _ (h r : List ℕ) (n : ℕ) where
   front-token u = token-kept u (h ++ r) (head 0 n ++ r)
 
   -- the second item of a pair, after an objective
-  tail-recounted : (u : List ℕ) (base : ℕ) (o o′ : Objective) (rest : ℕ) {t : Tag} {size : ℕ} → pairTail base (old u) (length u + length h + rest) o 0 0 ≡ PairRead.Got o t size 0 0
+  tail-recounted : (u : List ℕ) (base : ℕ) (o o′ : Objective) (rest : ℕ) {t : Tag} {size : ℕ}
+      → pairTail base (old u) (length u + length h + rest) o 0 0 ≡ PairRead.Got o t size 0 0
       → (t′ : Tag) × (rest′ : ℕ) × (size ≡ length u + length h + rest′)
       × (pairTail base (new u) (length u + length (head 0 n) + rest) o′ 0 0 ≡ PairRead.Got o′ t′ (length u + length (head 0 n) + rest′) 0 0)
   unfolding pairTail pairTagged isEmpty firstOf pick
@@ -128,8 +132,12 @@ module _ (h r : List ℕ) (n : ℕ) where
       pick-case P (isEmpty w)
       (λ e q.
       let there : first .major ≡ 8 → ⊥ = λ none. omega (arith, here .major, empty-is w e .0) in
-      let all : w .next ≡ size = cc in
-      (Tag.Empty, rest + first .next, omega (arith, here .next there), rw (same ∙ e, moved .next there, add-assoc (length u + length (head 0 n)) rest (first .next))))
+      let all : w .next ≡ size = cc in (
+        Tag.Empty,
+        rest + first .next,
+        omega (arith, here .next there),
+        rw (same ∙ e, moved .next there, add-assoc (length u + length (head 0 n)) rest (first .next)),
+      ))
       (λ e. by e (locatorIn (base + at) (drop at (old u))) refl)
     where
       at : ℕ
@@ -168,7 +176,8 @@ module _ (h r : List ℕ) (n : ℕ) where
       by e (LocatorRead.Bad place) f = λ q. absurd (no-pair q)
       by e (LocatorRead.Got l size₁ bad) f =
           λ q.
-          let (l′, g) = subst (λ (x : LocatorRead). LocatorMoves x (locatorIn (base + at′) (drop at (old u)))) f (locator-moves (base + at) (base + at′) (drop at (old u))) (cc) in
+          let (l′, g) = subst (λ (x : LocatorRead). LocatorMoves x (locatorIn (base + at′) (drop at (old u)))) f
+          (locator-moves (base + at) (base + at′) (drop at (old u))) (cc) in
           found e l′ size₁ (cc) g
 
   -- a count of a byte
@@ -186,7 +195,8 @@ module _ (h r : List ℕ) (n : ℕ) where
     -- an objective from its name on, which stands at `at`
     named-recounted : (u : List ℕ) (levels base items at : ℕ) (o : Objective) (size : ℕ) → CountAt u h base o
         → objectiveNamed levels base (old u) items (tokenAt (old u) at) ≡ ObjectiveRead.Got o size 0 0
-        → (tokenAt (old u) at .next ≤ length u) × Recounted u h n (objectiveNamed levels base (new u) items (tokenAt (old u) at)) (λ o e. ObjectiveRead.Got o e 0 0) size
+        → (tokenAt (old u) at .next ≤ length u)
+        × Recounted u h n (objectiveNamed levels base (new u) items (tokenAt (old u) at)) (λ o e. ObjectiveRead.Got o e 0 0) size
     unfolding objectiveNamed objectiveFrom sizeAt upTo pick
     named-recounted u levels base items at o size place =
         pick-case P (ltb 15 (upTo 15 f)) (λ _ q. absurd (no-objective q))
@@ -227,7 +237,8 @@ module _ (h r : List ℕ) (n : ℕ) where
             let here : f .next ≡ length u = omega (arith, token-is (old u) (f .next) c refl .here, ap (λ (x : Objective). x .«count_at») is, place .from) in
             let from : c .next ≡ length u + length h = omega (arith, ap (λ (x : Objective). x .value .at) is, place .end) in
             let later : m .next + 1 ≤ f .next = token-has (old u) (m .next) .some (omega arith) in
-            let content : contentIn (new u) m ≡ contentIn (old u) m = held-kept u (h ++ r) (head 0 n ++ r) (contentOf m) (omega (arith, token-is (old u) at m refl .start)) in
+            let content : contentIn (new u) m ≡ contentIn (old u) m =
+            held-kept u (h ++ r) (head 0 n ++ r) (contentOf m) (omega (arith, token-is (old u) at m refl .start)) in
             let value : drop (length u + length (head 0 n)) (new u) ≡ drop (c .next) (old u) =
             rw (add-zero (length u + length (head 0 n)), add-zero (length u + length h)) at (rest-kept u 0) ∙ ap (λ (k : ℕ). drop k (old u)) (sym from) in (
               omega arith,
@@ -235,13 +246,24 @@ module _ (h r : List ℕ) (n : ℕ) where
                 rest = rest;
                 objective = made rest;
                 sized = omega arith;
-                is = rw (front-token u (m .next) (omega arith) (omega arith), t, ap (tokenAt (new u)) here ∙ count-token u, le-leb n 255 few, le-ltb 255 n few, value, content, fine, short) chosen;
+                is = rw (
+                  front-token u (m .next) (omega arith) (omega arith),
+                  t,
+                  ap (tokenAt (new u)) here ∙ count-token u,
+                  le-leb n 255 few,
+                  le-ltb 255 n few,
+                  value,
+                  content,
+                  fine,
+                  short,
+                ) chosen;
                 count = refl;
               },
             )
 
     -- an objective
-    objective-recounted : (u : List ℕ) (levels base : ℕ) (o : Objective) (size : ℕ) → CountAt u h base o → objectiveIn levels base (old u) ≡ ObjectiveRead.Got o size 0 0
+    objective-recounted : (u : List ℕ) (levels base : ℕ) (o : Objective) (size : ℕ) → CountAt u h base o
+        → objectiveIn levels base (old u) ≡ ObjectiveRead.Got o size 0 0
         → Recounted u h n (objectiveIn levels base (new u)) (λ o e. ObjectiveRead.Got o e 0 0) size
     unfolding objectiveIn pick
     objective-recounted u levels base o size place =
@@ -296,22 +318,26 @@ module _ (h r : List ℕ) (n : ℕ) where
 
         -- after its objective
         tailed : eqb (itemsIn a) 0 ≡ false → eqb (a .arg) 2 ≡ true → (size₁ : ℕ) → pairTail base (old u) (a .next + size₁) o 0 0 ≡ PairRead.Got o t size 0 0
-            → (a .next ≤ length u) × Recounted (drop (a .next) u) h n (objectiveIn pairLevels (base + a .next) (drop (a .next) (new u))) (λ o e. ObjectiveRead.Got o e 0 0) size₁
+            → (a .next ≤ length u) × Recounted (drop (a .next) u) h n (objectiveIn pairLevels (base + a .next) (drop (a .next) (new u)))
+            (λ o e. ObjectiveRead.Got o e 0 0) size₁
             → (t′ : Tag) × Recounted u h n (pairIn base (new u)) (λ o e. PairRead.Got o t′ e 0 0) size
         tailed t₁ t₂ size₁ q (within, x) =
             let from : a .next + size₁ ≡ length u + length h + x .rest = omega (arith, x .sized, length-drop (a .next) u) in
-            let to : a .next + (length (drop (a .next) u) + length (head 0 n) + x .rest) ≡ length u + length (head 0 n) + x .rest = omega (arith, length-drop (a .next) u) in
+            let to : a .next + (length (drop (a .next) u) + length (head 0 n) + x .rest) ≡ length u + length (head 0 n) + x .rest =
+            omega (arith, length-drop (a .next) u) in
             let first = front-token u 0 (omega (arith, is-array a (eqb-false (itemsIn a) 0 t₁))) within in
             let (t′, rest, sized, is) = tail-recounted u base o (x .objective) (x .rest) (rw from at q) in
             (t′, record { rest = rest; objective = x .objective; sized = sized; is = rw (first, t₁, x .is, t₂, to) is; count = x .count })
 
-        led : eqb (itemsIn a) 0 ≡ false → (x : ObjectiveRead) → objectiveIn pairLevels (base + a .next) (drop (a .next) (old u)) ≡ x → P (pairLed base (old u) (a .arg) (a .next) x)
+        led : eqb (itemsIn a) 0 ≡ false → (x : ObjectiveRead) → objectiveIn pairLevels (base + a .next) (drop (a .next) (old u)) ≡ x
+            → P (pairLed base (old u) (a .arg) (a .next) x)
         led t₁ (ObjectiveRead.Bad place) e = λ q. absurd (no-pair q)
         led t₁ (ObjectiveRead.Got o₁ size₁ bad long) e =
             pick-case P (eqb (a .arg) 2)
             (λ t₂ q.
             let (same, fine, short) = tail-none base (old u) (a .next + size₁) o₁ o bad long q in
-            tailed t₁ t₂ size₁ (rw (same, fine, short) at q) (objective-beyond u pairLevels base (base + a .next) (a .next) o size₁ refl place (rw (same, fine, short) at e)))
+            tailed t₁ t₂ size₁ (rw (same, fine, short) at q)
+            (objective-beyond u pairLevels base (base + a .next) (a .next) o size₁ refl place (rw (same, fine, short) at e)))
             (λ _ q. absurd (no-pair q))
 
     -- a pair that stands p bytes further on

@@ -1,5 +1,6 @@
--- Relaying: a Discovery or a Flood that was read, with the head of its count replaced by the shortest of one less, is read as the same message with
--- that count one lower; it isn't longer, and it is what the writer writes for that message. For readers: each statement at the end stands alone.
+-- Relaying: a Discovery or a Flood that was read, with the head of its count replaced by the shortest of one less, is
+-- read as the same message with that count one lower; it isn't longer, and it is what the writer writes for that
+-- message. For readers: each statement at the end stands alone.
 -- Assumes nothing.
 use mathlib.Core.Path.{_≡_, refl, sym, ap, _∙_, subst}
 use mathlib.Core.List.{List, [], _∷_, _++_, flatMap, append-assoc}
@@ -66,14 +67,17 @@ module _ (s : List ℕ) (o : Objective) (h : ObjectiveParts (length s) o) where
   spelt-whole : before s o ++ (between s o ++ drop (o .value .at) s) ≡ s
   spelt-whole =
       let sum : o .«count_at» + (o .value .at - o .«count_at») ≡ o .value .at = omega (arith, h .some) in
-      let rest : drop (o .value .at - o .«count_at») (drop (o .«count_at») s) ≡ drop (o .value .at) s = rw sum at (drop-drop (o .value .at - o .«count_at») (o .«count_at») s) in
-      ap (λ (x : List ℕ). before s o ++ (between s o ++ x)) (sym rest) ∙ ap (λ (x : List ℕ). before s o ++ x) (take-append-drop (o .value .at - o .«count_at») (drop (o .«count_at») s)) ∙ take-append-drop (o .«count_at») s
+      let rest : drop (o .value .at - o .«count_at») (drop (o .«count_at») s) ≡ drop (o .value .at) s =
+      rw sum at (drop-drop (o .value .at - o .«count_at») (o .«count_at») s) in
+      ap (λ (x : List ℕ). before s o ++ (between s o ++ x)) (sym rest)
+      ∙ ap (λ (x : List ℕ). before s o ++ x) (take-append-drop (o .value .at - o .«count_at») (drop (o .«count_at») s)) ∙ take-append-drop (o .«count_at») s
 
   -- and stand where the objective says
   count-at : CountAt (before s o) (between s o) 0 o
   count-at =
       let front : length (before s o) ≡ o .«count_at» = length-take-le (o .«count_at») s (omega (arith, h .some, h .counted)) in
-      let head : length (between s o) ≡ o .value .at - o .«count_at» = length-take-le (o .value .at - o .«count_at») (drop (o .«count_at») s) (omega (arith, h .counted, length-drop (o .«count_at») s)) in
+      let head : length (between s o) ≡ o .value .at - o .«count_at» =
+      length-take-le (o .value .at - o .«count_at») (drop (o .«count_at») s) (omega (arith, h .counted, length-drop (o .«count_at») s)) in
       record { from = omega arith; end = omega (arith, h .some) }
 
   -- so it is read, where it is with the new count
@@ -90,7 +94,8 @@ module _ (s : List ℕ) (o : Objective) (h : ObjectiveParts (length s) o) where
       sym (read-whole new (examined new) (omega (arith, shorter s o h, ap length is)) refl (x .message) _ (x .read) (omega (arith, x .sized))) in (
         x .message,
         subst (λ (l : List ℕ). readOf l ≡ Reading.Read (x .message)) is read,
-        subst (λ (l : List ℕ). Relays l m o (onward s o) (x .message)) spelt-whole (subst (λ (l : List ℕ). Relays (before s o ++ (between s o ++ r)) m o l (x .message)) is (x .relays)),
+        subst (λ (l : List ℕ). Relays l m o (onward s o) (x .message)) spelt-whole
+            (subst (λ (l : List ℕ). Relays (before s o ++ (between s o ++ r)) m o l (x .message)) is (x .relays)),
       )
 
 module _ {s : List ℕ} {at end n : ℕ} {msg : Msg Value} (h : Hole s at end n msg) where
@@ -120,7 +125,8 @@ module _ {s : List ℕ} {at end n : ℕ} {msg : Msg Value} (h : Hole s at end n 
       rw (front, back, append-assoc) (sym (h .spelt (shortest (n - 1)) (n - 1)))
 
   -- and they are accepted
-  lowered-accepted : length (lowered s at end n) ≤ mostBytes → TextsGood msg → NamesGood msg → (a : Accepted (lowered s at end n)) × (a .message .msg ≡ lowerMsg msg)
+  lowered-accepted : length (lowered s at end n) ≤ mostBytes → TextsGood msg → NamesGood msg
+      → (a : Accepted (lowered s at end n)) × (a .message .msg ≡ lowerMsg msg)
   unfolding less
   lowered-accepted most texts names = (
     record {

@@ -1,4 +1,5 @@
--- How long a list must be for the rows of any message: a locator and a pair have six bytes at least, and a message has 2,048 at most.
+-- How long a list must be for the rows of any message: a locator and a pair have six bytes at least, and a message has
+-- 2,048 at most.
 -- Assumes nothing.
 use mathlib.Core.Path.{_≡_}
 use mathlib.Core.List.{List}

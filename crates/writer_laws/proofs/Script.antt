@@ -1,4 +1,5 @@
--- What the writer writes, as a list of its pieces, and how two such lists that spell the same bytes agree from left to right.
+-- What the writer writes, as a list of its pieces, and how two such lists that spell the same bytes agree from left to
+-- right.
 -- Assumes nothing.
 use mathlib.Core.Path.{_≡_, refl, sym, ap, ap₂, _∙_}
 use mathlib.Core.List.{List, [], _∷_, _++_, append-assoc, append-cancel-left}
@@ -144,7 +145,8 @@ unfolding spells spell W.string
 string-small {major} {bs} {ts} l = omega (arith, l .few, length-append (head major (length bs) ++ bs) (spells ts), length-append (head major (length bs)) bs)
 
 -- a string passed
-pub string-next : {major : ℕ} {bs bs′ : List ℕ} {ts ts′ : List Piece} → Like (Piece.string major bs ∷ ts) (Piece.string major bs′ ∷ ts′) → (bs ≡ bs′) × Like ts ts′
+pub string-next : {major : ℕ} {bs bs′ : List ℕ} {ts ts′ : List Piece} → Like (Piece.string major bs ∷ ts) (Piece.string major bs′ ∷ ts′)
+    → (bs ≡ bs′) × Like ts ts′
 unfolding spells spell W.string
 string-next {major} {bs} {bs′} {ts} {ts′} l =
     let e : head major (length bs) ++ (bs ++ spells ts) ≡ head major (length bs′) ++ (bs′ ++ spells ts′) =
@@ -202,7 +204,8 @@ perhaps-next {p = Option.some n} {p′ = Option.none} {ts} {ts′} h l = absurd 
 perhaps-next {p = Option.some n} {p′ = Option.some n′} h l = let (e, r) = number-next h l in (ap Option.some e, r)
 
 -- a value, where both are or neither is
-pub value-next : {v v′ : List ℕ} {ts ts′ : List Piece} → Valued v → Valued v′ → W.oneMore v ≡ W.oneMore v′ → Like (Piece.value v ∷ ts) (Piece.value v′ ∷ ts′) → (v ≡ v′) × Like ts ts′
+pub value-next : {v v′ : List ℕ} {ts ts′ : List Piece} → Valued v → Valued v′ → W.oneMore v ≡ W.oneMore v′ → Like (Piece.value v ∷ ts) (Piece.value v′ ∷ ts′)
+    → (v ≡ v′) × Like ts ts′
 unfolding spells spell W.oneMore
 value-next Valued.none Valued.none e l = (refl, rest-like l (l .same))
 value-next Valued.none (Valued.one x g d) e l = absurd (omega (arith, e ∙ has-bytes x))

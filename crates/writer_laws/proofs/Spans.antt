@@ -28,7 +28,8 @@ pub record Cuts (s : List ℕ) (span : Span) (bs : List ℕ) : Type 0 where
   pub is : held s span ≡ bs
 
 -- the content of a string that stands before e
-pub string-cuts : {s : List ℕ} {p e w : ℕ} {t : Bool} {bs : List ℕ} {span : Span} → Stands s p e (Item.string t w bs) → span ≡ spanOf (e - length bs) (length bs) → Cuts s span bs
+pub string-cuts : {s : List ℕ} {p e w : ℕ} {t : Bool} {bs : List ℕ} {span : Span} → Stands s p e (Item.string t w bs)
+    → span ≡ spanOf (e - length bs) (length bs) → Cuts s span bs
 string-cuts {s} {e = e} {bs = bs} {span} a q =
     let string = text-token a in
     let place : e - length bs ≡ string .body = omega (arith, string .end) in
@@ -52,7 +53,8 @@ end-cuts {s} {span} before bs e q =
     subst (λ (i : Span). Cuts s i bs) (sym q)
     (record {
       inside = inr (omega arith);
-      is = ap (λ (l : List ℕ). take (length bs) (drop (length s - length bs) l)) (sym e) ∙ ap (take (length bs)) (drop-at before bs (length s - length bs) place) ∙ take-length bs;
+      is = ap (λ (l : List ℕ). take (length bs) (drop (length s - length bs) l)) (sym e)
+          ∙ ap (take (length bs)) (drop-at before bs (length s - length bs) place) ∙ take-length bs;
     })
 
 -- an objective, as the description has it

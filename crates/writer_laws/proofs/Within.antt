@@ -9,7 +9,8 @@ use Rattle.base.specs.Lists.{Every}
 use Rattle.cbor.specs.Item.{mostLevels}
 use Rattle.cbor.specs.Tree.{Item, Items, depth, depths, Good, Goods}
 use Rattle.rfc8990.specs.Message.{Loc, Obj, Pair, Tgts, Msg, valuedObj, valuedPair, valued}
-use Rattle.rfc8990.specs.Cddl.{joined, Protocol, Port, OrNull, LocatorItem, ObjectiveItem, LocatorItems, Value, PairItem, PairItems, Number, OptionalItems, TgtsItems, MessageItem}
+use Rattle.rfc8990.specs.Cddl.{joined, Protocol, Port, OrNull, LocatorItem, ObjectiveItem, LocatorItems, Value}
+use Rattle.rfc8990.specs.Cddl.{PairItem, PairItems, Number, OptionalItems, TgtsItems, MessageItem}
 use Rattle.writer_laws.specs.Plain.{valueBytes, plain}
 use Rattle.writer_laws.proofs.Script.{Small, Each, Valued}
 use Rattle.writer_laws.proofs.Once.{SmallObj, ValuedObj, SmallLoc, SmallPair, ValuedPair, SmallTargets, SmallMsg, ValuedMsg}

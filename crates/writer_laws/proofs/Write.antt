@@ -1,5 +1,6 @@
--- Writing held against reading: what is written is read back as the message that was described, what was read is written as it was, and 18 is
--- answered exactly where there is no message that the description says. For readers: each statement at the end stands alone.
+-- Writing held against reading: what is written is read back as the message that was described, what was read is
+-- written as it was, and 18 is answered exactly where there is no message that the description says. For readers: each
+-- statement at the end stands alone.
 -- Assumes nothing.
 use mathlib.Core.Path.{_≡_, refl, sym, _∙_, subst}
 use mathlib.Core.Logic.{_↔_}
@@ -43,13 +44,16 @@ record Passes (source list : List ℕ) (d : Description) : Type 0 where
 
 -- what holds of the answer and the output, where the tests are passed and where they aren't
 module _ (source list : List ℕ) (d : Description) (out : List ℕ) (P : Written → List ℕ → Type 0)
-    (f : Passes source list d → P (handAnswer (draftOf source list d) out) (handOut (draftOf source list d) out)) (g : (Passes source list d → ⊥) → P (Written.Refused 18) out) where
+    (f : Passes source list d → P (handAnswer (draftOf source list d) out) (handOut (draftOf source list d) out))
+    (g : (Passes source list d → ⊥) → P (Written.Refused 18) out) where
   -- by the description's test
   by-test : (t : Bool) → okDescribed source list d ≡ t
-      → P (pick t (passAnswer (accepts (draftOf source list d)) (draftOf source list d) out) (Written.Refused 18)) (pick t (passOut (accepts (draftOf source list d)) (draftOf source list d) out) out)
+      → P (pick t (passAnswer (accepts (draftOf source list d)) (draftOf source list d) out) (Written.Refused 18))
+      (pick t (passOut (accepts (draftOf source list d)) (draftOf source list d) out) out)
   unfolding pick
   by-test true e =
-      pass-case (accepts (draftOf source list d)) (draftOf source list d) out P (λ r few. f (record { described = e; few = few; read = r })) (λ not. g (λ p. not (p .read) (p .few)))
+      pass-case (accepts (draftOf source list d)) (draftOf source list d) out P (λ r few. f (record { described = e; few = few; read = r }))
+      (λ not. g (λ p. not (p .read) (p .few)))
   by-test false e = g (λ p. false≢true (sym e ∙ p .described))
 
   -- and so of what `write` does
@@ -84,7 +88,8 @@ says-passes : {s : List ℕ} (source list : List ℕ) (d : Description) (a : Acc
 unfolding accepts
 says-passes {s} source list d a h =
     let same : draftOf source list d ≡ s = read-drafted s source list d a (h .is) in
-    let values : ValuedMsg (msgOf source list d) = subst ValuedMsg (sym (h .is)) (plain-valued (a .message .one .good) (a .message .one .shallow) (a .message .is)) in
+    let values : ValuedMsg (msgOf source list d) =
+    subst ValuedMsg (sym (h .is)) (plain-valued (a .message .one .good) (a .message .one .shallow) (a .message .is)) in
     let (m, q) = accepted-exactly s (accepted-bytes s a) .1 a in
     record {
       described = described-exactly source list d .1 (h .parts, values);
@@ -102,8 +107,10 @@ written-reads source list d out n b =
     (λ p e. subst (ReadsBack source list d) (sym (hand-front (draftOf source list d) out n e)) (passes-back source list d b p))
     (λ _ e. absurd (let z : _≡_ {A = ℕ} 0 1 = cc in omega arith))
 
--- A description that says a message that was read is written as the bytes that were read, where the output has room for them.
-pub read-written : (s source list : List ℕ) (d : Description) (out : List ℕ) (a : Accepted s) → Says source list d (plain (a .message .msg)) → length s ≤ length out
+-- A description that says a message that was read is written as the bytes that were read, where the output has room for
+-- them.
+pub read-written : (s source list : List ℕ) (d : Description) (out : List ℕ) (a : Accepted s) → Says source list d (plain (a .message .msg))
+    → length s ≤ length out
     → (writeAnswer source list d out ≡ Written.Length (length s)) × (writeOut source list d out ≡ s ++ drop (length s) out)
 read-written s source list d out a h room =
     write-case source list d out (λ r o. (r ≡ Written.Length (length s)) × (o ≡ s ++ drop (length s) out))
@@ -122,9 +129,11 @@ refused-18 source list d out b = (
 
 -- 19 is answered exactly if there are such bytes, and the output has no room for them.
 pub refused-19 : (source list : List ℕ) (d : Description) (out : List ℕ) → Bytes source
-    → writeAnswer source list d out ≡ Written.Refused 19 ↔ ((s : List ℕ) × (a : Accepted s) × Says source list d (plain (a .message .msg)) × (length out < length s))
+    → writeAnswer source list d out ≡ Written.Refused 19
+    ↔ ((s : List ℕ) × (a : Accepted s) × Says source list d (plain (a .message .msg)) × (length out < length s))
 refused-19 source list d out b = (
-  write-case source list d out (λ r o. r ≡ Written.Refused 19 → (s : List ℕ) × (a : Accepted s) × Says source list d (plain (a .message .msg)) × (length out < length s))
+  write-case source list d out (λ r o. r ≡ Written.Refused 19
+      → (s : List ℕ) × (a : Accepted s) × Says source list d (plain (a .message .msg)) × (length out < length s))
       (λ p q.
       let (s, a, h) = passes-says source list d b p in
       (s, a, h, rw (read-drafted s source list d a (h .is)) at (hand-19 (draftOf source list d) out .0 q)))

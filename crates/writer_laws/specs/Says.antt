@@ -1,5 +1,6 @@
--- What it means that a description says a message: its spans lie in the source, its rows are whole and of known kinds, a list is given only where
--- the kind has one, and the message that it speaks of is that one. Whether there is such a message is not asked here.
+-- What it means that a description says a message: its spans lie in the source, its rows are whole and of known kinds,
+-- a list is given only where the kind has one, and the message that it speaks of is that one. Whether there is such a
+-- message is not asked here.
 use Prim.Native.Nat.{ℕ, _+_, _*_, _/_, _%_, _≤_, _<_}
 use mathlib.Core.List.{List, []}
 use mathlib.Core.Logic.{_⊎_}
@@ -19,7 +20,8 @@ use Rattle.options.specs.declared.Outcome.{Outcome}
 use Rattle.options.specs.declared.Outcome.the-variants as E
 use Rattle.description.specs.declared.Description.{Description}
 use Rattle.description.specs.declared.Description.the-variants as D
-use Rattle.description.specs.Meaning.{locatorRow, pairRow, objectiveRow, objectiveRowOf, locatorRowAt, objectiveRowAt, msgOf}
+use Rattle.description.specs.Meaning.{locatorRow, pairRow, objectiveRow, objectiveRowOf}
+use Rattle.description.specs.Meaning.{locatorRowAt, objectiveRowAt, msgOf}
 use Rattle.writer.specs.Write.{draftOf}
 use Rattle.writer_laws.specs.Plain.{plain}
 
@@ -50,7 +52,8 @@ pub record Blank (p : LocatorRow) : Type 0 where
 pub record PairSays (source list : List ℕ) (i : ℕ) : Type 0 where
   pub count-at : getD list (pairRow * i + 4) 0 ≡ 0
   pub objective : ObjectiveRowSays source (objectiveRowAt list (pairRow * i))
-  pub locator : Blank (locatorRowAt list (pairRow * i + objectiveRow)) ⊎ LocatorRowSays source (locatorRowAt list (pairRow * i + objectiveRow))
+  pub locator : Blank (locatorRowAt list (pairRow * i + objectiveRow))
+      ⊎ LocatorRowSays source (locatorRowAt list (pairRow * i + objectiveRow))
 
 -- whole rows of so many numbers, and what holds of each
 pub record Rows (list : List ℕ) (size : ℕ) (P : ℕ → Type 0) : Type 0 where
@@ -72,7 +75,8 @@ OutcomeSays source (E.Reason t) = Inside source t
 abbrev pub PartsSay : List ℕ → List ℕ → Description → Type 0
 PartsSay source list D.Noop = list ≡ []
 PartsSay source list (D.Discovery s i o) = (list ≡ []) × Inside source i × ObjectiveRowSays source (objectiveRowOf o)
-PartsSay source list (D.Response s i t d o) = Inside source i × Rows list locatorRow (λ k. LocatorRowSays source (locatorRowAt list (locatorRow * k))) × ExtraSays source o
+PartsSay source list (D.Response s i t d o) = Inside source i
+    × Rows list locatorRow (λ k. LocatorRowSays source (locatorRowAt list (locatorRow * k))) × ExtraSays source o
 PartsSay source list (D.RequestNegotiation s o) = (list ≡ []) × ObjectiveRowSays source (objectiveRowOf o)
 PartsSay source list (D.RequestSynchronization s o) = (list ≡ []) × ObjectiveRowSays source (objectiveRowOf o)
 PartsSay source list (D.Negotiate s o) = (list ≡ []) × ObjectiveRowSays source (objectiveRowOf o)
@@ -87,7 +91,8 @@ pub record Says (source list : List ℕ) (d : Description) (msg : Msg (List ℕ)
   pub parts : PartsSay source list d
   pub is : msgOf source list d ≡ msg
 
--- the bytes are what is written for the description; they are read, and what is read is the message that the description speaks of
+-- the bytes are what is written for the description; they are read, and what is read is the message that the
+-- description speaks of
 pub record ReadsBack (source list : List ℕ) (d : Description) (bs : List ℕ) : Type 0 where
   pub draft : bs ≡ draftOf source list d
   pub message : Message

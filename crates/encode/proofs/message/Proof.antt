@@ -19,7 +19,8 @@ same-length : tie.Need-same-length
 same-length c = search needs
 
 returns : tie.Need-returns
-returns c = front-over (c .before .before .before .before .before .before .before .put-message .ensures) (c .before .before .before .before .if1 .taken) (c .before .before .clear .ensures)
+returns c = front-over (c .before .before .before .before .before .before .before .put-message .ensures) (c .before .before .before .before .if1 .taken)
+    (c .before .before .clear .ensures)
 
 same-length-2 : tie.Need-same-length-2
 same-length-2 c = search needs

@@ -32,12 +32,26 @@ number-at-requires c κs = search needs
 returns-2 : tie.Need-returns-2
 unfolding examined pick
 returns-2 c =
-    rw (← c .before .before .before .before .before .array-at .ensures .is, ← c .before .before .before .before .items-in .ensures, ne-eqb _ _ (c .before .before .before .if1 .left), ← c .before .before .number-at .ensures .is, ne-eqb _ _ (c .if2 .taken))
+    rw (
+      ← c .before .before .before .before .before .array-at .ensures .is,
+      ← c .before .before .before .before .items-in .ensures,
+      ne-eqb _ _ (c .before .before .before .if1 .left),
+      ← c .before .before .number-at .ensures .is,
+      ne-eqb _ _ (c .if2 .taken),
+    )
 
 returns-3 : tie.Need-returns-3
 unfolding examined pick
 returns-3 c =
-    rw (← c .before .before .before .before .before .before .before .before .before .array-at .ensures .is, ← c .before .before .before .before .before .before .before .before .items-in .ensures, ne-eqb _ _ (c .before .before .before .before .before .before .before .if1 .left), ← c .before .before .before .before .before .before .number-at .ensures .is, eq-eqb _ _ (c .before .before .before .before .if2 .left), lt-ltb _ _ (c .before .before .if3 .taken), ne-eqb _ _ (c .if4 .taken))
+    rw (
+      ← c .before .before .before .before .before .before .before .before .before .array-at .ensures .is,
+      ← c .before .before .before .before .before .before .before .before .items-in .ensures,
+      ne-eqb _ _ (c .before .before .before .before .before .before .before .if1 .left),
+      ← c .before .before .before .before .before .before .number-at .ensures .is,
+      eq-eqb _ _ (c .before .before .before .before .if2 .left),
+      lt-ltb _ _ (c .before .before .if3 .taken),
+      ne-eqb _ _ (c .if4 .taken),
+    )
 
 by-kind-requires : tie.Need-by-kind-requires
 by-kind-requires c κs = search needs
@@ -48,9 +62,29 @@ judge-requires c κs = search needs
 returns-4 : tie.Need-returns-4
 unfolding examined pick
 returns-4 c =
+    let c6 = c .before .before .before .before .before .before in
     ⊎-elim
-    (λ w. rw (← c .before .before .before .before .before .before .before .before .before .array-at .ensures .is, ← c .before .before .before .before .before .before .before .before .items-in .ensures, ne-eqb _ _ (c .before .before .before .before .before .before .before .if1 .left), ← c .before .before .before .before .before .before .number-at .ensures .is, eq-eqb _ _ (c .before .before .before .before .if2 .left), lt-ltb _ _ (w .0 .taken), eq-eqb _ _ (w .2 .left), ← c .before .by-kind .ensures, ← c .judge .ensures))
-    (λ w. rw (← c .before .before .before .before .before .before .before .before .before .array-at .ensures .is, ← c .before .before .before .before .before .before .before .before .items-in .ensures, ne-eqb _ _ (c .before .before .before .before .before .before .before .if1 .left), ← c .before .before .before .before .before .before .number-at .ensures .is, eq-eqb _ _ (c .before .before .before .before .if2 .left), le-ltb _ _ (w .left), ← c .before .by-kind .ensures, ← c .judge .ensures))
+    (λ w. rw (
+      ← c6 .before .before .before .array-at .ensures .is,
+      ← c6 .before .before .items-in .ensures,
+      ne-eqb _ _ (c6 .before .if1 .left),
+      ← c6 .number-at .ensures .is,
+      eq-eqb _ _ (c .before .before .before .before .if2 .left),
+      lt-ltb _ _ (w .0 .taken),
+      eq-eqb _ _ (w .2 .left),
+      ← c .before .by-kind .ensures,
+      ← c .judge .ensures,
+    ))
+    (λ w. rw (
+      ← c6 .before .before .before .array-at .ensures .is,
+      ← c6 .before .before .items-in .ensures,
+      ne-eqb _ _ (c6 .before .if1 .left),
+      ← c6 .number-at .ensures .is,
+      eq-eqb _ _ (c .before .before .before .before .if2 .left),
+      le-ltb _ _ (w .left),
+      ← c .before .by-kind .ensures,
+      ← c .judge .ensures,
+    ))
     (c .before .before .if3 .came)
 
 pub examine-spec : {M : Type 1} → statement M

@@ -31,18 +31,32 @@ enum-known-whole c = search needs
 
 returns-3 : tie.Need-returns-3
 unfolding namesBad framedBad pick
-returns-3 c = rw (ne-eqb _ 0 (c .before .before .before .before .before .before .if1 .left), le-ltb 2048 _ (c .before .before .before .before .before .if2 .left), sym (c .before .before .before .before .first .ensures) ∙ c .before .before .whole .given .1, ne-eqb _ _ (c .if3 .taken)) refl
+returns-3 c = rw (
+  ne-eqb _ 0 (c .before .before .before .before .before .before .if1 .left),
+  le-ltb 2048 _ (c .before .before .before .before .before .if2 .left),
+  sym (c .before .before .before .before .first .ensures) ∙ c .before .before .whole .given .1,
+  ne-eqb _ _ (c .if3 .taken),
+) refl
 
 is-bad-array-requires : tie.Need-is-bad-array-requires
 is-bad-array-requires c κs = search needs
 
 returns-4 : tie.Need-returns-4
 unfolding namesBad framedBad pick
-returns-4 c = rw (ne-eqb _ 0 (c .before .before .before .before .if1 .left), le-ltb 2048 _ (c .before .before .before .if2 .left), sym (c .before .before .first .ensures) ∙ c .enum-told .given .1) refl
+returns-4 c = rw (
+  ne-eqb _ 0 (c .before .before .before .before .if1 .left),
+  le-ltb 2048 _ (c .before .before .before .if2 .left),
+  sym (c .before .before .first .ensures) ∙ c .enum-told .given .1,
+) refl
 
 returns-5 : tie.Need-returns-5
 unfolding namesBad framedBad pick
-returns-5 c = rw (ne-eqb _ 0 (c .before .before .before .before .before .before .before .if1 .left), le-ltb 2048 _ (c .before .before .before .before .before .before .if2 .left), sym (c .before .before .before .before .before .first .ensures) ∙ c .before .before .before .whole .given .1, eq-eqb _ _ (c .before .if3 .left)) (c .is-bad-array .ensures)
+returns-5 c = rw (
+  ne-eqb _ 0 (c .before .before .before .before .before .before .before .if1 .left),
+  le-ltb 2048 _ (c .before .before .before .before .before .before .if2 .left),
+  sym (c .before .before .before .before .before .first .ensures) ∙ c .before .before .before .whole .given .1,
+  eq-eqb _ _ (c .before .if3 .left),
+) (c .is-bad-array .ensures)
 
 pub are-bad-spec : {M : Type 1} → statement M
 are-bad-spec =

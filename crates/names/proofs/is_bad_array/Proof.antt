@@ -41,7 +41,16 @@ is-good-requires c κs = (c .token-at2 .ensures .start, c .token-at2 .ensures .e
 
 returns-3 : tie.Need-returns-3 Inv-loop μ-loop
 unfolding arrayBad
-returns-3 c = rw (sym (c .before .before .before .before .before .before .before .before .before .token-at .ensures .is), eq-eqb _ 4 (c .before .before .before .before .before .before .before .if1 .left), le-ltb 16 _ (c .before .before .before .before .before .if2 .left), sym (c .before .before .before .before .loop .inv) ∙ good-stop (c .before .before .before .before .before .before .before .before .before .before .before .args .s .now) (c .before .before .before .before .loop .at) (c .before .before .before .before .loop .left) _ (c .before .before .token-at2 .ensures .is) (c .before .before .before .loop-test .taken) (sym (c .before .is-good .ensures) ∙ not-true _ (c .if3 .taken))) refl
+returns-3 c =
+    let c4 = c .before .before .before .before in
+    rw (
+      sym (c4 .before .before .before .before .before .token-at .ensures .is),
+      eq-eqb _ 4 (c4 .before .before .before .if1 .left),
+      le-ltb 16 _ (c4 .before .if2 .left),
+      sym (c4 .loop .inv) ∙ good-stop (c4 .before .before .before .before .before .before .before .args .s .now) (c4 .loop .at)
+          (c4 .loop .left) _ (c .before .before .token-at2 .ensures .is) (c .before .before .before .loop-test .taken)
+          (sym (c .before .is-good .ensures) ∙ not-true _ (c .if3 .taken)),
+    ) refl
 
 sub-left : tie.Need-sub-left Inv-loop μ-loop
 sub-left c = omega arith
@@ -50,14 +59,23 @@ loop-less : tie.Need-loop-less Inv-loop μ-loop
 loop-less c = omega arith
 
 loop-again : tie.Need-loop-again Inv-loop μ-loop
-loop-again c = sym (good-next (c .before .before .before .before .before .before .before .before .before .before .before .args .s .now) (c .before .before .before .before .loop .at) (c .before .before .before .before .loop .left) _ (c .before .before .token-at2 .ensures .is) (sym (c .before .is-good .ensures) ∙ not-false _ (c .if3 .left))) ∙ c .before .before .before .before .loop .inv
+loop-again c =
+    let c4 = c .before .before .before .before in
+    sym (good-next (c4 .before .before .before .before .before .before .before .args .s .now) (c4 .loop .at) (c4 .loop .left) _
+    (c .before .before .token-at2 .ensures .is) (sym (c .before .is-good .ensures) ∙ not-false _ (c .if3 .left))) ∙ c4 .loop .inv
 
 returns-4 : tie.Need-returns-4 Inv-loop μ-loop
 unfolding arrayBad goodNames
 returns-4 c =
     let done : c .before .loop .left ≡ 0 = omega arith in
-    let all : goodNames (c .before .before .before .before .before .before .before .before .args .s .now) (c .before .loop .left) (c .before .loop .at) ≡ true = rw done refl in
-    rw (sym (c .before .before .before .before .before .before .token-at .ensures .is), eq-eqb _ 4 (c .before .before .before .before .if1 .left), le-ltb 16 _ (c .before .before .if2 .left), sym (c .before .loop .inv) ∙ all) refl
+    let all : goodNames (c .before .before .before .before .before .before .before .before .args .s .now) (c .before .loop .left) (c .before .loop .at) ≡ true =
+    rw done refl in
+    rw (
+      sym (c .before .before .before .before .before .before .token-at .ensures .is),
+      eq-eqb _ 4 (c .before .before .before .before .if1 .left),
+      le-ltb 16 _ (c .before .before .if2 .left),
+      sym (c .before .loop .inv) ∙ all,
+    ) refl
 
 pub is-bad-array-spec : {M : Type 1} → statement M
 is-bad-array-spec =

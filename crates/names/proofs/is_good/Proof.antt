@@ -17,7 +17,8 @@ returns c = rw (ne-eqb _ 3 (c .if1 .taken)) refl
 
 returns-2 : tie.Need-returns-2
 unfolding goodName
-returns-2 c = rw (eq-eqb _ 3 (c .before .before .if1 .left), lt-leb (c .before .before .before .before .before .args .t .arg) 64 (omega (arith, c .if2 .taken))) refl
+returns-2 c =
+    rw (eq-eqb _ 3 (c .before .before .if1 .left), lt-leb (c .before .before .before .before .before .args .t .arg) 64 (omega (arith, c .if2 .taken))) refl
 
 sub-is-utf8 : tie.Need-sub-is-utf8
 sub-is-utf8 c = search needs

@@ -1,4 +1,5 @@
--- `names::is_named` meets its contract. The loop's invariant: the name is one of those from here on exactly if it is one of all.
+-- `names::is_named` meets its contract. The loop's invariant: the name is one of those from here on exactly if it is
+-- one of all.
 -- Assumes nothing.
 use mathlib.Core.Bool.{false}
 use mathlib.Core.Path.{_≡_, refl, sym, _∙_}
@@ -48,7 +49,15 @@ are-same-requires c κs = search needs
 
 returns-2 : tie.Need-returns-2 Inv-loop μ-loop
 unfolding isNamed pick
-returns-2 c = rw (sym (c .before .before .before .before .before .before .before .before .token-at .ensures .is), le-ltb 16 _ (c .before .before .before .before .before .before .if1 .left), sym (c .before .before .before .before .before .loop .inv) ∙ named-here (c .before .before .before .before .before .before .before .before .before .before .before .args .s .now) (c .before .before .before .before .before .loop .at) (c .before .before .before .before .before .loop .left) _ (c .before .before .before .token-at2 .ensures .is) (c .before .before .before .before .loop-test .taken) (c .before .before .before .before .before .before .before .before .before .before .before .args .name .now) (sym (c .before .are-same .ensures) ∙ c .if2 .taken)) refl
+returns-2 c =
+    let c5 = c .before .before .before .before .before in
+    rw (
+      sym (c5 .before .before .before .token-at .ensures .is),
+      le-ltb 16 _ (c5 .before .if1 .left),
+      sym (c5 .loop .inv) ∙ named-here (c5 .before .before .before .before .before .before .args .s .now) (c5 .loop .at)
+          (c5 .loop .left) _ (c .before .before .before .token-at2 .ensures .is) (c .before .before .before .before .loop-test .taken)
+          (c5 .before .before .before .before .before .before .args .name .now) (sym (c .before .are-same .ensures) ∙ c .if2 .taken),
+    ) refl
 
 sub-left : tie.Need-sub-left Inv-loop μ-loop
 sub-left c = omega arith
@@ -57,13 +66,18 @@ loop-less : tie.Need-loop-less Inv-loop μ-loop
 loop-less c = omega arith
 
 loop-again : tie.Need-loop-again Inv-loop μ-loop
-loop-again c = sym (named-next (c .before .before .before .before .before .before .before .before .before .before .before .args .s .now) (c .before .before .before .before .before .loop .at) (c .before .before .before .before .before .loop .left) _ (c .before .before .before .token-at2 .ensures .is) (c .before .before .before .before .before .before .before .before .before .before .before .args .name .now) (sym (c .before .are-same .ensures) ∙ c .if2 .left)) ∙ c .before .before .before .before .before .loop .inv
+loop-again c =
+    let c5 = c .before .before .before .before .before in
+    sym (named-next (c5 .before .before .before .before .before .before .args .s .now) (c5 .loop .at) (c5 .loop .left) _
+    (c .before .before .before .token-at2 .ensures .is) (c5 .before .before .before .before .before .before .args .name .now)
+    (sym (c .before .are-same .ensures) ∙ c .if2 .left)) ∙ c5 .loop .inv
 
 returns-3 : tie.Need-returns-3 Inv-loop μ-loop
 unfolding isNamed namedFrom pick
 returns-3 c =
+    let c7 = c .before .before .before .before .before .before .before in
     let done : c .before .loop .left ≡ 0 = omega arith in
-    let none : namedFrom (c .before .before .before .before .before .before .before .args .s .now) (c .before .before .before .before .before .before .before .args .name .now) (c .before .loop .left) (c .before .loop .at) ≡ false = rw done refl in
+    let none : namedFrom (c7 .args .s .now) (c7 .args .name .now) (c .before .loop .left) (c .before .loop .at) ≡ false = rw done refl in
     rw (sym (c .before .before .before .before .token-at .ensures .is), le-ltb 16 _ (c .before .before .if1 .left), sym (c .before .loop .inv) ∙ none) refl
 
 pub is-named-spec : {M : Type 1} → statement M

@@ -33,7 +33,13 @@ turn-step-requires c κs = search needs
 
 returns-2 : tie.Need-returns-2
 unfolding stateStep pick
-returns-2 c = rw (c .before .before .before .before .before .state .given .1, ne-eqb _ _ (c .before .before .before .if1 .left), ← c .before .before .same-side .ensures, c .before .if2 .taken, c .turn-step .ensures)
+returns-2 c = rw (
+  c .before .before .before .before .before .state .given .1,
+  ne-eqb _ _ (c .before .before .before .if1 .left),
+  ← c .before .before .same-side .ensures,
+  c .before .if2 .taken,
+  c .turn-step .ensures,
+)
 
 enum-told-2 : tie.Need-enum-told-2
 enum-told-2 c = search needs

@@ -31,7 +31,12 @@ returns c = rw (← c .before .before .before .read .ensures, c .before .reading
 
 returns-2 : tie.Need-returns-2
 unfolding step readingStep
-returns-2 c = rw (← c .before .before .before .before .before .read .ensures, c .before .before .before .reading2 .given .1, ← c .before .move-of .ensures, ← c .state-step .ensures)
+returns-2 c = rw (
+  ← c .before .before .before .before .before .read .ensures,
+  c .before .before .before .reading2 .given .1,
+  ← c .before .move-of .ensures,
+  ← c .state-step .ensures,
+)
 
 pub step-spec : {M : Type 1} → statement M
 step-spec =

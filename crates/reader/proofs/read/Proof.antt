@@ -1,4 +1,5 @@
--- `reader::read` meets its contract: a message is what was read of its parts, and a refusal by the parts comes after the walk's.
+-- `reader::read` meets its contract: a message is what was read of its parts, and a refusal by the parts comes after
+-- the walk's.
 -- Assumes nothing.
 use mathlib.Core.Path.{sym}
 use mathlib.Core.Logic.{inl, inr}
@@ -27,11 +28,13 @@ enum-known-answer c = search needs
 
 returns-3 : tie.Need-returns-3
 returns-3 c =
-    read-whole _ _ (c .before .before .before .before .before .if2 .left) (c .before .before .before .before .examine .ensures) _ _ (c .before .before .answer .given .1) (c .if3 .taken)
+    read-whole _ _ (c .before .before .before .before .before .if2 .left) (c .before .before .before .before .examine .ensures) _ _
+    (c .before .before .answer .given .1) (c .if3 .taken)
 
 returns-4 : tie.Need-returns-4
 returns-4 c =
-    read-over _ _ (c .before .before .before .before .before .if2 .left) (c .before .before .before .before .examine .ensures) _ _ (c .before .before .answer .given .1) (c .if3 .left)
+    read-over _ _ (c .before .before .before .before .before .if2 .left) (c .before .before .before .before .examine .ensures) _ _
+    (c .before .before .answer .given .1) (c .if3 .left)
 
 enum-known-answer-2 : tie.Need-enum-known-answer-2
 enum-known-answer-2 c = search needs
@@ -41,7 +44,9 @@ walk-requires c κs = search needs
 
 returns-5 : tie.Need-returns-5
 returns-5 c =
-    read-refused _ _ _ _ _ (record { some = c .before .before .before .before .before .before .if1 .left; most = c .before .before .before .before .before .if2 .left }) (c .before .before .before .before .examine .ensures) (c .before .before .answer2 .given .1) (c .walk .ensures)
+    read-refused _ _ _ _ _
+    (record { some = c .before .before .before .before .before .before .if1 .left; most = c .before .before .before .before .before .if2 .left })
+    (c .before .before .before .before .examine .ensures) (c .before .before .answer2 .given .1) (c .walk .ensures)
 
 pub read-spec : {M : Type 1} → statement M
 read-spec =

@@ -1,5 +1,5 @@
--- `utf8::is_utf8_from` meets its contract. The loop's invariant: the bytes from `at` on go on as the state asks just where the
--- whole is UTF-8. The measure is what is left of the length.
+-- `utf8::is_utf8_from` meets its contract. The loop's invariant: the bytes from `at` on go on as the state asks just
+-- where the whole is UTF-8. The measure is what is left of the length.
 -- Assumes nothing.
 use mathlib.Core.Path.{_≡_, refl, sym, _∙_}
 use mathlib.Core.Bool.{Bool, false}
@@ -21,7 +21,8 @@ use Rattle.utf8.proofs.is_utf8_from.Statement.{statement}
 use Rattle.utf8.proofs.is_utf8_from.Tie as tie
 
 -- the byte at `at`, in front of the rest
-front : (s : List ℕ) (due low high at : ℕ) (v : Bool) → at < length s → goesOn due low high (drop at s) ≡ v → goesOn due low high (getD s at 0 ∷ drop (at + 1) s) ≡ v
+front : (s : List ℕ) (due low high at : ℕ) (v : Bool) → at < length s → goesOn due low high (drop at s) ≡ v
+    → goesOn due low high (getD s at 0 ∷ drop (at + 1) s) ≡ v
 front s due low high at v within inv = rw (add-one, ← drop-cons s at 0 within) inv
 
 -- one turn, at the byte b
@@ -80,7 +81,8 @@ tails-requires c κs = search needs
 returns : tie.Need-returns Inv-loop μ-loop
 returns c =
     let k = c .before .before .before .before .before in
-    no-lead _ _ _ _ _ _ (front _ _ _ _ _ _ (k .loop-test .taken) (k .before .loop .inv .1)) _ (c .before .before .before .if1 .taken) (c .before .before .if2 .taken)
+    no-lead _ _ _ _ _ _ (front _ _ _ _ _ _ (k .loop-test .taken) (k .before .loop .inv .1)) _ (c .before .before .before .if1 .taken)
+    (c .before .before .if2 .taken)
     (c .before .tails .ensures) (c .if3 .taken)
 
 least-requires : tie.Need-least-requires Inv-loop μ-loop
@@ -127,8 +129,10 @@ loop-less-3 c = search needs
 
 loop-again-3 : tie.Need-loop-again-3 Inv-loop μ-loop
 loop-again-3 c =
-    let k = c .before .before .before .before in
-    (search needs, tail _ _ _ _ _ _ (front _ _ _ _ _ _ (k .loop-test .taken) (k .before .loop .inv .1)) (c .before .before .if1 .left) (c .before .if4 .left) (c .if5 .left))
+    let k = c .before .before .before .before in (
+      search needs,
+      tail _ _ _ _ _ _ (front _ _ _ _ _ _ (k .loop-test .taken) (k .before .loop .inv .1)) (c .before .before .if1 .left) (c .before .if4 .left) (c .if5 .left),
+    )
 
 returns-4 : tie.Need-returns-4 Inv-loop μ-loop
 unfolding goesOn

@@ -20,7 +20,9 @@ same-length : tie.Need-same-length
 same-length c = search needs
 
 returns-2 : tie.Need-returns-2
-returns-2 c = pass-put _ _ _ (in-length _ _ (c .before .before .before .before .before .before .before .before .pre)) refl (c .before .before .before .before .before .refusal .ensures) (c .before .before .before .before .if1 .left) (all-in (c .before .before .all .ensures .0) (c .before .before .all .ensures .1))
+returns-2 c = pass-put _ _ _ (in-length _ _ (c .before .before .before .before .before .before .before .before .pre)) refl
+    (c .before .before .before .before .before .refusal .ensures) (c .before .before .before .before .if1 .left)
+    (all-in (c .before .before .all .ensures .0) (c .before .before .all .ensures .1))
 
 pub hand-spec : {M : Type 1} → statement M
 hand-spec = tie.close (tie.spec refusal-requires returns all-requires same-length returns-2)

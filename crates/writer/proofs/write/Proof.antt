@@ -27,7 +27,10 @@ message-requires c κs = search needs
 
 returns-2 : tie.Need-returns-2
 unfolding draftOf
-returns-2 c = described _ _ _ _ _ (c .before .before .before .before .before .ok-described .ensures) (not-false _ (c .before .before .before .before .if1 .left)) (pass-long (front-step (c .before .before .message .ensures .0) (c .before .before .message .ensures .1)) (length-replicate {A = ℕ} 2048 0) _ _ (c .if2 .taken))
+returns-2 c =
+    described _ _ _ _ _ (c .before .before .before .before .before .ok-described .ensures) (not-false _ (c .before .before .before .before .if1 .left))
+    (pass-long (front-step (c .before .before .message .ensures .0) (c .before .before .message .ensures .1)) (length-replicate {A = ℕ} 2048 0) _ _
+    (c .if2 .taken))
 
 array-share-prefix-draft : tie.Need-array-share-prefix-draft
 array-share-prefix-draft c = search needs
@@ -52,7 +55,12 @@ same-length c = search needs
 
 returns-3 : tie.Need-returns-3
 unfolding draftOf
-returns-3 c = described _ _ _ _ _ (c .before .before .before .before .before .before .before .before .before .before .before .before .ok-described .ensures) (not-false _ (c .before .before .before .before .before .before .before .before .before .before .before .if1 .left)) (passed (front-step (c .before .before .before .before .before .before .before .before .before .message .ensures .0) (c .before .before .before .before .before .before .before .before .before .message .ensures .1)) (rw (length-replicate {A = ℕ} 2048 0) (c .before .before .before .before .before .before .before .if2 .left)) _ (c .before .before .before .before .before .accepts .ensures) (c .before .before .hand .ensures .0) (c .before .before .hand .ensures .1))
+returns-3 c =
+    let c9 = c .before .before .before .before .before .before .before .before .before in
+    described _ _ _ _ _ (c9 .before .before .before .ok-described .ensures) (not-false _ (c9 .before .before .if1 .left))
+    (passed (front-step (c9 .message .ensures .0) (c9 .message .ensures .1))
+    (rw (length-replicate {A = ℕ} 2048 0) (c .before .before .before .before .before .before .before .if2 .left)) _
+    (c .before .before .before .before .before .accepts .ensures) (c .before .before .hand .ensures .0) (c .before .before .hand .ensures .1))
 
 pub write-spec : {M : Type 1} → statement M
 write-spec =

@@ -1,4 +1,5 @@
--- `base::bytes::are_same` meets its contract. The loop's invariant: the bytes from here on are the same exactly if all are.
+-- `base::bytes::are_same` meets its contract. The loop's invariant: the bytes from here on are the same exactly if all
+-- are.
 -- Assumes nothing.
 use mathlib.Core.Path.{_≡_, refl}
 use Prim.Native.Nat.{_-_}
@@ -30,7 +31,8 @@ shared-slice-read-if2-2 : tie.Need-shared-slice-read-if2-2 Inv-loop μ-loop
 shared-slice-read-if2-2 c = omega arith
 
 returns-2 : tie.Need-returns-2 Inv-loop μ-loop
-returns-2 c = same-differ (c .before .before .before .before .before .before .args .a .now) (c .before .before .before .before .before .before .args .b .now) (c .before .before .before .before .loop .i) (c .if2 .taken)
+returns-2 c = same-differ (c .before .before .before .before .before .before .args .a .now) (c .before .before .before .before .before .before .args .b .now)
+    (c .before .before .before .before .loop .i) (c .if2 .taken)
 
 add-i : tie.Need-add-i Inv-loop μ-loop
 add-i c = omega arith
@@ -39,10 +41,13 @@ loop-less : tie.Need-loop-less Inv-loop μ-loop
 loop-less c = omega arith
 
 loop-again : tie.Need-loop-again Inv-loop μ-loop
-loop-again c = same-next (c .before .before .before .before .before .before .args .a .now) (c .before .before .before .before .before .before .args .b .now) (c .before .before .before .before .loop .i) (c .before .before .before .before .before .if1 .left) (c .if2 .left) (c .before .before .before .before .loop .inv)
+loop-again c =
+    let c4 = c .before .before .before .before in
+    same-next (c4 .before .before .args .a .now) (c4 .before .before .args .b .now) (c4 .loop .i) (c4 .before .if1 .left) (c .if2 .left) (c4 .loop .inv)
 
 returns-3 : tie.Need-returns-3 Inv-loop μ-loop
-returns-3 c = same-end (c .before .before .before .args .a .now) (c .before .before .before .args .b .now) (c .before .loop .i) (c .before .before .if1 .left) (c .loop-test .left) (c .before .loop .inv)
+returns-3 c = same-end (c .before .before .before .args .a .now) (c .before .before .before .args .b .now) (c .before .loop .i) (c .before .before .if1 .left)
+    (c .loop-test .left) (c .before .loop .inv)
 
 pub are-same-spec : {M : Type 1} → statement M
 are-same-spec =

@@ -1,4 +1,5 @@
--- `cbor::head::big_endian` meets its contract. The loop's invariant: the bytes passed spell `value`, a number of that many bytes.
+-- `cbor::head::big_endian` meets its contract. The loop's invariant: the bytes passed spell `value`, a number of that
+-- many bytes.
 -- Assumes nothing.
 use mathlib.Core.Path.{_≡_, refl}
 use Prim.Native.Nat.{_≤_, _<_, _-_, _+_, _*_, _^_}
@@ -59,7 +60,8 @@ shared-slice-read-value : tie.Need-shared-slice-read-value Inv-loop μ-loop
 shared-slice-read-value c = omega arith
 
 -- the next byte makes a number of one byte more
-grown : (c : tie.After-shared-slice-known5 Inv-loop μ-loop) → c .before .before .loop .value * 256 + getD (c .before .before .before .before .before .before .args .s .now) (c .before .before .loop .i) 0 < 2 ^ (8 * (c .before .before .loop .i + 1))
+grown : (c : tie.After-shared-slice-known5 Inv-loop μ-loop) → c .before .before .loop .value * 256
+    + getD (c .before .before .before .before .before .before .args .s .now) (c .before .before .loop .i) 0 < 2 ^ (8 * (c .before .before .loop .i + 1))
 grown c =
     let at-loop = c .before .before .loop in
     below-more (at-loop .i) (at-loop .value) _ (at-loop .inv .2) (c .shared-slice-known5 .given (at-loop .i) .fits)

@@ -44,7 +44,9 @@ read-from-requires : tie.Need-read-from-requires
 read-from-requires c κs = search needs
 
 returns-2 : tie.Need-returns-2
-returns-2 c = c .read-from .ensures ∙ ap (headOf (getD (c .before .before .before .before .before .args .s .now) 0 0)) (rest-is 1 (c .before .before .before .before .before .args .s .now)) ∙ nonempty (c .before .before .before .before .before .args .s .now) (c .before .before .before .if1 .left)
+returns-2 c =
+    let args = c .before .before .before .before .before .args in
+    c .read-from .ensures ∙ ap (headOf (getD (args .s .now) 0 0)) (rest-is 1 (args .s .now)) ∙ nonempty (args .s .now) (c .before .before .before .if1 .left)
 
 pub read-spec : {M : Type 1} → statement M
 read-spec =

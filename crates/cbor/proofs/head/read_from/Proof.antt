@@ -25,11 +25,14 @@ read-argument-requires c κs = subst InitialOk (sym (c .before .before .before .
 
 returns : tie.Need-returns
 unfolding headOf headBy
-returns c = ap (headBy (c .before .before .before .before .before .args .first) (c .before .before .before .before .before .args .rest .now)) (sym (c .before .begun .given .1) ∙ c .before .before .before .initial-byte .ensures)
+returns c = ap (headBy (c .before .before .before .before .before .args .first) (c .before .before .before .before .before .args .rest .now))
+    (sym (c .before .begun .given .1) ∙ c .before .before .before .initial-byte .ensures)
 
 returns-2 : tie.Need-returns-2
 unfolding headOf headBy
-returns-2 c = c .read-argument .ensures ∙ ap (headBy (c .before .before .before .before .before .before .args .first) (c .before .before .before .before .before .before .args .rest .now)) (sym (c .before .before .begun2 .given .1) ∙ c .before .before .before .before .initial-byte .ensures)
+returns-2 c = c .read-argument .ensures
+    ∙ ap (headBy (c .before .before .before .before .before .before .args .first) (c .before .before .before .before .before .before .args .rest .now))
+    (sym (c .before .before .begun2 .given .1) ∙ c .before .before .before .before .initial-byte .ensures)
 
 pub read-from-spec : {M : Type 1} → statement M
 read-from-spec =

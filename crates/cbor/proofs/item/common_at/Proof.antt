@@ -23,7 +23,9 @@ shared-slice-read-first c = search needs
 
 returns-2 : tie.Need-returns-2
 unfolding CommonIs
-returns-2 c = small-passed (c .before .before .before .before .args .s .now) (c .before .before .before .before .args .at) (c .before .before .before .before .args .left) (omega arith) (c .if2 .taken)
+returns-2 c =
+    let args = c .before .before .before .before .args in
+    small-passed (args .s .now) (args .at) (args .left) (omega arith) (c .if2 .taken)
 
 sub-rest : tie.Need-sub-rest
 sub-rest c = search needs
@@ -46,7 +48,10 @@ add-t15 c = search needs
 
 returns-4 : tie.Need-returns-4
 unfolding CommonIs
-returns-4 c = string-passed (c .before .before .before .before .before .before .before .before .args .s .now) (c .before .before .before .before .before .before .before .before .args .at) (c .before .before .before .before .before .before .before .before .args .left) (c .before .before .if4 .left) (c .before .before .before .if3 .taken) (c .before .if5 .taken) (c .if6 .taken)
+returns-4 c =
+    let args = c .before .before .before .before .before .before .before .before .args in
+    string-passed (args .s .now) (args .at) (args .left) (c .before .before .if4 .left) (c .before .before .before .if3 .taken)
+    (c .before .if5 .taken) (c .if6 .taken)
 
 returns-5 : tie.Need-returns-5
 unfolding CommonIs
@@ -61,13 +66,17 @@ cast-t18 c = search needs
 
 returns-7 : tie.Need-returns-7
 unfolding CommonIs itemsOf pick
-returns-7 c = (_, false, array-opened (c .before .before .before .before .before .before .before .args .s .now) (c .before .before .before .before .before .before .before .args .at) (c .before .before .before .before .before .before .before .args .left) (c .before .before .if3 .left) (c .if8 .taken) (c .before .if7 .taken), refl)
+returns-7 c =
+    let args = c .before .before .before .before .before .before .before .args in
+    (_, false, array-opened (args .s .now) (args .at) (args .left) (c .before .before .if3 .left) (c .if8 .taken) (c .before .if7 .taken), refl)
 
 common-other-requires : tie.Need-common-other-requires
 common-other-requires c κs = search needs
 
 returns-8 : tie.Need-returns-8
-returns-8 c = by-byte (c .before .before .before .before .before .before .before .before .args .s .now) (c .before .before .before .before .before .before .before .before .args .at) (c .before .before .before .before .before .before .before .before .args .left) _ (omega arith) (c .common-other .ensures) (c .before .before .if7 .taken)
+returns-8 c =
+    let args = c .before .before .before .before .before .before .before .before .args in
+    by-byte (args .s .now) (args .at) (args .left) _ (omega arith) (c .common-other .ensures) (c .before .before .if7 .taken)
 
 returns-9 : tie.Need-returns-9
 unfolding CommonIs

@@ -20,7 +20,8 @@ shared-slice-read-if3 c = search needs
 
 returns : tie.Need-returns
 unfolding CommonIs
-returns c = λ left. byte-passed (c .before .before .before .before .before .args .s .now) (c .before .before .before .before .before .args .at) left (c .before .before .before .if1 .taken) (c .if3 .taken)
+returns c = λ left. byte-passed (c .before .before .before .before .before .args .s .now) (c .before .before .before .before .before .args .at) left
+    (c .before .before .before .if1 .taken) (c .if3 .taken)
 
 returns-2 : tie.Need-returns-2
 unfolding CommonIs
@@ -38,7 +39,8 @@ shared-slice-read-if6 c = search needs
 
 returns-4 : tie.Need-returns-4
 unfolding CommonIs
-returns-4 c = λ left. two-passed (c .before .before .before .before .before .before .args .s .now) (c .before .before .before .before .before .before .args .at) left (omega arith) (c .before .before .before .if4 .taken) (c .if6 .taken)
+returns-4 c = λ left. two-passed (c .before .before .before .before .before .before .args .s .now)
+    (c .before .before .before .before .before .before .args .at) left (omega arith) (c .before .before .before .if4 .taken) (c .if6 .taken)
 
 returns-5 : tie.Need-returns-5
 unfolding CommonIs

@@ -1,5 +1,6 @@
--- `cbor::item::first` meets its contract. `Inv` of `Turn` is the loop's invariant. The measure counts two for each byte left and one for
--- each open level around the innermost: a turn passes a byte, and opens one level at most, or closes one.
+-- `cbor::item::first` meets its contract. `Inv` of `Turn` is the loop's invariant. The measure counts two for each byte
+-- left and one for each open level around the innermost: a turn passes a byte, and opens one level at most, or closes
+-- one.
 -- Assumes nothing.
 use mathlib.Core.Path.{_≡_, subst}
 use mathlib.Core.List.{List}
@@ -94,7 +95,8 @@ loop-holds c =
 returns : tie.Need-returns Inv-loop μ-loop
 returns c =
     let l = c .before .before in
-    done _ (l .before .before .before .args .s .now) _ (l .loop .outer) (l .loop .depth) (l .loop .lacking) (l .loop .at) (l .loop .inv) (c .before .if1 .taken) (c .if2 .taken)
+    done _ (l .before .before .before .args .s .now) _ (l .loop .outer) (l .loop .depth) (l .loop .lacking) (l .loop .at) (l .loop .inv)
+    (c .before .if1 .taken) (c .if2 .taken)
 
 sub-depth : tie.Need-sub-depth Inv-loop μ-loop
 sub-depth c = search needs
@@ -111,7 +113,8 @@ loop-less c = search needs
 loop-again : tie.Need-loop-again Inv-loop μ-loop
 loop-again c =
     let l = c .before .before in
-    closed _ (l .before .before .before .args .s .now) _ (l .loop .outer) (l .loop .depth) (l .loop .lacking) (l .loop .at) (l .loop .inv) (l .loop .depth - 1) (c .before .if1 .taken) (omega arith)
+    closed _ (l .before .before .before .args .s .now) _ (l .loop .outer) (l .loop .depth) (l .loop .lacking) (l .loop .at) (l .loop .inv) (l .loop .depth - 1)
+    (c .before .if1 .taken) (omega arith)
 
 sub-turn-at : tie.Need-sub-turn-at Inv-loop μ-loop
 sub-turn-at c = search needs

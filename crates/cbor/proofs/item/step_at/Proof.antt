@@ -22,15 +22,20 @@ enum-known-head-2 : tie.Need-enum-known-head-2
 enum-known-head-2 c = search needs
 
 step-of-requires : tie.Need-step-of-requires
-step-of-requires c κs = subst (HeadOk (length (c .before .before .before .before .before .args .s .now))) (sym (c .before .before .before .read .ensures) ∙ c .before .head2 .given .1) (head-ok (c .before .before .before .before .before .args .s .now)) .1
+step-of-requires c κs =
+    let s = c .before .before .before .before .before .args .s .now in
+    subst (HeadOk (length s)) (sym (c .before .before .before .read .ensures) ∙ c .before .head2 .given .1) (head-ok s) .1
 
 returns : tie.Need-returns
 unfolding stepAt stepFrom
-returns c = ap (stepFrom (c .before .before .before .before .before .args .left) (length (c .before .before .before .before .before .args .s .now))) (sym (c .before .head .given .1) ∙ c .before .before .before .read .ensures)
+returns c = ap (stepFrom (c .before .before .before .before .before .args .left) (length (c .before .before .before .before .before .args .s .now)))
+    (sym (c .before .head .given .1) ∙ c .before .before .before .read .ensures)
 
 returns-2 : tie.Need-returns-2
 unfolding stepAt stepFrom
-returns-2 c = c .step-of .ensures ∙ ap (stepFrom (c .before .before .before .before .before .before .args .left) (length (c .before .before .before .before .before .before .args .s .now))) (sym (c .before .before .head2 .given .1) ∙ c .before .before .before .before .read .ensures)
+returns-2 c = c .step-of .ensures
+    ∙ ap (stepFrom (c .before .before .before .before .before .before .args .left) (length (c .before .before .before .before .before .before .args .s .now)))
+    (sym (c .before .before .head2 .given .1) ∙ c .before .before .before .before .read .ensures)
 
 pub step-at-spec : {M : Type 1} → statement M
 step-at-spec =

@@ -24,7 +24,8 @@ opens-requires c κs = search needs
 
 returns-3 : tie.Need-returns-3
 unfolding stepOf pick
-returns-3 c = rw (ne-eqb _ _ (c .before .before .before .if1 .left), le-leb _ _ (c .before .before .if2 .taken), ne-eqb _ _ (c .before .if3 .left)) (c .opens .ensures)
+returns-3 c =
+    rw (ne-eqb _ _ (c .before .before .before .if1 .left), le-leb _ _ (c .before .before .if2 .taken), ne-eqb _ _ (c .before .if3 .left)) (c .opens .ensures)
 
 sub-if5 : tie.Need-sub-if5
 sub-if5 c = search needs

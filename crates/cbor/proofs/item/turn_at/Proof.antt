@@ -45,14 +45,22 @@ turn-of-requires c κs = search needs
 
 returns : tie.Need-returns
 unfolding TurnIs CommonIs
-returns c = subst (CommonIs (c .before .before .before .before .before .args .left) (drop (c .before .before .before .before .before .args .at) (c .before .before .before .before .before .args .s .now))) (c .before .common .given .1) (c .before .before .before .common-at .ensures)
+returns c =
+    let args = c .before .before .before .before .before .args in
+    subst (CommonIs (args .left) (drop (args .at) (args .s .now))) (c .before .common .given .1) (c .before .before .before .common-at .ensures)
 
 returns-2 : tie.Need-returns-2
 unfolding Counts TurnIs CommonIs
-returns-2 c = let (m, pairs, gives, many) = subst (CommonIs (c .before .before .before .before .before .args .left) (drop (c .before .before .before .before .before .args .at) (c .before .before .before .before .before .args .s .now))) (c .before .common2 .given .1) (c .before .before .before .common-at .ensures) in (m, pairs, gives, inl many)
+returns-2 c =
+    let args = c .before .before .before .before .before .args in
+    let (m, pairs, gives, many) = subst (CommonIs (args .left) (drop (args .at) (args .s .now))) (c .before .common2 .given .1)
+    (c .before .before .before .common-at .ensures) in (m, pairs, gives, inl many)
 
 returns-3 : tie.Need-returns-3
-returns-3 c = subst (λ (step : Step). TurnIs step (c .turn-of .result)) (c .before .step-at .ensures ∙ ap (stepAt (c .before .before .before .before .before .before .before .args .left)) (rest-is (c .before .before .before .before .before .before .before .args .at) (c .before .before .before .before .before .before .before .args .s .now))) (c .turn-of .ensures)
+returns-3 c =
+    let args = c .before .before .before .before .before .before .before .args in
+    subst (λ (step : Step). TurnIs step (c .turn-of .result)) (c .before .step-at .ensures ∙ ap (stepAt (args .left)) (rest-is (args .at) (args .s .now)))
+    (c .turn-of .ensures)
 
 pub turn-at-spec : {M : Type 1} → statement M
 turn-at-spec =

@@ -41,7 +41,10 @@ info-requires : tie.Need-info-requires
 info-requires c κs = sized-len _ _ (c .before .before .before .head-len .ensures) (c .before .before .before .before .before .fits .arg .fits)
 
 add-out : tie.Need-add-out
-add-out c = omega (arith, info-lt (sized-len _ _ (c .before .before .before .before .head-len .ensures) (c .before .before .before .before .before .before .fits .arg .fits)))
+add-out c = omega (
+  arith,
+  info-lt (sized-len _ _ (c .before .before .before .before .head-len .ensures) (c .before .before .before .before .before .before .fits .arg .fits)),
+)
 
 slice-write-out : tie.Need-slice-write-out
 slice-write-out c = search needs
@@ -60,7 +63,9 @@ same-length c = c .before .out .given ∙ simp length-set
 
 returns-4 : tie.Need-returns-4
 returns-4 c =
-    head-stored _ _ _ _ _ _ _ (c .before .before .before .before .before .before .before .before .head-len .ensures) (c .before .before .before .before .info .ensures) (c .before .before .before .before .before .before .before .if1 .left) (omega arith) (c .before .before .spell .ensures)
+    head-stored _ _ _ _ _ _ _ (c .before .before .before .before .before .before .before .before .head-len .ensures)
+    (c .before .before .before .before .info .ensures) (c .before .before .before .before .before .before .before .if1 .left) (omega arith)
+    (c .before .before .spell .ensures)
 
 pub head-spec : {M : Type 1} → statement M
 head-spec =

@@ -1,4 +1,5 @@
--- `cbor::put::head_len` meets its contract: the definition's tests are the code's. The first two answers are said by `omega`, so that a slip in 24 is named.
+-- `cbor::put::head_len` meets its contract: the definition's tests are the code's. The first two answers are said by
+-- `omega`, so that a slip in 24 is named.
 -- Assumes nothing.
 use Prim.Native.Nat.{_^_}
 use native.Mathlib.Omega.{arith}

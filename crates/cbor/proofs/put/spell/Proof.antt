@@ -1,5 +1,5 @@
--- `cbor::put::spell` meets its contract. The loop's invariant: the bytes that are left, put into the buffer as it is, give what all of them give in the
--- buffer as it was. The measure is how many are left.
+-- `cbor::put::spell` meets its contract. The loop's invariant: the bytes that are left, put into the buffer as it is,
+-- give what all of them give in the buffer as it was. The measure is how many are left.
 -- Assumes nothing.
 use mathlib.Core.Path.{_≡_, _∙_}
 use Prim.Native.Nat.{_≤_}
@@ -12,7 +12,8 @@ use Rattle.cbor.proofs.put.spell.Statement.{statement}
 use Rattle.cbor.proofs.put.spell.Tie as tie
 
 abbrev Inv-loop : tie.InvT-loop
-Inv-loop out₀ at n value left₀ rest₀ out left rest = (length out ≡ length out₀) × (left ≤ n) × (sets out at (bytesOf left rest) ≡ sets out₀ at (bytesOf n value))
+Inv-loop out₀ at n value left₀ rest₀ out left rest =
+    (length out ≡ length out₀) × (left ≤ n) × (sets out at (bytesOf left rest) ≡ sets out₀ at (bytesOf n value))
 
 abbrev μ-loop : tie.MeasureT-loop
 μ-loop out₀ at n value left₀ rest₀ out left rest = left

@@ -29,7 +29,8 @@ token-of-requires c κs = search needs
 returns : tie.Need-returns
 returns c =
     let k = c .before .before .before .before .before in
-    token-told (k .args .s .now) (k .args .at) _ _ _ _ _ (small-head (k .args .s .now) (k .args .at) (c .before .before .before .if1 .taken) (c .before .if2 .taken)) refl (c .token-of .ensures)
+    token-told (k .args .s .now) (k .args .at) _ _ _ _ _
+    (small-head (k .args .s .now) (k .args .at) (c .before .before .before .if1 .taken) (c .before .if2 .taken)) refl (c .token-of .ensures)
 
 add-high : tie.Need-add-high
 add-high c = search needs
@@ -46,7 +47,8 @@ token-of-requires-2 c κs = search needs
 returns-2 : tie.Need-returns-2
 returns-2 c =
     let k = c .before .before .before .before .before .before .before .before .before in
-    token-told (k .args .s .now) (k .args .at) _ _ _ _ _ (two-bytes (k .args .s .now) (k .args .at) (c .before .before .before .before .if3 .taken) (c .before .if5 .taken)) refl (c .token-of2 .ensures)
+    token-told (k .args .s .now) (k .args .at) _ _ _ _ _
+    (two-bytes (k .args .s .now) (k .args .at) (c .before .before .before .before .if3 .taken) (c .before .if5 .taken)) refl (c .token-of2 .ensures)
 
 add-high-2 : tie.Need-add-high-2
 add-high-2 c = search needs
@@ -68,8 +70,11 @@ token-of-requires-3 c κs = search needs
 
 returns-3 : tie.Need-returns-3
 returns-3 c =
-    let k = c .before .before .before .before .before .before .before .before .before .before .before .before in
-    token-told (k .args .s .now) (k .args .at) _ _ _ _ _ (three-bytes (k .args .s .now) (k .args .at) (omega arith) (c .before .before .before .before .before .before .if6 .taken) (c .before .before .before .if8 .taken)) (c .before .two .ensures) (c .token-of3 .ensures)
+    let c6 = c .before .before .before .before .before .before in
+    let k = c6 .before .before .before .before .before .before in
+    token-told (k .args .s .now) (k .args .at) _ _ _ _ _
+    (three-bytes (k .args .s .now) (k .args .at) (omega arith) (c6 .if6 .taken) (c .before .before .before .if8 .taken)) (c .before .two .ensures)
+    (c .token-of3 .ensures)
 
 token-at-requires : tie.Need-token-at-requires
 token-at-requires c κs = search needs

@@ -26,7 +26,8 @@ token-of-requires c κs = search needs
 returns : tie.Need-returns
 returns c =
     let k = c .before .before .before .before .before in
-    token-told (k .args .s .now) (k .args .at) _ _ _ _ _ (one-byte (k .args .s .now) (k .args .at) (c .before .before .before .if1 .taken) (c .before .if2 .taken)) refl (c .token-of .ensures)
+    token-told (k .args .s .now) (k .args .at) _ _ _ _ _
+    (one-byte (k .args .s .now) (k .args .at) (c .before .before .before .if1 .taken) (c .before .if2 .taken)) refl (c .token-of .ensures)
 
 token-at-requires : tie.Need-token-at-requires
 token-at-requires c κs = search needs

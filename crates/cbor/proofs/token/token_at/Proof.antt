@@ -45,7 +45,11 @@ sub-token-of : tie.Need-sub-token-of
 sub-token-of c = search needs
 
 token-of-requires : tie.Need-token-of-requires
-token-of-requires c κs = (head-fits (c .before .before .before .before .before .before .before .args .s .now) (c .before .before .before .before .before .before .before .args .at) _ _ _ _ (c .before .before .before .read .ensures) (c .before .head .given .1), omega (arith, c .before .before .before .before .before .before .before .good, c .before .before .before .before .before .if1 .left))
+token-of-requires c κs =
+    let c7 = c .before .before .before .before .before .before .before in (
+      head-fits (c7 .args .s .now) (c7 .args .at) _ _ _ _ (c .before .before .before .read .ensures) (c .before .head .given .1),
+      omega (arith, c7 .good, c .before .before .before .before .before .if1 .left),
+    )
 
 returns-2 : tie.Need-returns-2
 unfolding tokenFrom
@@ -53,7 +57,8 @@ returns-2 c = token-found _ _ _ (HeadRead.Refused _ _) _ (c .before .before .bef
 
 returns-3 : tie.Need-returns-3
 unfolding tokenFrom
-returns-3 c = token-found _ _ _ (HeadRead.Head _ _ _) _ (c .before .before .before .before .read .ensures) (c .before .before .head .given .1) (c .token-of .ensures)
+returns-3 c =
+    token-found _ _ _ (HeadRead.Head _ _ _) _ (c .before .before .before .before .read .ensures) (c .before .before .head .given .1) (c .token-of .ensures)
 
 pub token-at-spec : {M : Type 1} → statement M
 token-at-spec =

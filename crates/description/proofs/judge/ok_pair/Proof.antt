@@ -52,11 +52,22 @@ ok-none-or-requires c κs = search needs
 
 returns-2 : tie.Need-returns-2
 unfolding okPair pick
-returns-2 c = rw (eq-eqb _ _ (c .before .before .before .before .before .if1 .left), ← (c .before .before .before .before .objective-row-at .ensures), ← (c .before .before .before .locator-row-at .ensures), ← (c .before .before .ok-objective-row .ensures), (c .before .if2 .taken)) (c .ok-none-or .ensures)
+returns-2 c = rw (
+  eq-eqb _ _ (c .before .before .before .before .before .if1 .left),
+  ← (c .before .before .before .before .objective-row-at .ensures),
+  ← (c .before .before .before .locator-row-at .ensures),
+  ← (c .before .before .ok-objective-row .ensures),
+  (c .before .if2 .taken),
+) (c .ok-none-or .ensures)
 
 returns-3 : tie.Need-returns-3
 unfolding okPair pick
-returns-3 c = rw (eq-eqb _ _ (c .before .before .before .before .if1 .left), ← (c .before .before .before .objective-row-at .ensures), ← (c .before .ok-objective-row .ensures), (c .if2 .left))
+returns-3 c = rw (
+  eq-eqb _ _ (c .before .before .before .before .if1 .left),
+  ← (c .before .before .before .objective-row-at .ensures),
+  ← (c .before .ok-objective-row .ensures),
+  (c .if2 .left),
+)
 
 pub ok-pair-spec : {M : Type 1} → statement M
 ok-pair-spec =

@@ -22,7 +22,12 @@ ok-extra-requires c κs = search needs
 
 returns : tie.Need-returns
 unfolding okResponse pick
-returns c = rw (← (c .before .before .before .before .is-inside .ensures), (c .before .before .before .if1 .taken), ← (c .before .before .ok-rows .ensures), (c .before .if2 .taken)) (c .ok-extra .ensures)
+returns c = rw (
+  ← (c .before .before .before .before .is-inside .ensures),
+  (c .before .before .before .if1 .taken),
+  ← (c .before .before .ok-rows .ensures),
+  (c .before .if2 .taken),
+) (c .ok-extra .ensures)
 
 returns-2 : tie.Need-returns-2
 unfolding okResponse pick

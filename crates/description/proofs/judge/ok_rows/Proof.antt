@@ -32,7 +32,8 @@ ok-row-requires : tie.Need-ok-row-requires Inv-loop μ-loop
 ok-row-requires c κs = omega arith
 
 returns-2 : tie.Need-returns-2 Inv-loop μ-loop
-returns-2 c = sym (all-stop _ _ _ (c .before .before .loop-test .taken) (sym (c .before .ok-row .ensures) ∙ not-true _ (c .if2 .taken))) ∙ (c .before .before .before .loop .inv .1)
+returns-2 c = sym (all-stop _ _ _ (c .before .before .loop-test .taken) (sym (c .before .ok-row .ensures) ∙ not-true _ (c .if2 .taken)))
+    ∙ (c .before .before .before .loop .inv .1)
 
 add-i : tie.Need-add-i Inv-loop μ-loop
 add-i c = omega arith

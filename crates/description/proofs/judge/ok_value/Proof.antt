@@ -27,7 +27,8 @@ ok-bytes-requires : tie.Need-ok-bytes-requires
 ok-bytes-requires c κs = search needs
 
 returns-2 : tie.Need-returns-2
-returns-2 c = value-rest (c .before .before .before .before .before .args .source .now) (c .before .before .before .before .before .args .s) _ (c .before .before .if2 .taken) (c .ok-bytes .ensures)
+returns-2 c = value-rest (c .before .before .before .before .before .args .source .now) (c .before .before .before .before .before .args .s) _
+    (c .before .before .if2 .taken) (c .ok-bytes .ensures)
 
 add-end : tie.Need-add-end
 add-end c = search needs
@@ -45,7 +46,8 @@ ok-bytes-requires-2 : tie.Need-ok-bytes-requires-2
 ok-bytes-requires-2 c κs = search needs
 
 returns-3 : tie.Need-returns-3
-returns-3 c = value-in (c .before .before .before .before .before .args .source .now) (c .before .before .before .before .before .args .s) _ (c .ok-bytes2 .ensures)
+returns-3 c =
+    value-in (c .before .before .before .before .before .args .source .now) (c .before .before .before .before .before .args .s) _ (c .ok-bytes2 .ensures)
 
 pub ok-value-spec : {M : Type 1} → statement M
 ok-value-spec =

@@ -39,7 +39,8 @@ number-requires-5 : tie.Need-number-requires-5
 number-requires-5 c κs = search needs
 
 returns-2 : tie.Need-returns-2
-returns-2 c = locator-row-is _ _ (c .before .before .before .before .number .ensures) (c .before .before .before .number2 .ensures) (c .before .before .number3 .ensures) (c .before .number4 .ensures) (c .number5 .ensures)
+returns-2 c = locator-row-is _ _ (c .before .before .before .before .number .ensures) (c .before .before .before .number2 .ensures)
+    (c .before .before .number3 .ensures) (c .before .number4 .ensures) (c .number5 .ensures)
 
 pub locator-row-at-spec : {M : Type 1} → statement M
 locator-row-at-spec =

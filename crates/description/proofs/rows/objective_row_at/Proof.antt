@@ -45,7 +45,8 @@ number-requires-6 : tie.Need-number-requires-6
 number-requires-6 c κs = search needs
 
 returns-2 : tie.Need-returns-2
-returns-2 c = objective-row-is _ _ (c .before .before .before .before .before .number .ensures) (c .before .before .before .before .number2 .ensures) (c .before .before .before .number3 .ensures) (c .before .before .number4 .ensures) (c .before .number5 .ensures) (c .number6 .ensures)
+returns-2 c = objective-row-is _ _ (c .before .before .before .before .before .number .ensures) (c .before .before .before .before .number2 .ensures)
+    (c .before .before .before .number3 .ensures) (c .before .before .number4 .ensures) (c .before .number5 .ensures) (c .number6 .ensures)
 
 pub objective-row-at-spec : {M : Type 1} → statement M
 objective-row-at-spec =

@@ -20,7 +20,8 @@ same-length c = search needs
 
 returns : tie.Need-returns
 unfolding encodeMsg encodeOutc
-returns c = then (c .before .before .before .before .before .before .before .before .before .before .put-preamble .ensures) (then (c .before .before .before .before .before .before .head .ensures) (c .before .before .head2 .ensures))
+returns c = then (c .before .before .before .before .before .before .before .before .before .before .put-preamble .ensures)
+    (then (c .before .before .before .before .before .before .head .ensures) (c .before .before .head2 .ensures))
 
 pub put-accept-spec : {M : Type 1} → statement M
 put-accept-spec =

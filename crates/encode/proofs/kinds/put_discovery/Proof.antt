@@ -20,7 +20,8 @@ same-length c = search needs
 
 returns : tie.Need-returns
 unfolding encodeMsg
-returns c = then (then (c .before .before .before .before .before .before .before .before .before .before .put-preamble .ensures) (c .before .before .before .before .before .before .part-string .ensures)) (c .before .before .put-given .ensures)
+returns c = then (then (c .before .before .before .before .before .before .before .before .before .before .put-preamble .ensures)
+    (c .before .before .before .before .before .before .part-string .ensures)) (c .before .before .put-given .ensures)
 
 pub put-discovery-spec : {M : Type 1} → statement M
 put-discovery-spec =

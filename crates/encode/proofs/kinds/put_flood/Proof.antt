@@ -27,7 +27,10 @@ same-length c = search needs
 
 returns : tie.Need-returns
 unfolding encodeMsg
-returns c = rw (length-pairs) (then (then (then (c .before .before .before .before .before .before .before .before .before .before .before .before .before .before .put-preamble .ensures) (c .before .before .before .before .before .before .before .before .before .before .part-string .ensures)) (c .before .before .before .before .before .before .head .ensures)) (c .before .before .put-pairs .ensures))
+returns c =
+    let c10 = c .before .before .before .before .before .before .before .before .before .before in
+    rw (length-pairs) (then (then (then (c10 .before .before .before .before .put-preamble .ensures) (c10 .part-string .ensures))
+    (c .before .before .before .before .before .before .head .ensures)) (c .before .before .put-pairs .ensures))
 
 pub put-flood-spec : {M : Type 1} → statement M
 put-flood-spec =

@@ -13,7 +13,11 @@ one-more-requires : tie.Need-one-more-requires
 one-more-requires c κs = search needs
 
 add-put-preamble : tie.Need-add-put-preamble
-add-put-preamble c = omega (arith, (c .before .one-more .ensures), more-le (held (c .before .before .before .before .args .source .now) (c .before .before .before .before .args .item)))
+add-put-preamble c = omega (
+  arith,
+  (c .before .one-more .ensures),
+  more-le (held (c .before .before .before .before .args .source .now) (c .before .before .before .before .args .item)),
+)
 
 put-preamble-requires : tie.Need-put-preamble-requires
 put-preamble-requires c κs = search needs
@@ -26,7 +30,8 @@ same-length c = search needs
 
 returns : tie.Need-returns
 unfolding encodeMsg
-returns c = rw (← (c .before .before .before .before .before .before .before .before .one-more .ensures)) (then (c .before .before .before .before .before .before .put-preamble .ensures) (c .before .before .part .ensures))
+returns c = rw (← (c .before .before .before .before .before .before .before .before .one-more .ensures))
+    (then (c .before .before .before .before .before .before .put-preamble .ensures) (c .before .before .part .ensures))
 
 pub put-invalid-spec : {M : Type 1} → statement M
 put-invalid-spec =

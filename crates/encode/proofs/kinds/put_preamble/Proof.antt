@@ -20,7 +20,8 @@ same-length c = search needs
 
 returns : tie.Need-returns
 unfolding preamble
-returns c = then (then (c .before .before .before .before .before .before .before .before .before .before .head .ensures) (c .before .before .before .before .before .before .head2 .ensures)) (c .before .before .head3 .ensures)
+returns c = then (then (c .before .before .before .before .before .before .before .before .before .before .head .ensures)
+    (c .before .before .before .before .before .before .head2 .ensures)) (c .before .before .head3 .ensures)
 
 pub put-preamble-spec : {M : Type 1} → statement M
 put-preamble-spec =

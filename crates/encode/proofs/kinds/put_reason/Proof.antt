@@ -23,7 +23,10 @@ same-length c = search needs
 
 returns : tie.Need-returns
 unfolding encodeMsg encodeOutc
-returns c = then (c .before .before .before .before .before .before .before .before .before .before .before .before .before .before .put-preamble .ensures) (then (then (c .before .before .before .before .before .before .before .before .before .before .head .ensures) (c .before .before .before .before .before .before .head2 .ensures)) (c .before .before .part-string .ensures))
+returns c =
+    let c10 = c .before .before .before .before .before .before .before .before .before .before in
+    then (c10 .before .before .before .before .put-preamble .ensures)
+    (then (then (c10 .head .ensures) (c .before .before .before .before .before .before .head2 .ensures)) (c .before .before .part-string .ensures))
 
 pub put-reason-spec : {M : Type 1} → statement M
 put-reason-spec =

@@ -40,7 +40,12 @@ same-length c = search needs
 
 returns : tie.Need-returns
 unfolding encodeMsg
-returns c = rw (← targets-many, ← extra-many, ← (c .before .before .before .before .before .before .before .before .before .before .before .before .before .before .before .before .before .before .before .before .before .target-items .ensures), ← (c .before .before .before .before .before .before .before .before .before .before .before .before .before .before .before .before .before .before .before .before .how-many .ensures)) (then (then (then (then (c .before .before .before .before .before .before .before .before .before .before .before .before .before .before .before .before .before .before .put-preamble .ensures) (c .before .before .before .before .before .before .before .before .before .before .before .before .before .before .part-string .ensures)) (c .before .before .before .before .before .before .before .before .before .before .head .ensures)) (c .before .before .before .before .before .before .put-targets .ensures)) (c .before .before .put-extra .ensures))
+returns c =
+    let c10 = c .before .before .before .before .before .before .before .before .before .before in
+    let c18 = c10 .before .before .before .before .before .before .before .before in
+    rw (← targets-many, ← extra-many, ← (c18 .before .before .before .target-items .ensures), ← (c18 .before .before .how-many .ensures))
+    (then (then (then (then (c18 .put-preamble .ensures) (c10 .before .before .before .before .part-string .ensures)) (c10 .head .ensures))
+    (c .before .before .before .before .before .before .put-targets .ensures)) (c .before .before .put-extra .ensures))
 
 pub put-response-spec : {M : Type 1} → statement M
 put-response-spec =

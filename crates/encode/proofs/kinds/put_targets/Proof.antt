@@ -25,7 +25,10 @@ same-length c = search needs
 
 returns : tie.Need-returns
 unfolding encodeTargets targetsOf
-returns c = rw ((c .before .before .before .before .before .before .before .before .before .before .before .before .if1 .taken), length-locs) (then (then (c .before .before .before .before .before .before .before .before .before .before .head .ensures) (c .before .before .before .before .before .before .head2 .ensures)) (c .before .before .put-rows .ensures))
+returns c =
+    let c10 = c .before .before .before .before .before .before .before .before .before .before in
+    rw ((c10 .before .before .if1 .taken), length-locs)
+    (then (then (c10 .head .ensures) (c .before .before .before .before .before .before .head2 .ensures)) (c .before .before .put-rows .ensures))
 
 put-rows-requires-2 : tie.Need-put-rows-requires-2
 put-rows-requires-2 c κs = search needs

@@ -20,7 +20,8 @@ same-length c = search needs
 
 returns : tie.Need-returns
 unfolding fixed
-returns c = then (then (c .before .before .before .before .before .before .before .before .before .before .put-reached .ensures) (c .before .before .before .before .before .before .head .ensures)) (c .before .before .head2 .ensures)
+returns c = then (then (c .before .before .before .before .before .before .before .before .before .before .put-reached .ensures)
+    (c .before .before .before .before .before .before .head .ensures)) (c .before .before .head2 .ensures)
 
 pub put-fixed-spec : {M : Type 1} → statement M
 put-fixed-spec =

@@ -27,7 +27,8 @@ same-length-2 c = search needs
 
 returns-2 : tie.Need-returns-2
 unfolding encodeLoc locatorRowLoc pick
-returns-2 c = rw (ne-eqb _ _ (c .before .before .before .before .before .if1 .left), eq-eqb _ _ (c .before .before .before .before .if2 .taken)) (c .before .before .put-fixed2 .ensures)
+returns-2 c = rw (ne-eqb _ _ (c .before .before .before .before .before .if1 .left), eq-eqb _ _ (c .before .before .before .before .if2 .taken))
+    (c .before .before .put-fixed2 .ensures)
 
 put-fixed-requires-3 : tie.Need-put-fixed-requires-3
 put-fixed-requires-3 c κs = search needs
@@ -37,7 +38,11 @@ same-length-3 c = search needs
 
 returns-3 : tie.Need-returns-3
 unfolding encodeLoc locatorRowLoc pick
-returns-3 c = rw (ne-eqb _ _ (c .before .before .before .before .before .before .if1 .left), ne-eqb _ _ (c .before .before .before .before .before .if2 .left), eq-eqb _ _ (c .before .before .before .before .if3 .taken)) (c .before .before .put-fixed3 .ensures)
+returns-3 c = rw (
+  ne-eqb _ _ (c .before .before .before .before .before .before .if1 .left),
+  ne-eqb _ _ (c .before .before .before .before .before .if2 .left),
+  eq-eqb _ _ (c .before .before .before .before .if3 .taken),
+) (c .before .before .put-fixed3 .ensures)
 
 put-reached-requires : tie.Need-put-reached-requires
 put-reached-requires c κs = search needs
@@ -53,7 +58,14 @@ same-length-4 c = search needs
 
 returns-4 : tie.Need-returns-4
 unfolding encodeLoc locatorRowLoc pick
-returns-4 c = rw (ne-eqb _ _ (c .before .before .before .before .before .before .before .before .before .before .before .before .before .before .if1 .left), ne-eqb _ _ (c .before .before .before .before .before .before .before .before .before .before .before .before .before .if2 .left), ne-eqb _ _ (c .before .before .before .before .before .before .before .before .before .before .before .before .if3 .left)) (then (then (c .before .before .before .before .before .before .before .before .before .before .put-reached .ensures) (c .before .before .before .before .before .before .put-or-null .ensures)) (c .before .before .put-or-null2 .ensures))
+returns-4 c =
+    let c10 = c .before .before .before .before .before .before .before .before .before .before in
+    rw (
+      ne-eqb _ _ (c10 .before .before .before .before .if1 .left),
+      ne-eqb _ _ (c10 .before .before .before .if2 .left),
+      ne-eqb _ _ (c10 .before .before .if3 .left),
+    ) (then (then (c10 .put-reached .ensures) (c .before .before .before .before .before .before .put-or-null .ensures))
+    (c .before .before .put-or-null2 .ensures))
 
 pub put-locator-row-spec : {M : Type 1} → statement M
 put-locator-row-spec =

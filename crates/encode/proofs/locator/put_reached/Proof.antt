@@ -20,7 +20,8 @@ same-length c = search needs
 
 returns : tie.Need-returns
 unfolding reached
-returns c = then (then (c .before .before .before .before .before .before .before .before .before .before .head .ensures) (c .before .before .before .before .before .before .head2 .ensures)) (c .before .before .part-string .ensures)
+returns c = then (then (c .before .before .before .before .before .before .before .before .before .before .head .ensures)
+    (c .before .before .before .before .before .before .head2 .ensures)) (c .before .before .part-string .ensures)
 
 pub put-reached-spec : {M : Type 1} → statement M
 put-reached-spec =

@@ -13,7 +13,8 @@ use Rattle.encode.proofs.locator.put_rows.Statement.{statement}
 use Rattle.encode.proofs.locator.put_rows.Tie as tie
 
 abbrev Inv-loop : tie.InvT-loop
-Inv-loop out₀ at source list rows end₀ i₀ out end i = (i ≤ length list / locatorRow) × (length out ≡ length out₀) × Wrote out₀ out at (firstRows encodeLoc (rowLoc source list) i) end
+Inv-loop out₀ at source list rows end₀ i₀ out end i =
+    (i ≤ length list / locatorRow) × (length out ≡ length out₀) × Wrote out₀ out at (firstRows encodeLoc (rowLoc source list) i) end
 
 abbrev μ-loop : tie.MeasureT-loop
 μ-loop out₀ at source list rows end₀ i₀ out end i = length list / locatorRow - i

@@ -14,7 +14,11 @@ one-more-requires : tie.Need-one-more-requires
 one-more-requires c κs = search needs
 
 add-head : tie.Need-add-head
-add-head c = omega (arith, (c .before .one-more .ensures), more-le (held (c .before .before .before .before .args .source .now) (c .before .before .before .before .args .o .value)))
+add-head c = omega (
+  arith,
+  (c .before .one-more .ensures),
+  more-le (held (c .before .before .before .before .args .source .now) (c .before .before .before .before .args .o .value)),
+)
 
 head-requires : tie.Need-head-requires
 head-requires c κs = search needs
@@ -36,7 +40,11 @@ same-length c = search needs
 
 returns : tie.Need-returns
 unfolding encodeObj objOf
-returns c = rw (← (c .before .before .before .before .before .before .before .before .before .before .before .before .before .before .before .before .before .before .before .before .one-more .ensures)) (then (then (then (then (c .before .before .before .before .before .before .before .before .before .before .before .before .before .before .before .before .before .before .head .ensures) (c .before .before .before .before .before .before .before .before .before .before .before .before .before .before .part-string .ensures)) (c .before .before .before .before .before .before .before .before .before .before .head2 .ensures)) (c .before .before .before .before .before .before .head3 .ensures)) (c .before .before .part .ensures))
+returns c =
+    let c10 = c .before .before .before .before .before .before .before .before .before .before in
+    rw (← (c10 .before .before .before .before .before .before .before .before .before .before .one-more .ensures)) (then (then (then
+    (then (c10 .before .before .before .before .before .before .before .before .head .ensures) (c10 .before .before .before .before .part-string .ensures))
+    (c10 .head2 .ensures)) (c .before .before .before .before .before .before .head3 .ensures)) (c .before .before .part .ensures))
 
 pub put-objective-row-spec : {M : Type 1} → statement M
 put-objective-row-spec =

@@ -36,7 +36,11 @@ same-length c = search needs
 
 returns : tie.Need-returns
 unfolding encodePair rowPair
-returns c = rw (← (c .before .before .before .before .before .before .before .before .before .before .before .before .before .objective-row-at .ensures), ← (c .before .before .before .before .before .before .before .before .before .before .before .before .locator-row-at .ensures)) (then (then (c .before .before .before .before .before .before .before .before .before .before .head .ensures) (c .before .before .before .before .before .before .put-objective-row .ensures)) (c .before .before .put-locator-row-or-empty .ensures))
+returns c =
+    let c10 = c .before .before .before .before .before .before .before .before .before .before in
+    rw (← (c10 .before .before .before .objective-row-at .ensures), ← (c10 .before .before .locator-row-at .ensures))
+    (then (then (c10 .head .ensures) (c .before .before .before .before .before .before .put-objective-row .ensures))
+    (c .before .before .put-locator-row-or-empty .ensures))
 
 pub put-pair-spec : {M : Type 1} → statement M
 put-pair-spec =

@@ -28,7 +28,10 @@ same-length : tie.Need-same-length
 same-length c = search needs
 
 returns-2 : tie.Need-returns-2
-returns-2 c = part-rest (c .before .before .before .before .before .before .before .before .before .args .source .now) (c .before .before .before .before .before .before .before .before .before .args .s) (c .before .before .before .before .before .if2 .taken) (all-in (c .before .before .all .ensures .0) (c .before .before .all .ensures .1))
+returns-2 c =
+    let c9 = c .before .before .before .before .before .before .before .before .before in
+    part-rest (c9 .args .source .now) (c9 .args .s) (c .before .before .before .before .before .if2 .taken)
+    (all-in (c .before .before .all .ensures .0) (c .before .before .all .ensures .1))
 
 add-end : tie.Need-add-end
 add-end c = search needs
@@ -49,7 +52,9 @@ same-length-2 : tie.Need-same-length-2
 same-length-2 c = search needs
 
 returns-3 : tie.Need-returns-3
-returns-3 c = part-in (c .before .before .before .before .before .before .before .before .before .args .source .now) (c .before .before .before .before .before .before .before .before .before .args .s) (all-in (c .before .before .all2 .ensures .0) (c .before .before .all2 .ensures .1))
+returns-3 c =
+    let c9 = c .before .before .before .before .before .before .before .before .before in
+    part-in (c9 .args .source .now) (c9 .args .s) (all-in (c .before .before .all2 .ensures .0) (c .before .before .all2 .ensures .1))
 
 pub part-spec : {M : Type 1} → statement M
 part-spec =

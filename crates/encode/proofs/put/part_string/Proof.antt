@@ -20,7 +20,8 @@ same-length c = search needs
 
 returns : tie.Need-returns
 unfolding string
-returns c = rw (← (c .before .before .before .before .before .before .before .before .covered .ensures)) (then (c .before .before .before .before .before .before .head .ensures) (c .before .before .part .ensures))
+returns c = rw (← (c .before .before .before .before .before .before .before .before .covered .ensures))
+    (then (c .before .before .before .before .before .before .head .ensures) (c .before .before .part .ensures))
 
 pub part-string-spec : {M : Type 1} → statement M
 part-string-spec =

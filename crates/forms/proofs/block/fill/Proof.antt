@@ -125,7 +125,11 @@ returns-9 c = rw (c .before .before .before .m8 .given .1) (c .exchange4 .ensure
 
 returns-10 : tie.Need-returns-10
 unfolding blockOf
-returns-10 c = rw (c .before .before .before .before .before .before .before .before .m9 .given .1, ← c .before .before .before .before .before .put-front3 .ensures, ← c .before .before .put-objective .ensures) (c .put-series .ensures)
+returns-10 c = rw (
+  c .before .before .before .before .before .before .before .before .m9 .given .1,
+  ← c .before .before .before .before .before .put-front3 .ensures,
+  ← c .before .before .put-objective .ensures,
+) (c .put-series .ensures)
 
 returns-11 : tie.Need-returns-11
 unfolding blockOf

@@ -27,7 +27,12 @@ returns-2 c =
 returns-3 : tie.Need-returns-3
 unfolding exchangeOf descriptionOf pick
 returns-3 c =
-    rw (ne-eqb _ _ (c .before .before .if1 .left), ne-eqb _ _ (c .before .if2 .left), eq-eqb _ _ (c .if3 .taken), ← c .before .before .before .given-of .ensures)
+    rw (
+      ne-eqb _ _ (c .before .before .if1 .left),
+      ne-eqb _ _ (c .before .if2 .left),
+      eq-eqb _ _ (c .if3 .taken),
+      ← c .before .before .before .given-of .ensures,
+    )
 
 returns-4 : tie.Need-returns-4
 unfolding exchangeOf descriptionOf pick

@@ -29,7 +29,10 @@ field-fits-requires : tie.Need-field-fits-requires Inv-loop μ-loop
 field-fits-requires c κs = search needs
 
 returns : tie.Need-returns Inv-loop μ-loop
-returns c = sym (all-stop (fieldFits (c .before .before .before .before .args .fields .now) (c .before .before .before .before .args .mask)) mostPlaces (c .before .before .before .loop .i) (omega (arith, c .before .before .loop-test .taken)) (sym (c .before .field-fits .ensures) ∙ not-true _ (c .if1 .taken))) ∙ c .before .before .before .loop .inv .1
+returns c =
+    let c3 = c .before .before .before in
+    sym (all-stop (fieldFits (c3 .before .args .fields .now) (c3 .before .args .mask)) mostPlaces (c3 .loop .i)
+    (omega (arith, c .before .before .loop-test .taken)) (sym (c .before .field-fits .ensures) ∙ not-true _ (c .if1 .taken))) ∙ c3 .loop .inv .1
 
 add-i : tie.Need-add-i Inv-loop μ-loop
 add-i c = search needs
@@ -39,10 +42,15 @@ loop-less c = search needs
 
 loop-again : tie.Need-loop-again Inv-loop μ-loop
 loop-again c =
-    (omega arith, sym (all-step (fieldFits (c .before .before .before .before .args .fields .now) (c .before .before .before .before .args .mask)) mostPlaces (c .before .before .before .loop .i) (sym (c .before .field-fits .ensures) ∙ not-false _ (c .if1 .left))) ∙ c .before .before .before .loop .inv .1)
+    let c3 = c .before .before .before in (
+      omega arith,
+      sym (all-step (fieldFits (c3 .before .args .fields .now) (c3 .before .args .mask)) mostPlaces (c3 .loop .i)
+          (sym (c .before .field-fits .ensures) ∙ not-false _ (c .if1 .left))) ∙ c3 .loop .inv .1,
+    )
 
 returns-2 : tie.Need-returns-2 Inv-loop μ-loop
-returns-2 c = sym (all-end (fieldFits (c .before .before .args .fields .now) (c .before .before .args .mask)) mostPlaces (c .before .loop .i) (omega (arith, c .loop-test .left))) ∙ c .before .loop .inv .1
+returns-2 c = sym (all-end (fieldFits (c .before .before .args .fields .now) (c .before .before .args .mask)) mostPlaces (c .before .loop .i)
+    (omega (arith, c .loop-test .left))) ∙ c .before .loop .inv .1
 
 pub all-fit-spec : {M : Type 1} → statement M
 all-fit-spec =

@@ -37,12 +37,22 @@ described-end-requires c κs = search needs
 returns-3 : tie.Need-returns-3
 unfolding describedKind pick
 returns-3 c =
-    rw (ne-eqb _ _ (c .before .before .before .if1 .left), ne-eqb _ _ (c .before .before .if2 .left), eq-eqb _ _ (c .before .if3 .taken), ← c .described-end .ensures)
+    rw (
+      ne-eqb _ _ (c .before .before .before .if1 .left),
+      ne-eqb _ _ (c .before .before .if2 .left),
+      eq-eqb _ _ (c .before .if3 .taken),
+      ← c .described-end .ensures,
+    )
 
 returns-4 : tie.Need-returns-4
 unfolding describedKind pick
 returns-4 c =
-    rw (ne-eqb _ _ (c .before .before .before .if1 .left), ne-eqb _ _ (c .before .before .if2 .left), ne-eqb _ _ (c .before .if3 .left), eq-eqb _ _ (c .if4 .taken))
+    rw (
+      ne-eqb _ _ (c .before .before .before .if1 .left),
+      ne-eqb _ _ (c .before .before .if2 .left),
+      ne-eqb _ _ (c .before .if3 .left),
+      eq-eqb _ _ (c .if4 .taken),
+    )
 
 described-flood-requires : tie.Need-described-flood-requires
 described-flood-requires c κs = search needs
@@ -50,7 +60,14 @@ described-flood-requires c κs = search needs
 returns-5 : tie.Need-returns-5
 unfolding describedKind pick
 returns-5 c =
-    rw (ne-eqb _ _ (c .before .before .before .before .before .if1 .left), ne-eqb _ _ (c .before .before .before .before .if2 .left), ne-eqb _ _ (c .before .before .before .if3 .left), ne-eqb _ _ (c .before .before .if4 .left), eq-eqb _ _ (c .before .if5 .taken), ← c .described-flood .ensures)
+    rw (
+      ne-eqb _ _ (c .before .before .before .before .before .if1 .left),
+      ne-eqb _ _ (c .before .before .before .before .if2 .left),
+      ne-eqb _ _ (c .before .before .before .if3 .left),
+      ne-eqb _ _ (c .before .before .if4 .left),
+      eq-eqb _ _ (c .before .if5 .taken),
+      ← c .described-flood .ensures,
+    )
 
 element-copy-out-span : tie.Need-element-copy-out-span
 element-copy-out-span c = search needs
@@ -64,7 +81,15 @@ span-requires c κs = search needs
 returns-6 : tie.Need-returns-6
 unfolding describedKind pick
 returns-6 c =
-    rw (ne-eqb _ _ (c .before .before .before .before .before .before .before .before .if1 .left), ne-eqb _ _ (c .before .before .before .before .before .before .before .if2 .left), ne-eqb _ _ (c .before .before .before .before .before .before .if3 .left), ne-eqb _ _ (c .before .before .before .before .before .if4 .left), ne-eqb _ _ (c .before .before .before .before .if5 .left), eq-eqb _ _ (c .before .before .before .if6 .taken), ← c .span .ensures)
+    rw (
+      ne-eqb _ _ (c .before .before .before .before .before .before .before .before .if1 .left),
+      ne-eqb _ _ (c .before .before .before .before .before .before .before .if2 .left),
+      ne-eqb _ _ (c .before .before .before .before .before .before .if3 .left),
+      ne-eqb _ _ (c .before .before .before .before .before .if4 .left),
+      ne-eqb _ _ (c .before .before .before .before .if5 .left),
+      eq-eqb _ _ (c .before .before .before .if6 .taken),
+      ← c .span .ensures,
+    )
 
 element-copy-out-if7 : tie.Need-element-copy-out-if7
 element-copy-out-if7 c = search needs
@@ -72,7 +97,15 @@ element-copy-out-if7 c = search needs
 returns-7 : tie.Need-returns-7
 unfolding describedKind pick
 returns-7 c =
-    rw (ne-eqb _ _ (c .before .before .before .before .before .before .before .if1 .left), ne-eqb _ _ (c .before .before .before .before .before .before .if2 .left), ne-eqb _ _ (c .before .before .before .before .before .if3 .left), ne-eqb _ _ (c .before .before .before .before .if4 .left), ne-eqb _ _ (c .before .before .before .if5 .left), ne-eqb _ _ (c .before .before .if6 .left), ne-eqb _ _ (c .if7 .taken))
+    rw (
+      ne-eqb _ _ (c .before .before .before .before .before .before .before .if1 .left),
+      ne-eqb _ _ (c .before .before .before .before .before .before .if2 .left),
+      ne-eqb _ _ (c .before .before .before .before .before .if3 .left),
+      ne-eqb _ _ (c .before .before .before .before .if4 .left),
+      ne-eqb _ _ (c .before .before .before .if5 .left),
+      ne-eqb _ _ (c .before .before .if6 .left),
+      ne-eqb _ _ (c .if7 .taken),
+    )
 
 element-copy-out-span-3 : tie.Need-element-copy-out-span-3
 element-copy-out-span-3 c = search needs
@@ -92,7 +125,19 @@ described-objective-requires c κs = search needs
 returns-8 : tie.Need-returns-8
 unfolding describedKind pick
 returns-8 c =
-    rw (ne-eqb _ _ (c .before .before .before .before .before .before .before .before .before .before .before .before .if1 .left), ne-eqb _ _ (c .before .before .before .before .before .before .before .before .before .before .before .if2 .left), ne-eqb _ _ (c .before .before .before .before .before .before .before .before .before .before .if3 .left), ne-eqb _ _ (c .before .before .before .before .before .before .before .before .before .if4 .left), ne-eqb _ _ (c .before .before .before .before .before .before .before .before .if5 .left), ne-eqb _ _ (c .before .before .before .before .before .before .before .if6 .left), eq-eqb _ _ (c .before .before .before .before .before .if7 .left), ← c .before .before .span2 .ensures, ← c .before .given-objective .ensures, ← c .described-objective .ensures)
+    let c7 = c .before .before .before .before .before .before .before in
+    rw (
+      ne-eqb _ _ (c7 .before .before .before .before .before .if1 .left),
+      ne-eqb _ _ (c7 .before .before .before .before .if2 .left),
+      ne-eqb _ _ (c7 .before .before .before .if3 .left),
+      ne-eqb _ _ (c7 .before .before .if4 .left),
+      ne-eqb _ _ (c7 .before .if5 .left),
+      ne-eqb _ _ (c7 .if6 .left),
+      eq-eqb _ _ (c .before .before .before .before .before .if7 .left),
+      ← c .before .before .span2 .ensures,
+      ← c .before .given-objective .ensures,
+      ← c .described-objective .ensures,
+    )
 
 pub by-kind-spec : {M : Type 1} → statement M
 by-kind-spec =

@@ -41,22 +41,50 @@ returns c =
 returns-2 : tie.Need-returns-2
 unfolding describedBy pick
 returns-2 c =
-    rw (← c .before .before .before .allowed .ensures, ← c .before .before .all-fit .ensures, not-false (c .before .before .all-fit .result) (c .before .if1 .left), lt-ltb _ _ (c .if2 .taken))
+    rw (
+      ← c .before .before .before .allowed .ensures,
+      ← c .before .before .all-fit .ensures,
+      not-false (c .before .before .all-fit .result) (c .before .if1 .left),
+      lt-ltb _ _ (c .if2 .taken),
+    )
 
 returns-3 : tie.Need-returns-3
 unfolding describedBy pick
 returns-3 c =
-    rw (← c .before .before .before .before .allowed .ensures, ← c .before .before .before .all-fit .ensures, not-false (c .before .before .before .all-fit .result) (c .before .before .if1 .left), le-ltb _ _ (c .before .if2 .left), lt-ltb _ _ (c .if3 .taken))
+    rw (
+      ← c .before .before .before .before .allowed .ensures,
+      ← c .before .before .before .all-fit .ensures,
+      not-false (c .before .before .before .all-fit .result) (c .before .before .if1 .left),
+      le-ltb _ _ (c .before .if2 .left),
+      lt-ltb _ _ (c .if3 .taken),
+    )
 
 returns-4 : tie.Need-returns-4
 unfolding describedBy pick
 returns-4 c =
-    rw (← c .before .before .before .before .before .allowed .ensures, ← c .before .before .before .before .all-fit .ensures, not-false (c .before .before .before .before .all-fit .result) (c .before .before .before .if1 .left), le-ltb _ _ (c .before .before .if2 .left), le-ltb _ _ (c .before .if3 .left), lt-ltb _ _ (c .if4 .taken))
+    let c4 = c .before .before .before .before in
+    rw (
+      ← c4 .before .allowed .ensures,
+      ← c4 .all-fit .ensures,
+      not-false (c4 .all-fit .result) (c .before .before .before .if1 .left),
+      le-ltb _ _ (c .before .before .if2 .left),
+      le-ltb _ _ (c .before .if3 .left),
+      lt-ltb _ _ (c .if4 .taken),
+    )
 
 returns-5 : tie.Need-returns-5
 unfolding describedBy pick
 returns-5 c =
-    rw (← c .before .before .before .before .before .before .allowed .ensures, ← c .before .before .before .before .before .all-fit .ensures, not-false (c .before .before .before .before .before .all-fit .result) (c .before .before .before .before .if1 .left), le-ltb _ _ (c .before .before .before .if2 .left), le-ltb _ _ (c .before .before .if3 .left), le-ltb _ _ (c .before .if4 .left), lt-ltb _ _ (c .if5 .taken))
+    let c5 = c .before .before .before .before .before in
+    rw (
+      ← c5 .before .allowed .ensures,
+      ← c5 .all-fit .ensures,
+      not-false (c5 .all-fit .result) (c .before .before .before .before .if1 .left),
+      le-ltb _ _ (c .before .before .before .if2 .left),
+      le-ltb _ _ (c .before .before .if3 .left),
+      le-ltb _ _ (c .before .if4 .left),
+      lt-ltb _ _ (c .if5 .taken),
+    )
 
 cast-t18 : tie.Need-cast-t18
 cast-t18 c = search needs
@@ -76,7 +104,17 @@ by-kind-requires c κs = search needs
 returns-6 : tie.Need-returns-6
 unfolding describedBy pick
 returns-6 c =
-    rw (← c .before .before .before .before .before .before .before .allowed .ensures, ← c .before .before .before .before .before .before .all-fit .ensures, not-false (c .before .before .before .before .before .before .all-fit .result) (c .before .before .before .before .before .if1 .left), le-ltb _ _ (c .before .before .before .before .if2 .left), le-ltb _ _ (c .before .before .before .if3 .left), le-ltb _ _ (c .before .before .if4 .left), le-ltb _ _ (c .before .if5 .left), ← c .by-kind .ensures)
+    let c6 = c .before .before .before .before .before .before in
+    rw (
+      ← c6 .before .allowed .ensures,
+      ← c6 .all-fit .ensures,
+      not-false (c6 .all-fit .result) (c .before .before .before .before .before .if1 .left),
+      le-ltb _ _ (c .before .before .before .before .if2 .left),
+      le-ltb _ _ (c .before .before .before .if3 .left),
+      le-ltb _ _ (c .before .before .if4 .left),
+      le-ltb _ _ (c .before .if5 .left),
+      ← c .by-kind .ensures,
+    )
 
 pub described-by-spec : {M : Type 1} → statement M
 described-by-spec =

@@ -49,7 +49,12 @@ element-copy-out-if4 c = search needs
 returns-4 : tie.Need-returns-4
 unfolding describedEnd pick
 returns-4 c =
-    rw (ne-eqb _ _ (c .before .before .before .before .before .before .if1 .left), eq-eqb _ _ (c .before .before .before .before .if2 .left), eq-eqb _ _ (c .before .before .if3 .left), eq-eqb _ _ (c .if4 .taken))
+    rw (
+      ne-eqb _ _ (c .before .before .before .before .before .before .if1 .left),
+      eq-eqb _ _ (c .before .before .before .before .if2 .left),
+      eq-eqb _ _ (c .before .before .if3 .left),
+      eq-eqb _ _ (c .if4 .taken),
+    )
 
 element-copy-out-if5 : tie.Need-element-copy-out-if5
 element-copy-out-if5 c = search needs
@@ -57,12 +62,24 @@ element-copy-out-if5 c = search needs
 returns-5 : tie.Need-returns-5
 unfolding describedEnd pick
 returns-5 c =
-    rw (ne-eqb _ _ (c .before .before .before .before .before .before .before .before .if1 .left), eq-eqb _ _ (c .before .before .before .before .before .before .if2 .left), eq-eqb _ _ (c .before .before .before .before .if3 .left), ne-eqb _ _ (c .before .before .if4 .left), eq-eqb _ _ (c .if5 .taken))
+    rw (
+      ne-eqb _ _ (c .before .before .before .before .before .before .before .before .if1 .left),
+      eq-eqb _ _ (c .before .before .before .before .before .before .if2 .left),
+      eq-eqb _ _ (c .before .before .before .before .if3 .left),
+      ne-eqb _ _ (c .before .before .if4 .left),
+      eq-eqb _ _ (c .if5 .taken),
+    )
 
 returns-6 : tie.Need-returns-6
 unfolding describedEnd pick
 returns-6 c =
-    rw (ne-eqb _ _ (c .before .before .before .before .before .before .before .before .if1 .left), eq-eqb _ _ (c .before .before .before .before .before .before .if2 .left), eq-eqb _ _ (c .before .before .before .before .if3 .left), ne-eqb _ _ (c .before .before .if4 .left), ne-eqb _ _ (c .if5 .left))
+    rw (
+      ne-eqb _ _ (c .before .before .before .before .before .before .before .before .if1 .left),
+      eq-eqb _ _ (c .before .before .before .before .before .before .if2 .left),
+      eq-eqb _ _ (c .before .before .before .before .if3 .left),
+      ne-eqb _ _ (c .before .before .if4 .left),
+      ne-eqb _ _ (c .if5 .left),
+    )
 
 pub described-end-spec : {M : Type 1} → statement M
 described-end-spec =

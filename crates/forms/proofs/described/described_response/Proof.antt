@@ -39,7 +39,13 @@ is-blank-requires c κs = search needs
 returns-2 : tie.Need-returns-2
 unfolding describedResponse pick
 returns-2 c =
-    rw (eq-eqb _ _ (c .before .before .before .before .before .before .before .if1 .left), ← c .before .before .before .before .span .ensures, eq-eqb _ _ (c .before .before .if2 .taken), ← c .before .is-blank .ensures, not-true (c .before .is-blank .result) (c .if3 .taken))
+    rw (
+      eq-eqb _ _ (c .before .before .before .before .before .before .before .if1 .left),
+      ← c .before .before .before .before .span .ensures,
+      eq-eqb _ _ (c .before .before .if2 .taken),
+      ← c .before .is-blank .ensures,
+      not-true (c .before .is-blank .result) (c .if3 .taken),
+    )
 
 element-copy-out-response : tie.Need-element-copy-out-response
 element-copy-out-response c = search needs
@@ -50,7 +56,15 @@ response-requires c κs = search needs
 returns-3 : tie.Need-returns-3
 unfolding describedResponse pick
 returns-3 c =
-    rw (eq-eqb _ _ (c .before .before .before .before .before .before .before .before .before .if1 .left), ← c .before .before .before .before .before .before .span .ensures, eq-eqb _ _ (c .before .before .before .before .if2 .taken), ← c .before .before .before .is-blank .ensures, not-false (c .before .before .before .is-blank .result) (c .before .before .if3 .left), ← c .response .ensures)
+    let c3 = c .before .before .before in
+    rw (
+      eq-eqb _ _ (c3 .before .before .before .before .before .before .if1 .left),
+      ← c3 .before .before .before .span .ensures,
+      eq-eqb _ _ (c3 .before .if2 .taken),
+      ← c3 .is-blank .ensures,
+      not-false (c3 .is-blank .result) (c .before .before .if3 .left),
+      ← c .response .ensures,
+    )
 
 element-copy-out-if4 : tie.Need-element-copy-out-if4
 element-copy-out-if4 c = search needs
@@ -58,7 +72,12 @@ element-copy-out-if4 c = search needs
 returns-4 : tie.Need-returns-4
 unfolding describedResponse pick
 returns-4 c =
-    rw (eq-eqb _ _ (c .before .before .before .before .before .before .before .if1 .left), ← c .before .before .before .before .span .ensures, ne-eqb _ _ (c .before .before .if2 .left), ne-eqb _ _ (c .if4 .taken))
+    rw (
+      eq-eqb _ _ (c .before .before .before .before .before .before .before .if1 .left),
+      ← c .before .before .before .before .span .ensures,
+      ne-eqb _ _ (c .before .before .if2 .left),
+      ne-eqb _ _ (c .if4 .taken),
+    )
 
 element-copy-out-response-2 : tie.Need-element-copy-out-response-2
 element-copy-out-response-2 c = search needs
@@ -72,7 +91,14 @@ response-requires-2 c κs = search needs
 returns-5 : tie.Need-returns-5
 unfolding describedResponse pick
 returns-5 c =
-    rw (eq-eqb _ _ (c .before .before .before .before .before .before .before .before .before .before .if1 .left), ← c .before .before .before .before .before .before .before .span .ensures, ne-eqb _ _ (c .before .before .before .before .before .if2 .left), eq-eqb _ _ (c .before .before .before .if4 .left), ← c .before .given-objective .ensures, ← c .response2 .ensures)
+    rw (
+      eq-eqb _ _ (c .before .before .before .before .before .before .before .before .before .before .if1 .left),
+      ← c .before .before .before .before .before .before .before .span .ensures,
+      ne-eqb _ _ (c .before .before .before .before .before .if2 .left),
+      eq-eqb _ _ (c .before .before .before .if4 .left),
+      ← c .before .given-objective .ensures,
+      ← c .response2 .ensures,
+    )
 
 pub described-response-spec : {M : Type 1} → statement M
 described-response-spec =

@@ -37,14 +37,22 @@ same-length c = search needs
 
 returns-2 : tie.Need-returns-2
 unfolding rowsEnd endBy rowsFilled filledBy
-returns-2 c = (rw (← c .before .before .before .before .before .before .before .rows-in .ensures, c .before .before .before .before .before .rows .given .1) (c .before .before .fill-locators .ensures .0), rw (← c .before .before .before .before .before .before .before .rows-in .ensures, c .before .before .before .before .before .rows .given .1) (c .before .before .fill-locators .ensures .1))
+returns-2 c =
+    let c5 = c .before .before .before .before .before in (
+      rw (← c5 .before .before .rows-in .ensures, c5 .rows .given .1) (c .before .before .fill-locators .ensures .0),
+      rw (← c5 .before .before .rows-in .ensures, c5 .rows .given .1) (c .before .before .fill-locators .ensures .1),
+    )
 
 same-length-2 : tie.Need-same-length-2
 same-length-2 c = search needs
 
 returns-3 : tie.Need-returns-3
 unfolding rowsEnd endBy rowsFilled filledBy
-returns-3 c = (rw (← c .before .before .before .before .before .before .before .rows-in .ensures, c .before .before .before .before .before .rows2 .given .1) (c .before .before .fill-pairs .ensures .0), rw (← c .before .before .before .before .before .before .before .rows-in .ensures, c .before .before .before .before .before .rows2 .given .1) (c .before .before .fill-pairs .ensures .1))
+returns-3 c =
+    let c5 = c .before .before .before .before .before in (
+      rw (← c5 .before .before .rows-in .ensures, c5 .rows2 .given .1) (c .before .before .fill-pairs .ensures .0),
+      rw (← c5 .before .before .rows-in .ensures, c5 .rows2 .given .1) (c .before .before .fill-pairs .ensures .1),
+    )
 
 pub fill-spec : {M : Type 1} → statement M
 fill-spec =

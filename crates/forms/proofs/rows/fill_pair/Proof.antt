@@ -38,7 +38,10 @@ put-numbers-requires : tie.Need-put-numbers-requires
 put-numbers-requires c κs = simp length-set (omega arith)
 
 add-result : tie.Need-add-result
-add-result c = omega (arith, c .before .before .before .before .before .before .before .before .before .before .before .before .good, c .before .before .before .before .before .before .before .before .before .before .before .before .fits, pair-within (c .before .before .before .before .before .before .before .before .before .before .before .before .args .s .now) _ (c .before .before .before .before .before .before .before .before .before .before .before .before .args .at) _ _ (c .before .before .before .before .before .before .before .before .before .read-at .ensures) (c .before .before .before .before .before .before .before .read .given .1))
+add-result c =
+    let c7 = c .before .before .before .before .before .before .before in
+    let c12 = c7 .before .before .before .before .before in
+    omega (arith, c12 .good, c12 .fits, pair-within (c12 .args .s .now) _ (c12 .args .at) _ _ (c7 .before .before .read-at .ensures) (c7 .read .given .1))
 
 returns : tie.Need-returns
 unfolding pairNext pairNextFrom pairStored pairStoredFrom pairCells
@@ -49,7 +52,16 @@ same-length c = search needs
 
 returns-2 : tie.Need-returns-2
 unfolding pairNext pairNextFrom pairStored pairStoredFrom pairCells
-returns-2 c = (rw (← c .before .before .before .before .before .before .before .before .before .read-at .ensures, c .before .before .before .before .before .before .before .read .given .1), rw (c .before .before .put-numbers .ensures, ← c .before .before .before .before .before .before .before .before .before .read-at .ensures, c .before .before .before .before .before .before .before .read .given .1, ← c .before .before .before .before .before .numbers-of .ensures))
+returns-2 c =
+    let c7 = c .before .before .before .before .before .before .before in (
+      rw (← c7 .before .before .read-at .ensures, c7 .read .given .1),
+      rw (
+        c .before .before .put-numbers .ensures,
+        ← c7 .before .before .read-at .ensures,
+        c7 .read .given .1,
+        ← c .before .before .before .before .before .numbers-of .ensures,
+      ),
+    )
 
 pub fill-pair-spec : {M : Type 1} → statement M
 fill-pair-spec =

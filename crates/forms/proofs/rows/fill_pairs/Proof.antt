@@ -30,7 +30,13 @@ loop-holds : tie.Need-loop-holds Inv-loop μ-loop
 loop-holds c = begun _ _ _ _ _
 
 fill-pair-requires : tie.Need-fill-pair-requires Inv-loop μ-loop
-fill-pair-requires c κs = omega (arith, c .before .before .loop .inv .within, c .before .before .loop .inv .same-length, c .before .loop-test .taken, c .before .before .before .if1 .left)
+fill-pair-requires c κs = omega (
+  arith,
+  c .before .before .loop .inv .within,
+  c .before .before .loop .inv .same-length,
+  c .before .loop-test .taken,
+  c .before .before .before .if1 .left,
+)
 
 add-i : tie.Need-add-i Inv-loop μ-loop
 add-i c = search needs
@@ -39,7 +45,10 @@ loop-less : tie.Need-loop-less Inv-loop μ-loop
 loop-less c = search needs
 
 loop-again : tie.Need-loop-again Inv-loop μ-loop
-loop-again c = fill-turn _ _ _ _ _ (c .before .before .before .before .before .loop .i) (c .before .before .before .before .before .loop .at) (c .before .before .before .before .before .loop .list) (c .before .before .before .before .before .loop .inv) _ _ (c .before .before .before .before .loop-test .taken) (c .before .before .fill-pair .ensures .0) (c .before .before .fill-pair .ensures .1) (pair-length _ _ _ _)
+loop-again c =
+    let loop = c .before .before .before .before .before .loop in
+    fill-turn _ _ _ _ _ (loop .i) (loop .at) (loop .list) (loop .inv) _ _ (c .before .before .before .before .loop-test .taken)
+    (c .before .before .fill-pair .ensures .0) (c .before .before .fill-pair .ensures .1) (pair-length _ _ _ _)
 
 mul-result : tie.Need-mul-result Inv-loop μ-loop
 mul-result c = omega (arith, c .before .loop .inv .same-length, c .before .before .if1 .left, c .before .before .before .before .before .good)
@@ -49,7 +58,11 @@ same-length c = c .before .loop .inv .same-length
 
 returns-2 : tie.Need-returns-2 Inv-loop μ-loop
 unfolding seriesEnd seriesFilled pick
-returns-2 c = (rw (le-ltb _ _ (c .before .before .if1 .left)), rw (le-ltb _ _ (c .before .before .if1 .left)) (filled _ _ _ _ _ (c .before .loop .i) (c .before .loop .at) (c .before .loop .list) (c .before .loop .inv) (omega (arith, c .loop-test .left))))
+returns-2 c = (
+  rw (le-ltb _ _ (c .before .before .if1 .left)),
+  rw (le-ltb _ _ (c .before .before .if1 .left))
+      (filled _ _ _ _ _ (c .before .loop .i) (c .before .loop .at) (c .before .loop .list) (c .before .loop .inv) (omega (arith, c .loop-test .left))),
+)
 
 pub fill-pairs-spec : {M : Type 1} → statement M
 fill-pairs-spec =

@@ -1,4 +1,5 @@
--- `forms::rows::put_numbers` meets its contract. The loop's invariant: what is left of the numbers, put from here on, gives the whole.
+-- `forms::rows::put_numbers` meets its contract. The loop's invariant: what is left of the numbers, put from here on,
+-- gives the whole.
 -- Assumes nothing.
 use Prim.Native.Nat.{_-_}
 use native.Mathlib.Omega.{arith}

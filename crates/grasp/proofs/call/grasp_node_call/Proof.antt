@@ -27,7 +27,12 @@ same-length-2 : tie.Need-same-length-2
 same-length-2 c = search needs
 
 returns : tie.Need-returns
-returns c = host-left (c .before .before .before .before .before .before .before .before .before .before .before .before .before .before .before .before .args .address .now) (c .before .before .before .before .before .before .before .before .before .before .before .before .before .before .before .before .args .numbers .now) (c .before .before .before .before .before .before .before .before .before .before .before .before .before .before .before .before .args .bytes .now) (callOf (c .before .before .before .before .before .before .before .before .before .before .before .before .before .before .before .before .args .clock) (c .before .before .before .before .before .before .before .before .before .before .before .before .before .before .before .before .args .interface) (c .before .before .before .before .before .before .before .before .before .before .before .before .before .before .before .before .args .names .now) (c .before .before .before .before .before .before .before .before .before .before .before .before .before .before .before .before .args .message .now) (c .before .before .before .before .before .before .before .before .before .before .before .before .before .before .before .before .args .out .now)) (c .before .before .before .before .before .before .before .before .before .before .before .before .before .before .before .before .args .answer .now) _ (c .before .before .before .before .before .before .before .before .before .before .node-of .ensures) _ _ _ _ (c .before .before .before .before .before .before .call-into .ensures) _ _ (c .put .ensures .0) (c .put .ensures .1)
+returns c =
+    let c10 = c .before .before .before .before .before .before .before .before .before .before in
+    let args = c10 .before .before .before .before .before .before .args in
+    host-left (args .address .now) (args .numbers .now) (args .bytes .now)
+    (callOf (args .clock) (args .interface) (args .names .now) (args .message .now) (args .out .now)) (args .answer .now) _ (c10 .node-of .ensures) _ _ _ _
+    (c .before .before .before .before .before .before .call-into .ensures) _ _ (c .put .ensures .0) (c .put .ensures .1)
 
 pub grasp-node-call-spec : {M : Type 1} → statement M
 grasp-node-call-spec =

@@ -17,7 +17,8 @@ use contract.Monad.{Fun}
 use contract.Lifetimes.{Lfts, Shares}
 use contract.Running.{givenOf, tables, tablesOf}
 use types.Kit.{Given, ‵, raw, _⊛_, _$_, _∵_, !, qed, by, move, keep, drop, use2, split, fsplit, fsplit3, rewrite}
-use types.Run.{look, look-raw, init, store-raw, forget, stop, hop, fld, from, load, of-opd, and-then, no-more, assigns, land, returns, enter, alloc1, alloc0, params1, pass1, pass0, free1, free0}
+use types.Run.{look, look-raw, init, store-raw, forget, stop, hop, fld, from, load, of-opd, and-then, no-more}
+use types.Run.{assigns, land, returns, enter, alloc1, alloc0, params1, pass1, pass0, free1, free0}
 use types.Part.{whole, sub, look-in}
 use sound.WpLaws.{FmC, fmOf}
 use denote.RattleType.{owns, flat}
@@ -72,8 +73,10 @@ module _ {M : Type 1} (𝓤 : URA M) (H : Heap 𝓤) (A : Atoms 𝓤) (at-mem : 
   abbrev Post : (κs : Lfts 1) → Shares 1 → Args f.signature κs → Val → SProp 𝓤
   Post κs qs a = Ends 𝓤 H A f.ended (f.clauses 𝓤 H A at-mem run) .post ((κs, qs, tt, a, at κs a), tt)
 
-module _ {M : Type 1} (𝓤 : URA M) (H : Heap 𝓤) (A : Atoms 𝓤) (W : Given 𝓤 H A) (at-mem : Memory → SProp 𝓤) (run : Routine → Fun 𝓤) (κs : Lfts 1) (qs : Shares 1) (a : Args f.signature κs)
-    (are : Are (typesAt (f.signature .params) κs) (Ises (typesAt (f.signature .params) κs)) a (at κs a)) (C : Calls 𝓤 H) (Λ : Loops 𝓤 H) (fm : FmC 𝓤 H (W .laws) C) (known : Triple 𝓤 (C #step) (Step 𝓤 H A at-mem run)) where
+module _ {M : Type 1} (𝓤 : URA M) (H : Heap 𝓤) (A : Atoms 𝓤) (W : Given 𝓤 H A) (at-mem : Memory → SProp 𝓤) (run : Routine → Fun 𝓤) (κs : Lfts 1) (qs : Shares 1)
+    (a : Args f.signature κs)
+    (are : Are (typesAt (f.signature .params) κs) (Ises (typesAt (f.signature .params) κs)) a (at κs a)) (C : Calls 𝓤 H) (Λ : Loops 𝓤 H)
+    (fm : FmC 𝓤 H (W .laws) C) (known : Triple 𝓤 (C #step) (Step 𝓤 H A at-mem run)) where
   abbrev h : Record
   h = a .0 .now
 
@@ -96,28 +99,35 @@ module _ {M : Type 1} (𝓤 : URA M) (H : Heap 𝓤) (A : Atoms 𝓤) (W : Given
   abbrev to : Step 𝓤 H A at-mem run .Ghost
   to = ((κs .1, qs .1, tt, passed κs a, (vals h, at κs a .1)), tt)
 
-  walk : ent 𝓤 (onEntry 𝓤 H A f.signature κs qs a (at κs a)) (WpFn 𝓤 H C Λ code.function (flat (typesAt (f.signature .params) κs) (at κs a)) (Post 𝓤 H A at-mem run κs qs a))
+  walk : ent 𝓤 (onEntry 𝓤 H A f.signature κs qs a (at κs a))
+      (WpFn 𝓤 H C Λ code.function (flat (typesAt (f.signature .params) κs) (at κs a)) (Post 𝓤 H A at-mem run κs qs a))
   walk =
-      qed W ((‵ (flft (κs .0) (qs .0)) ⊛ raw toks) ∷ ‵ (owns (typesAt (f.signature .params) κs) a (at κs a)) ∷ []) ∵ split ! $ move ! (2 ∷ []) $ fsplit ! $ fsplit3 ! $ drop ! $ move ! (0 ∷ 1 ∷ 3 ∷ []) $
+      qed W ((‵ (flft (κs .0) (qs .0)) ⊛ raw toks) ∷ ‵ (owns (typesAt (f.signature .params) κs) a (at κs a)) ∷ []) ∵ split ! $ move ! (2 ∷ []) $ fsplit ! $
+      fsplit3 ! $ drop ! $ move ! (0 ∷ 1 ∷ 3 ∷ []) $
       -- [obs; the borrow; its token; what the other parameters own; their tokens]
       enter ! C Λ code.function (flat (typesAt (f.signature .params) κs) (at κs a)) _ $
       alloc1 ! (λ l₀. alloc1 ! (λ l₁. alloc1 ! (λ l₂. alloc1 ! (λ l₃. alloc1 ! (λ l₄. alloc0 ! $ params1 ! $
       pass1 ! (init ! 6 refl (tt, tt)) $ pass1 ! (init ! 4 refl (tt, record { fits = are .1 .0 .1 })) $ pass0 ! $
       move ! (10 ∷ 11 ∷ 12 ∷ []) $ opened ! tt h b o (λ was.
       -- [the cell; the open borrow; obs; auth; _4; …; _0; …; what the other parameters own; their tokens]
-      assigns ! (of-opd ! (load ! (from ! (hop ! (look ! 10 refl) (stop !))) (look-raw ! 0 refl))) (from ! (stop !)) (init ! 4 refl (LL.lawful T.the-type T′.the-laws 𝓤 H A W .typed h _ was .0)) $
+      assigns ! (of-opd ! (load ! (from ! (hop ! (look ! 10 refl) (stop !))) (look-raw ! 0 refl))) (from ! (stop !))
+      (init ! 4 refl (LL.lawful T.the-type T′.the-laws 𝓤 H A W .typed h _ was .0)) $
       move ! (15 ∷ 14 ∷ []) $ use2 W (raw (Step 𝓤 H A at-mem run .pre to)) (to-step 𝓤 H A W toks lent h was) $
-      calls-at ! fm (Step 𝓤 H A at-mem run) known to (and-then ! (load ! (from ! (stop !)) (look ! 5 refl)) (and-then ! (load ! (from ! (stop !)) (look ! 9 refl)) (no-more !))) (λ v.
+      calls-at ! fm (Step 𝓤 H A at-mem run) known to
+      (and-then ! (load ! (from ! (stop !)) (look ! 5 refl)) (and-then ! (load ! (from ! (stop !)) (look ! 9 refl)) (no-more !))) (λ v.
       answered ! tt toks v left (Said κs a) (λ r ws e is.
       -- [what the answer owns; the tokens; what the step left; the cell; the open borrow; obs; auth; _4; …]
       land ! (from ! (stop !)) (init ! 9 refl (LL.lawful S.the-type S′.the-laws 𝓤 H A W .typed r _ is .0)) $
       rewrite ! 9 (λ (us : List Val). ‵ (fat fullShare S′.mir l₃ 0 (only us))) (LL.tells S.the-type S′.the-laws r (v ∷ []) is) refl $
-      assigns ! (of-opd ! (load ! (from ! (fld ! refl (stop !))) (look-in ! 9 (sub ! 1 refl (whole !))))) (from ! (hop ! (look ! 13 refl) (stop !))) (store-raw ! 3 refl (LL.lawful T.the-type T′.the-laws 𝓤 H A W .typed (r .node) _ (kept r v is) .0)) $
-      assigns ! (of-opd ! (load ! (from ! (fld ! refl (stop !))) (look-in ! 9 (sub ! 0 refl (whole !))))) (from ! (stop !)) (init ! 15 refl (tt, record { fits = small r v is })) $
+      assigns ! (of-opd ! (load ! (from ! (fld ! refl (stop !))) (look-in ! 9 (sub ! 1 refl (whole !))))) (from ! (hop ! (look ! 13 refl) (stop !)))
+      (store-raw ! 3 refl (LL.lawful T.the-type T′.the-laws 𝓤 H A W .typed (r .node) _ (kept r v is) .0)) $
+      assigns ! (of-opd ! (load ! (from ! (fld ! refl (stop !))) (look-in ! 9 (sub ! 0 refl (whole !))))) (from ! (stop !))
+      (init ! 15 refl (tt, record { fits = small r v is })) $
       drop ! $ move ! (2 ∷ 3 ∷ 4 ∷ 5 ∷ []) $ closed ! tt (r .node) (kept r v is) b o $
       -- [obs; the borrow; its token; the other tokens; what the step left; _4; …]
       returns ! (look ! 13 refl) $ forget ! 5 refl $ forget ! 7 refl $ forget ! 9 refl $ forget ! 11 refl $ forget ! 13 refl $
-      move ! (13 ∷ 14 ∷ []) $ free1 ! $ move ! (11 ∷ 12 ∷ []) $ free1 ! $ move ! (9 ∷ 10 ∷ []) $ free1 ! $ move ! (7 ∷ 8 ∷ []) $ free1 ! $ move ! (5 ∷ 6 ∷ []) $ free1 ! $ free0 ! $
+      move ! (13 ∷ 14 ∷ []) $ free1 ! $ move ! (11 ∷ 12 ∷ []) $ free1 ! $ move ! (9 ∷ 10 ∷ []) $ free1 ! $ move ! (7 ∷ 8 ∷ []) $ free1 ! $ move ! (5 ∷ 6 ∷ []) $
+      free1 ! $ free0 ! $
       keep ! (0 ∷ 2 ∷ 3 ∷ 4 ∷ []) $ by ! (via 𝓤 _ (to-exit 𝓤 H A W toks (left ws) (κs .0) (qs .0) (a .0 .name) (r .node) (r .refusal) (small r v is) e)
       (ends 𝓤 H A f.ended (f.clauses 𝓤 H A at-mem run) W ((κs, qs, tt, a, at κs a), tt) (vint w8 (r .refusal)) (r .refusal) (r .node, ws .1)))))))))))
 

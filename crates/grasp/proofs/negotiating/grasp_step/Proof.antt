@@ -31,11 +31,20 @@ numbers-of-requires c κs = search needs
 
 returns : tie.Need-returns
 unfolding stepNumber steppedNumber stateAfter numbersFrom
-returns c = (rw (← c .before .before .before .before .before .state-of .ensures, ← c .before .before .before .before .side-of .ensures, ← c .before .before .before .step .ensures, c .before .stepped .given .1), rw (← c .before .before .before .before .before .state-of .ensures, ← c .before .before .before .before .side-of .ensures, ← c .before .before .before .step .ensures, c .before .stepped .given .1))
+returns c =
+    let c3 = c .before .before .before in (
+      rw (← c3 .before .before .state-of .ensures, ← c3 .before .side-of .ensures, ← c3 .step .ensures, c .before .stepped .given .1),
+      rw (← c3 .before .before .state-of .ensures, ← c3 .before .side-of .ensures, ← c3 .step .ensures, c .before .stepped .given .1),
+    )
 
 returns-2 : tie.Need-returns-2
 unfolding stepNumber steppedNumber stateAfter numbersFrom
-returns-2 c = (rw (← c .before .before .before .before .before .before .state-of .ensures, ← c .before .before .before .before .before .side-of .ensures, ← c .before .before .before .before .step .ensures, c .before .before .stepped2 .given .1), rw (← c .before .before .before .before .before .before .state-of .ensures, ← c .before .before .before .before .before .side-of .ensures, ← c .before .before .before .before .step .ensures, c .before .before .stepped2 .given .1) (c .numbers-of .ensures))
+returns-2 c =
+    let c4 = c .before .before .before .before in (
+      rw (← c4 .before .before .state-of .ensures, ← c4 .before .side-of .ensures, ← c4 .step .ensures, c .before .before .stepped2 .given .1),
+      rw (← c4 .before .before .state-of .ensures, ← c4 .before .side-of .ensures, ← c4 .step .ensures, c .before .before .stepped2 .given .1)
+          (c .numbers-of .ensures),
+    )
 
 pub grasp-step-spec : {M : Type 1} → statement M
 grasp-step-spec =

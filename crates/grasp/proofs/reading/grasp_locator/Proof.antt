@@ -23,7 +23,14 @@ numbers-of-requires : tie.Need-numbers-of-requires
 numbers-of-requires c κs = search needs
 
 add-result : tie.Need-add-result
-add-result c = omega (arith, c .before .before .before .before .before .before .good, c .before .before .before .before .before .before .fits, locator-within (c .before .before .before .before .before .before .args .bytes .now) _ (c .before .before .before .before .before .before .args .at) _ _ (c .before .before .before .before .read-at .ensures) (c .before .before .read .given .1))
+add-result c =
+    let c6 = c .before .before .before .before .before .before in
+    omega (
+      arith,
+      c6 .good,
+      c6 .fits,
+      locator-within (c6 .args .bytes .now) _ (c6 .args .at) _ _ (c .before .before .before .before .read-at .ensures) (c .before .before .read .given .1),
+    )
 
 returns : tie.Need-returns
 unfolding locatorEnd locatorEndFrom locatorAfter locatorFrom
@@ -31,7 +38,10 @@ returns c = (rw (← c .before .before .read-at .ensures, c .enum-told .given .1
 
 returns-2 : tie.Need-returns-2
 unfolding locatorEnd locatorEndFrom locatorAfter locatorFrom
-returns-2 c = (rw (← c .before .before .before .before .read-at .ensures, c .before .before .read .given .1), rw (← c .before .before .before .before .read-at .ensures, c .before .before .read .given .1) (c .numbers-of .ensures))
+returns-2 c = (
+  rw (← c .before .before .before .before .read-at .ensures, c .before .before .read .given .1),
+  rw (← c .before .before .before .before .read-at .ensures, c .before .before .read .given .1) (c .numbers-of .ensures),
+)
 
 pub grasp-locator-spec : {M : Type 1} → statement M
 grasp-locator-spec =

@@ -23,11 +23,16 @@ fill-requires c κs = search needs
 
 returns : tie.Need-returns
 unfolding readNumber numberFrom readBlock blockFrom
-returns c = (rw (← c .before .before .before .read .ensures, c .before .reading .given .1), rw (← c .before .before .before .read .ensures, c .before .reading .given .1))
+returns c = (
+  rw (← c .before .before .before .read .ensures, c .before .reading .given .1),
+  rw (← c .before .before .before .read .ensures, c .before .reading .given .1),
+)
 
 returns-2 : tie.Need-returns-2
 unfolding readNumber numberFrom readBlock blockFrom
-returns-2 c = (rw (← c .before .before .before .before .before .read .ensures, c .before .before .before .reading2 .given .1), rw (← c .before .before .before .before .before .read .ensures, c .before .before .before .reading2 .given .1) (c .fill .ensures))
+returns-2 c =
+    let c3 = c .before .before .before in
+    (rw (← c3 .before .before .read .ensures, c3 .reading2 .given .1), rw (← c3 .before .before .read .ensures, c3 .reading2 .given .1) (c .fill .ensures))
 
 pub grasp-read-spec : {M : Type 1} → statement M
 grasp-read-spec =

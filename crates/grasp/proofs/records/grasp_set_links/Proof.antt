@@ -19,7 +19,10 @@ put-requires : tie.Need-put-requires
 put-requires c κs = search needs
 
 returns : tie.Need-returns
-returns c = (rw (← c .before .before .before .node-of .ensures, ← c .before .before .set-links .ensures) (c .put .ensures .0), rw (← c .before .before .before .node-of .ensures, ← c .before .before .set-links .ensures) (c .put .ensures .1))
+returns c = (
+  rw (← c .before .before .before .node-of .ensures, ← c .before .before .set-links .ensures) (c .put .ensures .0),
+  rw (← c .before .before .before .node-of .ensures, ← c .before .before .set-links .ensures) (c .put .ensures .1),
+)
 
 pub grasp-set-links-spec : {M : Type 1} → statement M
 grasp-set-links-spec =

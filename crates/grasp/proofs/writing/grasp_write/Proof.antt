@@ -29,21 +29,40 @@ enum-known-written-2 c = search needs
 
 returns : tie.Need-returns
 unfolding writeNumber numberBy numberOf writeBytes bytesBy writeLength lengthBy lengthAfter
-returns c = (rw (← c .before .before .described-by .ensures, c .enum-told .given .1), (rw (← c .before .before .described-by .ensures, c .enum-told .given .1), rw (← c .before .before .described-by .ensures, c .enum-told .given .1)))
+returns c = (
+  rw (← c .before .before .described-by .ensures, c .enum-told .given .1),
+  (rw (← c .before .before .described-by .ensures, c .enum-told .given .1), rw (← c .before .before .described-by .ensures, c .enum-told .given .1)),
+)
 
 same-length : tie.Need-same-length
 same-length c = search needs
 
 returns-2 : tie.Need-returns-2
 unfolding writeNumber numberBy numberOf writeBytes bytesBy writeLength lengthBy lengthAfter
-returns-2 c = (rw (← c .before .before .before .before .before .before .before .before .before .before .described-by .ensures, c .before .before .before .before .before .before .before .before .described .given .1, ← c .before .before .before .before .before .write .ensures .0, c .before .written .given .1), (rw (← c .before .before .before .before .before .before .before .before .before .before .described-by .ensures, c .before .before .before .before .before .before .before .before .described .given .1) (c .before .before .before .before .before .write .ensures .1), rw (← c .before .before .before .before .before .before .before .before .before .before .described-by .ensures, c .before .before .before .before .before .before .before .before .described .given .1, ← c .before .before .before .before .before .write .ensures .0, c .before .written .given .1)))
+returns-2 c =
+    let write = c .before .before .before .before .before .write .ensures in
+    let c8 = c .before .before .before .before .before .before .before .before in (
+      rw (← c8 .before .before .described-by .ensures, c8 .described .given .1, ← write .0, c .before .written .given .1),
+      (
+        rw (← c8 .before .before .described-by .ensures, c8 .described .given .1) (write .1),
+        rw (← c8 .before .before .described-by .ensures, c8 .described .given .1, ← write .0, c .before .written .given .1),
+      ),
+    )
 
 same-length-2 : tie.Need-same-length-2
 same-length-2 c = search needs
 
 returns-3 : tie.Need-returns-3
 unfolding writeNumber numberBy numberOf writeBytes bytesBy writeLength lengthBy lengthAfter
-returns-3 c = (rw (← c .before .before .before .before .before .before .before .before .before .before .described-by .ensures, c .before .before .before .before .before .before .before .before .described .given .1, ← c .before .before .before .before .before .write .ensures .0, c .before .written2 .given .1), (rw (← c .before .before .before .before .before .before .before .before .before .before .described-by .ensures, c .before .before .before .before .before .before .before .before .described .given .1) (c .before .before .before .before .before .write .ensures .1), rw (← c .before .before .before .before .before .before .before .before .before .before .described-by .ensures, c .before .before .before .before .before .before .before .before .described .given .1, ← c .before .before .before .before .before .write .ensures .0, c .before .written2 .given .1)))
+returns-3 c =
+    let write = c .before .before .before .before .before .write .ensures in
+    let c8 = c .before .before .before .before .before .before .before .before in (
+      rw (← c8 .before .before .described-by .ensures, c8 .described .given .1, ← write .0, c .before .written2 .given .1),
+      (
+        rw (← c8 .before .before .described-by .ensures, c8 .described .given .1) (write .1),
+        rw (← c8 .before .before .described-by .ensures, c8 .described .given .1, ← write .0, c .before .written2 .given .1),
+      ),
+    )
 
 pub grasp-write-spec : {M : Type 1} → statement M
 grasp-write-spec =

@@ -26,7 +26,11 @@ same-length : tie.Need-same-length
 same-length c = search needs
 
 returns : tie.Need-returns
-returns c = other-length (c .before .before .before .before .before .before .before .before .before .before .before .before .args .node) (c .before .before .before .before .before .before .before .before .before .before .before .before .args .bytes .now) (callOf (c .before .before .before .before .before .before .before .before .before .before .before .before .args .clock) (c .before .before .before .before .before .before .before .before .before .before .before .before .args .interface) (c .before .before .before .before .before .before .before .before .before .before .before .before .args .names .now) (c .before .before .before .before .before .before .before .before .before .before .before .before .args .message .now) (c .before .before .before .before .before .before .before .before .before .before .before .before .args .out .now)) (c .before .before .before .before .before .before .before .before .before .before .before .before .args .answer .now) _ _ _ _ (c .answer-from .ensures) (c .before .before .before .before .before .before .before .if1 .taken) (c .before .before .before .before .node-call .ensures)
+returns c =
+    let c7 = c .before .before .before .before .before .before .before in
+    let args = c7 .before .before .before .before .before .args in
+    other-length (args .node) (args .bytes .now) (callOf (args .clock) (args .interface) (args .names .now) (args .message .now) (args .out .now))
+    (args .answer .now) _ _ _ _ (c .answer-from .ensures) (c7 .if1 .taken) (c .before .before .before .before .node-call .ensures)
 
 slice-aggregate-load : tie.Need-slice-aggregate-load
 slice-aggregate-load c = search needs
@@ -50,7 +54,12 @@ same-length-3 : tie.Need-same-length-3
 same-length-3 c = search needs
 
 returns-2 : tie.Need-returns-2
-returns-2 c = call-refused (c .before .before .before .before .before .before .before .before .before .before .before .before .before .before .before .before .before .args .node) (c .before .before .before .before .before .before .before .before .before .before .before .before .before .before .before .before .before .args .bytes .now) (callOf (c .before .before .before .before .before .before .before .before .before .before .before .before .before .before .before .before .before .args .clock) (c .before .before .before .before .before .before .before .before .before .before .before .before .before .before .before .before .before .args .interface) (c .before .before .before .before .before .before .before .before .before .before .before .before .before .before .before .before .before .args .names .now) (c .before .before .before .before .before .before .before .before .before .before .before .before .before .before .before .before .before .args .message .now) (c .before .before .before .before .before .before .before .before .before .before .before .before .before .before .before .before .before .args .out .now)) (c .before .before .before .before .before .before .before .before .before .before .before .before .before .before .before .before .before .args .answer .now) _ _ _ _ (c .before .answer-from2 .ensures) _ (c .before .before .before .before .before .before .before .before .before .before .before .before .if1 .left) (c .before .before .before .before .before .before .before .before .before .load .ensures) (c .before .before .before .before .before .node-call2 .ensures) (c .if2 .taken)
+returns-2 c =
+    let c9 = c .before .before .before .before .before .before .before .before .before in
+    let args = c9 .before .before .before .before .before .before .before .before .args in
+    call-refused (args .node) (args .bytes .now) (callOf (args .clock) (args .interface) (args .names .now) (args .message .now) (args .out .now))
+    (args .answer .now) _ _ _ _ (c .before .answer-from2 .ensures) _ (c9 .before .before .before .if1 .left) (c9 .load .ensures)
+    (c .before .before .before .before .before .node-call2 .ensures) (c .if2 .taken)
 
 slice-aggregate-save : tie.Need-slice-aggregate-save
 slice-aggregate-save c = search needs
@@ -75,7 +84,14 @@ same-length-5 c = search needs
 
 returns-3 : tie.Need-returns-3
 unfolding answerNumbers
-returns-3 c = call-given (c .before .before .before .before .before .before .before .before .before .before .before .before .before .before .before .before .before .before .before .before .before .before .before .before .before .before .before .args .node) (c .before .before .before .before .before .before .before .before .before .before .before .before .before .before .before .before .before .before .before .before .before .before .before .before .before .before .before .args .bytes .now) (callOf (c .before .before .before .before .before .before .before .before .before .before .before .before .before .before .before .before .before .before .before .before .before .before .before .before .before .before .before .args .clock) (c .before .before .before .before .before .before .before .before .before .before .before .before .before .before .before .before .before .before .before .before .before .before .before .before .before .before .before .args .interface) (c .before .before .before .before .before .before .before .before .before .before .before .before .before .before .before .before .before .before .before .before .before .before .before .before .before .before .before .args .names .now) (c .before .before .before .before .before .before .before .before .before .before .before .before .before .before .before .before .before .before .before .before .before .before .before .before .before .before .before .args .message .now) (c .before .before .before .before .before .before .before .before .before .before .before .before .before .before .before .before .before .before .before .before .before .before .before .before .before .before .before .args .out .now)) (c .before .before .before .before .before .before .before .before .before .before .before .before .before .before .before .before .before .before .before .before .before .before .before .before .before .before .before .args .answer .now) _ _ _ _ (c .before .before .before .before .before .before .before .before .before .before .before .answer-from2 .ensures) _ (c .before .before .before .before .before .before .before .before .before .before .before .before .before .before .before .before .before .before .before .before .before .before .if1 .left) (c .before .before .before .before .before .before .before .before .before .before .before .before .before .before .before .before .before .before .before .load .ensures) (c .before .before .before .before .before .before .before .before .before .before .before .before .before .before .before .node-call2 .ensures) _ (c .before .before .before .before .before .before .before .before .before .before .if2 .left) (c .before .before .before .before .before .before .before .save .ensures)
+returns-3 c =
+    let c10 = c .before .before .before .before .before .before .before .before .before .before in
+    let c19 = c10 .before .before .before .before .before .before .before .before .before in
+    let args = c19 .before .before .before .before .before .before .before .before .args in
+    call-given (args .node) (args .bytes .now) (callOf (args .clock) (args .interface) (args .names .now) (args .message .now) (args .out .now))
+    (args .answer .now) _ _ _ _ (c10 .before .answer-from2 .ensures) _ (c19 .before .before .before .if1 .left)
+    (c19 .load .ensures) (c10 .before .before .before .before .before .node-call2 .ensures) _ (c10 .if2 .left)
+    (c .before .before .before .before .before .before .before .save .ensures)
 
 pub call-into-spec : {M : Type 1} → statement M
 call-into-spec =

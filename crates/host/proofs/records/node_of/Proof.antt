@@ -41,14 +41,20 @@ blank-requires-3 c κs = search needs
 
 returns-3 : tie.Need-returns-3
 unfolding nodeOf pick
-returns-3 c = rw (le-ltb _ _ (c .before .before .before .if1 .left), le-ltb _ _ (c .before .before .if2 .left), lt-ltb _ _ (c .before .if3 .taken)) (c .blank3 .ensures)
+returns-3 c =
+    rw (le-ltb _ _ (c .before .before .before .if1 .left), le-ltb _ _ (c .before .before .if2 .left), lt-ltb _ _ (c .before .if3 .taken)) (c .blank3 .ensures)
 
 blank-requires-4 : tie.Need-blank-requires-4
 blank-requires-4 c κs = search needs
 
 returns-4 : tie.Need-returns-4
 unfolding nodeOf pick
-returns-4 c = rw (le-ltb _ _ (c .before .before .before .before .if1 .left), le-ltb _ _ (c .before .before .before .if2 .left), le-ltb _ _ (c .before .before .if3 .left), lt-ltb _ _ (c .before .if4 .taken)) (c .blank4 .ensures)
+returns-4 c = rw (
+  le-ltb _ _ (c .before .before .before .before .if1 .left),
+  le-ltb _ _ (c .before .before .before .if2 .left),
+  le-ltb _ _ (c .before .before .if3 .left),
+  lt-ltb _ _ (c .before .if4 .taken),
+) (c .blank4 .ensures)
 
 cast-t18 : tie.Need-cast-t18
 cast-t18 c = search needs
@@ -70,7 +76,12 @@ element-copy-out-t26 c = search needs
 
 returns-5 : tie.Need-returns-5
 unfolding nodeOf pick
-returns-5 c = rw (le-ltb _ _ (c .before .before .before .before .before .before .if1 .left), le-ltb _ _ (c .before .before .before .before .before .if2 .left), le-ltb _ _ (c .before .before .before .before .if3 .left), le-ltb _ _ (c .before .before .before .if4 .left))
+returns-5 c = rw (
+  le-ltb _ _ (c .before .before .before .before .before .before .if1 .left),
+  le-ltb _ _ (c .before .before .before .before .before .if2 .left),
+  le-ltb _ _ (c .before .before .before .before .if3 .left),
+  le-ltb _ _ (c .before .before .before .if4 .left),
+)
 
 pub node-of-spec : {M : Type 1} → statement M
 node-of-spec =

@@ -36,11 +36,22 @@ returns-3 c = rw (le-ltb _ _ (c .before .before .if1 .left), le-ltb _ _ (c .befo
 
 returns-4 : tie.Need-returns-4
 unfolding stateOf pick
-returns-4 c = rw (le-ltb _ _ (c .before .before .before .if1 .left), le-ltb _ _ (c .before .before .if2 .left), le-ltb _ _ (c .before .if3 .left), lt-ltb _ _ (c .if4 .taken))
+returns-4 c = rw (
+  le-ltb _ _ (c .before .before .before .if1 .left),
+  le-ltb _ _ (c .before .before .if2 .left),
+  le-ltb _ _ (c .before .if3 .left),
+  lt-ltb _ _ (c .if4 .taken),
+)
 
 returns-5 : tie.Need-returns-5
 unfolding stateOf pick
-returns-5 c = rw (le-ltb _ _ (c .before .before .before .before .if1 .left), le-ltb _ _ (c .before .before .before .if2 .left), le-ltb _ _ (c .before .before .if3 .left), le-ltb _ _ (c .before .if4 .left), eq-eqb _ _ (c .if5 .taken))
+returns-5 c = rw (
+  le-ltb _ _ (c .before .before .before .before .if1 .left),
+  le-ltb _ _ (c .before .before .before .if2 .left),
+  le-ltb _ _ (c .before .before .if3 .left),
+  le-ltb _ _ (c .before .if4 .left),
+  eq-eqb _ _ (c .if5 .taken),
+)
 
 cast-t17 : tie.Need-cast-t17
 cast-t17 c = search needs
@@ -53,11 +64,26 @@ side-of-requires c κs = search needs
 
 returns-6 : tie.Need-returns-6
 unfolding stateOf pick
-returns-6 c = rw (le-ltb _ _ (c .before .before .before .before .before .before .if1 .left), le-ltb _ _ (c .before .before .before .before .before .if2 .left), le-ltb _ _ (c .before .before .before .before .if3 .left), le-ltb _ _ (c .before .before .before .if4 .left), ne-eqb _ _ (c .before .before .if5 .left), eq-eqb _ _ (c .before .if6 .taken), ← c .side-of .ensures)
+returns-6 c = rw (
+  le-ltb _ _ (c .before .before .before .before .before .before .if1 .left),
+  le-ltb _ _ (c .before .before .before .before .before .if2 .left),
+  le-ltb _ _ (c .before .before .before .before .if3 .left),
+  le-ltb _ _ (c .before .before .before .if4 .left),
+  ne-eqb _ _ (c .before .before .if5 .left),
+  eq-eqb _ _ (c .before .if6 .taken),
+  ← c .side-of .ensures,
+)
 
 returns-7 : tie.Need-returns-7
 unfolding stateOf pick
-returns-7 c = rw (le-ltb _ _ (c .before .before .before .before .before .if1 .left), le-ltb _ _ (c .before .before .before .before .if2 .left), le-ltb _ _ (c .before .before .before .if3 .left), le-ltb _ _ (c .before .before .if4 .left), ne-eqb _ _ (c .before .if5 .left), ne-eqb _ _ (c .if6 .left))
+returns-7 c = rw (
+  le-ltb _ _ (c .before .before .before .before .before .if1 .left),
+  le-ltb _ _ (c .before .before .before .before .if2 .left),
+  le-ltb _ _ (c .before .before .before .if3 .left),
+  le-ltb _ _ (c .before .before .if4 .left),
+  ne-eqb _ _ (c .before .if5 .left),
+  ne-eqb _ _ (c .if6 .left),
+)
 
 pub state-of-spec : {M : Type 1} → statement M
 state-of-spec =

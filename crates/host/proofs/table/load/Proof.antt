@@ -1,4 +1,5 @@
--- `host::table::load` meets its contract. The loop's invariant: with the numbers that are left the table is the whole one.
+-- `host::table::load` meets its contract. The loop's invariant: with the numbers that are left the table is the whole
+-- one.
 -- Assumes nothing.
 use mathlib.Core.Path.{_≡_}
 use Prim.Native.Nat.{_-_, _%_, _≤_}
@@ -84,7 +85,13 @@ loop-less : tie.Need-loop-less Inv-loop μ-loop
 loop-less c = omega arith
 
 loop-again : tie.Need-loop-again Inv-loop μ-loop
-loop-again c = (omega arith, omega arith, simp length-set (omega arith), load-turn _ _ _ _ _ _ _ (c .before .before .before .before .before .loop .inv .3) (c .before .before .before .number-at .ensures) (c .before .before .number-at2 .ensures) (c .before .number-at3 .ensures) (c .number-at4 .ensures))
+loop-again c = (
+  omega arith,
+  omega arith,
+  simp length-set (omega arith),
+  load-turn _ _ _ _ _ _ _ (c .before .before .before .before .before .loop .inv .3) (c .before .before .before .number-at .ensures)
+      (c .before .before .number-at2 .ensures) (c .before .number-at3 .ensures) (c .number-at4 .ensures),
+)
 
 same-length : tie.Need-same-length Inv-loop μ-loop
 same-length c = omega arith

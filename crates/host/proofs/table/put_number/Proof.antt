@@ -1,4 +1,5 @@
--- `host::table::put_number` meets its contract: `bytesOf` divides by 256 again and again, the code by each power at once.
+-- `host::table::put_number` meets its contract: `bytesOf` divides by 256 again and again, the code by each power at
+-- once.
 -- Assumes nothing.
 use native.Mathlib.Omega.{arith}
 use lib.ListN.{length-set}

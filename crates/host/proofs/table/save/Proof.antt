@@ -1,4 +1,5 @@
--- `host::table::save` meets its contract. The loop's invariant: with those of the numbers that are left the bytes are the whole table's.
+-- `host::table::save` meets its contract. The loop's invariant: with those of the numbers that are left the bytes are
+-- the whole table's.
 -- Assumes nothing.
 use mathlib.Core.Path.{_≡_}
 use Prim.Native.Nat.{_-_, _%_, _≤_}
@@ -85,13 +86,22 @@ loop-less : tie.Need-loop-less Inv-loop μ-loop
 loop-less c = omega arith
 
 loop-again : tie.Need-loop-again Inv-loop μ-loop
-loop-again c = (omega arith, omega arith, omega arith, save-turn _ _ _ _ _ _ _ (c .before .before .before .before .before .before .before .before .before .before .before .before .before .before .before .before .before .before .before .before .before .loop .inv .3) (c .before .before .before .before .before .before .before .before .before .before .before .before .before .before .before .before .before .put-number .ensures) (c .before .before .before .before .before .before .before .before .before .before .before .before .put-number2 .ensures) (c .before .before .before .before .before .before .before .put-number3 .ensures) (c .before .before .put-number4 .ensures))
+loop-again c =
+    let c7 = c .before .before .before .before .before .before .before in
+    let c17 = c7 .before .before .before .before .before .before .before .before .before .before in (
+      omega arith,
+      omega arith,
+      omega arith,
+      save-turn _ _ _ _ _ _ _ (c17 .before .before .before .before .loop .inv .3) (c17 .put-number .ensures)
+          (c7 .before .before .before .before .before .put-number2 .ensures) (c7 .put-number3 .ensures) (c .before .before .put-number4 .ensures),
+    )
 
 same-length : tie.Need-same-length Inv-loop μ-loop
 same-length c = omega arith
 
 returns : tie.Need-returns Inv-loop μ-loop
-returns c = save-done _ _ (c .before .before .before .before .pre .0) (rw (le-antisymm (c .before .loop .inv .0) (c .loop-test .left)) at (c .before .loop .inv .3))
+returns c =
+    save-done _ _ (c .before .before .before .before .pre .0) (rw (le-antisymm (c .before .loop .inv .0) (c .loop-test .left)) at (c .before .loop .inv .3))
 
 pub save-spec : {M : Type 1} → statement M
 save-spec =

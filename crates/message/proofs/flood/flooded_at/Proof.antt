@@ -24,7 +24,9 @@ sub-read-pairs : tie.Need-sub-read-pairs
 sub-read-pairs c = search needs
 
 add-read-pairs : tie.Need-add-read-pairs
-add-read-pairs c = omega (arith, c .before .before .before .before .before .before .good, pair-within (c .before .before .before .before .before .before .args .s .now) _ (c .before .before .before .before .before .before .args .at) _ _ (c .before .before .before .read-at .ensures) (c .before .read2 .given .1))
+add-read-pairs c =
+    let c6 = c .before .before .before .before .before .before in
+    omega (arith, c6 .good, pair-within (c6 .args .s .now) _ (c6 .args .at) _ _ (c .before .before .before .read-at .ensures) (c .before .read2 .given .1))
 
 read-pairs-requires : tie.Need-read-pairs-requires
 read-pairs-requires c κs = search needs
@@ -43,12 +45,22 @@ returns c =
 returns-2 : tie.Need-returns-2
 unfolding floodedAt floodedOf floodedBy
 returns-2 c =
-    rw (← c .before .before .before .before .before .before .before .read-at .ensures, c .before .before .before .before .before .read2 .given .1, ← c .before .before .before .read-pairs .ensures, c .before .more .given .1)
+    rw (
+      ← c .before .before .before .before .before .before .before .read-at .ensures,
+      c .before .before .before .before .before .read2 .given .1,
+      ← c .before .before .before .read-pairs .ensures,
+      c .before .more .given .1,
+    )
 
 returns-3 : tie.Need-returns-3
 unfolding floodedAt floodedOf floodedBy
 returns-3 c =
-    rw (← c .before .before .before .before .before .before .before .read-at .ensures, c .before .before .before .before .before .read2 .given .1, ← c .before .before .before .read-pairs .ensures, c .before .more2 .given .1)
+    rw (
+      ← c .before .before .before .before .before .before .before .read-at .ensures,
+      c .before .before .before .before .before .read2 .given .1,
+      ← c .before .before .before .read-pairs .ensures,
+      c .before .more2 .given .1,
+    )
 
 pub flooded-at-spec : {M : Type 1} → statement M
 flooded-at-spec =

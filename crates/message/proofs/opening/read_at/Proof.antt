@@ -37,7 +37,14 @@ is-initiator-requires c κs = search needs
 returns-2 : tie.Need-returns-2
 unfolding openingAt pick
 returns-2 c =
-    rw (← c .before .before .before .before .before .number-at .ensures .is, ← c .before .before .before .before .up-to .ensures, le-ltb _ _ (c .before .before .before .if1 .left), ← c .before .before .string-at .ensures .is, ← c .before .is-initiator .ensures, not-true (c .before .is-initiator .result) (c .if2 .taken))
+    rw (
+      ← c .before .before .before .before .before .number-at .ensures .is,
+      ← c .before .before .before .before .up-to .ensures,
+      le-ltb _ _ (c .before .before .before .if1 .left),
+      ← c .before .before .string-at .ensures .is,
+      ← c .before .is-initiator .ensures,
+      not-true (c .before .is-initiator .result) (c .if2 .taken),
+    )
 
 number-at-requires-2 : tie.Need-number-at-requires-2
 number-at-requires-2 c κs = search needs
@@ -51,7 +58,18 @@ cast-if3 c = search needs
 returns-3 : tie.Need-returns-3
 unfolding openingAt pick
 returns-3 c =
-    rw (← c .before .before .before .before .before .before .before .before .number-at .ensures .is, ← c .before .before .before .before .before .before .before .up-to .ensures, le-ltb _ _ (c .before .before .before .before .before .before .if1 .left), ← c .before .before .before .before .before .string-at .ensures .is, ← c .before .before .before .before .is-initiator .ensures, not-false (c .before .before .before .before .is-initiator .result) (c .before .before .before .if2 .left), ← c .before .before .number-at2 .ensures .is, ← c .before .up-to2 .ensures, lt-ltb _ _ (c .if3 .taken))
+    let c4 = c .before .before .before .before in
+    rw (
+      ← c4 .before .before .before .before .number-at .ensures .is,
+      ← c4 .before .before .before .up-to .ensures,
+      le-ltb _ _ (c4 .before .before .if1 .left),
+      ← c4 .before .string-at .ensures .is,
+      ← c4 .is-initiator .ensures,
+      not-false (c4 .is-initiator .result) (c .before .before .before .if2 .left),
+      ← c .before .before .number-at2 .ensures .is,
+      ← c .before .up-to2 .ensures,
+      lt-ltb _ _ (c .if3 .taken),
+    )
 
 content-of-requires : tie.Need-content-of-requires
 content-of-requires c κs = search needs
@@ -65,7 +83,19 @@ cast-t13 c = search needs
 returns-4 : tie.Need-returns-4
 unfolding openingAt pick
 returns-4 c =
-    rw (← c .before .before .before .before .before .before .before .before .before .number-at .ensures .is, ← c .before .before .before .before .before .before .before .before .up-to .ensures, le-ltb _ _ (c .before .before .before .before .before .before .before .if1 .left), ← c .before .before .before .before .before .before .string-at .ensures .is, ← c .before .before .before .before .before .is-initiator .ensures, not-false (c .before .before .before .before .before .is-initiator .result) (c .before .before .before .before .if2 .left), ← c .before .before .before .number-at2 .ensures .is, ← c .before .before .up-to2 .ensures, le-ltb _ _ (c .before .if3 .left), ← c .content-of .ensures)
+    let c5 = c .before .before .before .before .before in
+    rw (
+      ← c5 .before .before .before .before .number-at .ensures .is,
+      ← c5 .before .before .before .up-to .ensures,
+      le-ltb _ _ (c5 .before .before .if1 .left),
+      ← c5 .before .string-at .ensures .is,
+      ← c5 .is-initiator .ensures,
+      not-false (c5 .is-initiator .result) (c .before .before .before .before .if2 .left),
+      ← c .before .before .before .number-at2 .ensures .is,
+      ← c .before .before .up-to2 .ensures,
+      le-ltb _ _ (c .before .if3 .left),
+      ← c .content-of .ensures,
+    )
 
 pub read-at-spec : {M : Type 1} → statement M
 read-at-spec =

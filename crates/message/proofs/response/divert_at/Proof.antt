@@ -35,7 +35,13 @@ token-at-requires c κs = search needs
 returns-2 : tie.Need-returns-2
 unfolding divertAt divertOf pick
 returns-2 c =
-    rw (le-ltb _ _ (c .before .before .before .before .before .before .if1 .left), ← c .before .before .before .before .before .read-locators .ensures, c .before .before .before .read2 .given .1, ne-eqb _ _ (c .before .if2 .taken), ← c .token-at .ensures .is)
+    rw (
+      le-ltb _ _ (c .before .before .before .before .before .before .if1 .left),
+      ← c .before .before .before .before .before .read-locators .ensures,
+      c .before .before .before .read2 .given .1,
+      ne-eqb _ _ (c .before .if2 .taken),
+      ← c .token-at .ensures .is,
+    )
 
 rest-at-requires : tie.Need-rest-at-requires
 rest-at-requires c κs = search needs
@@ -48,7 +54,13 @@ returns-3 c =
 returns-4 : tie.Need-returns-4
 unfolding divertAt divertOf pick
 returns-4 c =
-    rw (le-ltb _ _ (c .before .before .before .before .before .before .if1 .left), ← c .before .before .before .before .before .read-locators .ensures, c .before .before .before .read2 .given .1, eq-eqb _ _ (c .before .if2 .left), ← c .rest-at .ensures)
+    rw (
+      le-ltb _ _ (c .before .before .before .before .before .before .if1 .left),
+      ← c .before .before .before .before .before .read-locators .ensures,
+      c .before .before .before .read2 .given .1,
+      eq-eqb _ _ (c .before .if2 .left),
+      ← c .rest-at .ensures,
+    )
 
 pub divert-at-spec : {M : Type 1} → statement M
 divert-at-spec =

@@ -27,7 +27,12 @@ token-at-requires c κs = search needs
 returns : tie.Need-returns
 unfolding locatedAt locatedOf pick
 returns c =
-    rw (← c .before .before .before .before .before .read-locators .ensures, c .before .before .before .read2 .given .1, le-leb _ _ (c .before .if1 .taken), ← c .token-at .ensures .is)
+    rw (
+      ← c .before .before .before .before .before .read-locators .ensures,
+      c .before .before .before .read2 .given .1,
+      le-leb _ _ (c .before .if1 .taken),
+      ← c .token-at .ensures .is,
+    )
 
 sub-t13 : tie.Need-sub-t13
 sub-t13 c = search needs
@@ -43,7 +48,12 @@ returns-2 c =
 returns-3 : tie.Need-returns-3
 unfolding locatedAt locatedOf pick
 returns-3 c =
-    rw (← c .before .before .before .before .before .read-locators .ensures, c .before .before .before .read2 .given .1, lt-leb _ _ (c .before .if1 .left), ← c .rest-at .ensures)
+    rw (
+      ← c .before .before .before .before .before .read-locators .ensures,
+      c .before .before .before .read2 .given .1,
+      lt-leb _ _ (c .before .if1 .left),
+      ← c .rest-at .ensures,
+    )
 
 pub located-at-spec : {M : Type 1} → statement M
 located-at-spec =

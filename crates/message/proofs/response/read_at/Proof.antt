@@ -40,7 +40,12 @@ returns-2 c =
 returns-3 : tie.Need-returns-3
 unfolding responseAt responseBy pick
 returns-3 c =
-    rw (le-ltb _ _ (c .before .before .before .before .before .if1 .left), ← c .before .before .before .before .read-at .ensures, c .before .before .read2 .given .1, ← c .targets-at .ensures)
+    rw (
+      le-ltb _ _ (c .before .before .before .before .before .if1 .left),
+      ← c .before .before .before .before .read-at .ensures,
+      c .before .before .read2 .given .1,
+      ← c .targets-at .ensures,
+    )
 
 pub read-at-spec : {M : Type 1} → statement M
 read-at-spec =

@@ -33,19 +33,35 @@ enum-known-read-2 c = search needs
 
 add-t18 : tie.Need-add-t18
 add-t18 c =
-    omega (arith, c .before .before .before .before .before .before .before .good, objective-within 2 (c .before .before .before .before .before .before .before .args .s .now) _ (c .before .before .before .before .before .before .before .args .at) _ _ (c .before .before .before .before .read-at .ensures) (c .before .before .read2 .given .1))
+    let c7 = c .before .before .before .before .before .before .before in
+    omega (
+      arith,
+      c7 .good,
+      objective-within 2 (c7 .args .s .now) _ (c7 .args .at) _ _ (c .before .before .before .before .read-at .ensures) (c .before .before .read2 .given .1),
+    )
 
 returns-2 : tie.Need-returns-2
 unfolding restAt restOf pick
 returns-2 c =
-    rw (ne-eqb _ _ (c .before .before .before .before .before .if1 .left), ← c .before .before .before .before .read-at .ensures, c .before .before .read2 .given .1, ne-eqb _ _ (c .if2 .taken))
+    rw (
+      ne-eqb _ _ (c .before .before .before .before .before .if1 .left),
+      ← c .before .before .before .before .read-at .ensures,
+      c .before .before .read2 .given .1,
+      ne-eqb _ _ (c .if2 .taken),
+    )
 
 response-of-requires-2 : tie.Need-response-of-requires-2
 response-of-requires-2 c κs = search needs
 
 add-t21 : tie.Need-add-t21
 add-t21 c =
-    omega (arith, c .before .before .before .before .before .before .before .before .good, objective-within 2 (c .before .before .before .before .before .before .before .before .args .s .now) _ (c .before .before .before .before .before .before .before .before .args .at) _ _ (c .before .before .before .before .before .read-at .ensures) (c .before .before .before .read2 .given .1))
+    let c8 = c .before .before .before .before .before .before .before .before in
+    omega (
+      arith,
+      c8 .good,
+      objective-within 2 (c8 .args .s .now) _ (c8 .args .at) _ _ (c .before .before .before .before .before .read-at .ensures)
+          (c .before .before .before .read2 .given .1),
+    )
 
 first-of-requires : tie.Need-first-of-requires
 first-of-requires c κs = search needs
@@ -58,7 +74,14 @@ returns-3 c =
 returns-4 : tie.Need-returns-4
 unfolding restAt restOf pick
 returns-4 c =
-    rw (ne-eqb _ _ (c .before .before .before .before .before .before .before .if1 .left), ← c .before .before .before .before .before .before .read-at .ensures, c .before .before .before .before .read2 .given .1, eq-eqb _ _ (c .before .before .if2 .left), ← c .before .response-of2 .ensures, ← c .first-of .ensures)
+    rw (
+      ne-eqb _ _ (c .before .before .before .before .before .before .before .if1 .left),
+      ← c .before .before .before .before .before .before .read-at .ensures,
+      c .before .before .before .before .read2 .given .1,
+      eq-eqb _ _ (c .before .before .if2 .left),
+      ← c .before .response-of2 .ensures,
+      ← c .first-of .ensures,
+    )
 
 pub rest-at-spec : {M : Type 1} → statement M
 rest-at-spec =

@@ -37,7 +37,14 @@ divert-at-requires c κs = search needs
 returns : tie.Need-returns
 unfolding targetsAt pick
 returns c =
-    rw (← c .before .before .before .before .before .before .array-at .ensures .is, ← c .before .before .before .before .before .items-in .ensures, ne-eqb _ _ (c .before .before .before .before .if1 .taken), ← c .before .before .before .number-at .ensures .is, ← c .before .before .up-to .ensures, eq-eqb _ _ (c .before .if2 .taken)) (c .divert-at .ensures)
+    rw (
+      ← c .before .before .before .before .before .before .array-at .ensures .is,
+      ← c .before .before .before .before .before .items-in .ensures,
+      ne-eqb _ _ (c .before .before .before .before .if1 .taken),
+      ← c .before .before .before .number-at .ensures .is,
+      ← c .before .before .up-to .ensures,
+      eq-eqb _ _ (c .before .if2 .taken),
+    ) (c .divert-at .ensures)
 
 located-at-requires : tie.Need-located-at-requires
 located-at-requires c κs = search needs
@@ -46,7 +53,14 @@ returns-2 : tie.Need-returns-2
 unfolding targetsAt pick
 returns-2 c =
     ⊎-elim
-    (λ w. rw (← c .before .before .before .array-at .ensures .is, ← c .before .before .items-in .ensures, ne-eqb _ _ (w .0 .taken), ← w .1 .ensures .is, ← w .2 .ensures, ne-eqb _ _ (w .3 .left)) (c .located-at .ensures))
+    (λ w. rw (
+      ← c .before .before .before .array-at .ensures .is,
+      ← c .before .before .items-in .ensures,
+      ne-eqb _ _ (w .0 .taken),
+      ← w .1 .ensures .is,
+      ← w .2 .ensures,
+      ne-eqb _ _ (w .3 .left),
+    ) (c .located-at .ensures))
     (λ w. rw (← c .before .before .before .array-at .ensures .is, ← c .before .before .items-in .ensures, eq-eqb _ _ (w .left)) (c .located-at .ensures))
     (c .before .if1 .came)
 

@@ -32,16 +32,28 @@ text-led-requires : tie.Need-text-led-requires Inv-loop μ-loop
 text-led-requires c κs = search needs
 
 returns : tie.Need-returns Inv-loop μ-loop
-returns c = located-stop _ _ _ (c .before .before .before .before .before .before .before .loop .left) (c .before .before .before .before .before .before .before .loop .at) (c .before .before .before .before .before .before .before .loop .bad) _ (c .before .text-led .ensures) (c .if1 .taken) (c .before .before .before .before .before .before .before .loop .inv)
+returns c =
+    let loop = c .before .before .before .before .before .before .before .loop in
+    located-stop _ _ _ (loop .left) (loop .at) (loop .bad) _ (c .before .text-led .ensures) (c .if1 .taken) (loop .inv)
 
 returns-2 : tie.Need-returns-2 Inv-loop μ-loop
-returns-2 c = located-bad _ _ _ (c .before .before .before .before .before .before .before .loop .left) (c .before .before .before .before .before .before .before .loop .at) (c .before .before .before .before .before .before .before .loop .bad) _ _ _ (omega arith) (c .before .text-led .ensures) (c .if1 .left) (c .before .before .before .before .before .read-at .ensures) (c .before .before .before .read .given .1) (c .before .before .before .before .before .before .before .loop .inv)
+returns-2 c =
+    let loop = c .before .before .before .before .before .before .before .loop in
+    located-bad _ _ _ (loop .left) (loop .at) (loop .bad) _ _ _ (omega arith) (c .before .text-led .ensures) (c .if1 .left)
+    (c .before .before .before .before .before .read-at .ensures) (c .before .before .before .read .given .1) (loop .inv)
 
 enum-known-read-2 : tie.Need-enum-known-read-2 Inv-loop μ-loop
 enum-known-read-2 c = search needs
 
 add-at : tie.Need-add-at Inv-loop μ-loop
-add-at c = omega (arith, c .before .before .before .before .before .before .before .good, locator-within (c .before .before .before .before .before .before .before .args .s .now) _ (c .before .before .before .before .before .loop .at) _ _ (c .before .before .before .read-at .ensures) (c .before .read2 .given .1))
+add-at c =
+    let c7 = c .before .before .before .before .before .before .before in
+    omega (
+      arith,
+      c7 .good,
+      locator-within (c7 .args .s .now) _ (c .before .before .before .before .before .loop .at) _ _ (c .before .before .before .read-at .ensures)
+          (c .before .read2 .given .1),
+    )
 
 first-of-requires : tie.Need-first-of-requires Inv-loop μ-loop
 first-of-requires c κs = search needs
@@ -53,7 +65,10 @@ loop-less : tie.Need-loop-less Inv-loop μ-loop
 loop-less c = search needs
 
 loop-again : tie.Need-loop-again Inv-loop μ-loop
-loop-again c = located-next (c .before .before .before .before .before .before .before .before .args .s .now) _ _ (c .before .before .before .before .before .before .loop .left) (c .before .before .before .before .before .before .loop .at) (c .before .before .before .before .before .before .loop .bad) _ _ _ _ _ (omega arith) (c .before .before .before .before .read-at .ensures) (c .before .before .read2 .given .1) (c .first-of .ensures) (c .before .before .before .before .before .before .loop .inv)
+loop-again c =
+    let c6 = c .before .before .before .before .before .before in
+    located-next (c6 .before .before .args .s .now) _ _ (c6 .loop .left) (c6 .loop .at) (c6 .loop .bad) _ _ _ _ _ (omega arith)
+    (c .before .before .before .before .read-at .ensures) (c .before .before .read2 .given .1) (c .first-of .ensures) (c6 .loop .inv)
 
 returns-3 : tie.Need-returns-3 Inv-loop μ-loop
 returns-3 c = located-end _ _ _ (c .before .loop .left) (c .before .loop .at) (c .before .loop .bad) (omega arith) (c .before .loop .inv)

@@ -28,13 +28,23 @@ enum-known-read : tie.Need-enum-known-read Inv-loop μ-loop
 enum-known-read c = search needs
 
 returns : tie.Need-returns Inv-loop μ-loop
-returns c = paired-bad _ _ _ _ _ (c .before .before .before .before .before .loop .left) (c .before .before .before .before .before .loop .at) (c .before .before .before .before .before .loop .bad) (c .before .before .before .before .before .loop .long) _ _ (omega arith) (c .before .before .before .read-at .ensures) (c .before .read .given .1) (c .before .before .before .before .before .loop .inv)
+returns c =
+    let loop = c .before .before .before .before .before .loop in
+    paired-bad _ _ _ _ _ (loop .left) (loop .at) (loop .bad) (loop .long) _ _ (omega arith) (c .before .before .before .read-at .ensures)
+    (c .before .read .given .1) (loop .inv)
 
 enum-known-read-2 : tie.Need-enum-known-read-2 Inv-loop μ-loop
 enum-known-read-2 c = search needs
 
 add-at : tie.Need-add-at Inv-loop μ-loop
-add-at c = omega (arith, c .before .before .before .before .before .before .before .good, pair-within (c .before .before .before .before .before .before .before .args .s .now) _ (c .before .before .before .before .before .loop .at) _ _ (c .before .before .before .read-at .ensures) (c .before .read2 .given .1))
+add-at c =
+    let c7 = c .before .before .before .before .before .before .before in
+    omega (
+      arith,
+      c7 .good,
+      pair-within (c7 .args .s .now) _ (c .before .before .before .before .before .loop .at) _ _ (c .before .before .before .read-at .ensures)
+          (c .before .read2 .given .1),
+    )
 
 first-of-requires : tie.Need-first-of-requires Inv-loop μ-loop
 first-of-requires c κs = search needs
@@ -49,10 +59,15 @@ loop-less : tie.Need-loop-less Inv-loop μ-loop
 loop-less c = search needs
 
 loop-again : tie.Need-loop-again Inv-loop μ-loop
-loop-again c = paired-next _ _ _ _ _ (c .before .before .before .before .before .before .before .loop .left) (c .before .before .before .before .before .before .before .loop .at) (c .before .before .before .before .before .before .before .loop .bad) (c .before .before .before .before .before .before .before .loop .long) _ _ _ _ _ _ _ _ (omega arith) (c .before .before .before .before .before .read-at .ensures) (c .before .before .before .read2 .given .1) (c .before .first-of .ensures) (c .first-of2 .ensures) (c .before .before .before .before .before .before .before .loop .inv)
+loop-again c =
+    let loop = c .before .before .before .before .before .before .before .loop in
+    paired-next _ _ _ _ _ (loop .left) (loop .at) (loop .bad) (loop .long) _ _ _ _ _ _ _ _ (omega arith)
+    (c .before .before .before .before .before .read-at .ensures) (c .before .before .before .read2 .given .1) (c .before .first-of .ensures)
+    (c .first-of2 .ensures) (loop .inv)
 
 returns-2 : tie.Need-returns-2 Inv-loop μ-loop
-returns-2 c = paired-end _ _ _ _ _ (c .before .loop .left) (c .before .loop .at) (c .before .loop .bad) (c .before .loop .long) (omega arith) (c .before .loop .inv)
+returns-2 c =
+    paired-end _ _ _ _ _ (c .before .loop .left) (c .before .loop .at) (c .before .loop .bad) (c .before .loop .long) (omega arith) (c .before .loop .inv)
 
 pub read-pairs-spec : {M : Type 1} → statement M
 read-pairs-spec =

@@ -28,7 +28,12 @@ token-at-requires-2 c κs = search needs
 returns-2 : tie.Need-returns-2
 unfolding textLed pick
 returns-2 c =
-    rw (← c .before .before .before .before .token-at .ensures .is, ← c .before .before .before .items-in .ensures, ne-eqb _ _ (c .before .before .if1 .left), ← c .before .token-at2 .ensures .is)
+    rw (
+      ← c .before .before .before .before .token-at .ensures .is,
+      ← c .before .before .before .items-in .ensures,
+      ne-eqb _ _ (c .before .before .if1 .left),
+      ← c .before .token-at2 .ensures .is,
+    )
 
 pub text-led-spec : {M : Type 1} → statement M
 text-led-spec =

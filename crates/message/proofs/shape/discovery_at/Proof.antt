@@ -46,7 +46,15 @@ is-initiator-requires c κs = search needs
 returns-3 : tie.Need-returns-3
 unfolding discoveryAt discovered pick
 returns-3 c =
-    rw (eq-eqb _ _ (c .before .before .before .before .before .before .if1 .left), ← c .before .before .before .before .before .number-at .ensures .is, ← c .before .before .before .before .up-to .ensures, le-ltb _ _ (c .before .before .before .if2 .left), ← c .before .before .string-at .ensures .is, ← c .before .is-initiator .ensures, not-true (c .before .is-initiator .result) (c .if3 .taken))
+    rw (
+      eq-eqb _ _ (c .before .before .before .before .before .before .if1 .left),
+      ← c .before .before .before .before .before .number-at .ensures .is,
+      ← c .before .before .before .before .up-to .ensures,
+      le-ltb _ _ (c .before .before .before .if2 .left),
+      ← c .before .before .string-at .ensures .is,
+      ← c .before .is-initiator .ensures,
+      not-true (c .before .is-initiator .result) (c .if3 .taken),
+    )
 
 content-of-requires : tie.Need-content-of-requires
 content-of-requires c κs = search needs
@@ -60,7 +68,19 @@ enum-known-read c = search needs
 returns-4 : tie.Need-returns-4
 unfolding discoveryAt discovered pick
 returns-4 c =
-    rw (eq-eqb _ _ (c .before .before .before .before .before .before .before .before .before .before .before .if1 .left), ← c .before .before .before .before .before .before .before .before .before .before .number-at .ensures .is, ← c .before .before .before .before .before .before .before .before .before .up-to .ensures, le-ltb _ _ (c .before .before .before .before .before .before .before .before .if2 .left), ← c .before .before .before .before .before .before .before .string-at .ensures .is, ← c .before .before .before .before .before .before .is-initiator .ensures, not-false (c .before .before .before .before .before .before .is-initiator .result) (c .before .before .before .before .before .if3 .left), ← c .before .before .before .before .content-of .ensures, ← c .before .before .before .read-at .ensures, c .before .read .given .1)
+    let c6 = c .before .before .before .before .before .before in
+    rw (
+      eq-eqb _ _ (c6 .before .before .before .before .before .if1 .left),
+      ← c6 .before .before .before .before .number-at .ensures .is,
+      ← c6 .before .before .before .up-to .ensures,
+      le-ltb _ _ (c6 .before .before .if2 .left),
+      ← c6 .before .string-at .ensures .is,
+      ← c6 .is-initiator .ensures,
+      not-false (c6 .is-initiator .result) (c .before .before .before .before .before .if3 .left),
+      ← c .before .before .before .before .content-of .ensures,
+      ← c .before .before .before .read-at .ensures,
+      c .before .read .given .1,
+    )
 
 enum-known-read-2 : tie.Need-enum-known-read-2
 enum-known-read-2 c = search needs
@@ -73,12 +93,32 @@ copied-requires c κs = search needs
 
 add-t20 : tie.Need-add-t20
 add-t20 c =
-    omega (arith, c .before .before .before .before .before .before .before .before .before .string-at .ensures, c .before .before .before .before .before .before .before .before .before .before .before .before .before .before .before .good, objective-within 2 (c .before .before .before .before .before .before .before .before .before .before .before .before .before .before .before .args .s .now) _ (c .before .before .before .before .before .before .before .before .before .string-at .result .next) _ _ (c .before .before .before .before .before .read-at .ensures) (c .before .before .before .read2 .given .1))
+    let c9 = c .before .before .before .before .before .before .before .before .before in
+    omega (
+      arith,
+      c9 .string-at .ensures,
+      c9 .before .before .before .before .before .before .good,
+      objective-within 2 (c9 .before .before .before .before .before .before .args .s .now) _ (c9 .string-at .result .next) _ _
+          (c .before .before .before .before .before .read-at .ensures) (c .before .before .before .read2 .given .1),
+    )
 
 returns-5 : tie.Need-returns-5
 unfolding discoveryAt discovered pick
 returns-5 c =
-    rw (eq-eqb _ _ (c .before .before .before .before .before .before .before .before .before .before .before .before .before .if1 .left), ← c .before .before .before .before .before .before .before .before .before .before .before .before .number-at .ensures .is, ← c .before .before .before .before .before .before .before .before .before .before .before .up-to .ensures, le-ltb _ _ (c .before .before .before .before .before .before .before .before .before .before .if2 .left), ← c .before .before .before .before .before .before .before .before .before .string-at .ensures .is, ← c .before .before .before .before .before .before .before .before .is-initiator .ensures, not-false (c .before .before .before .before .before .before .before .before .is-initiator .result) (c .before .before .before .before .before .before .before .if3 .left), ← c .before .before .before .before .before .before .content-of .ensures, ← c .before .before .before .before .before .read-at .ensures, c .before .before .before .read2 .given .1, ← c .before .copied .ensures)
+    let c8 = c .before .before .before .before .before .before .before .before in
+    rw (
+      eq-eqb _ _ (c8 .before .before .before .before .before .if1 .left),
+      ← c8 .before .before .before .before .number-at .ensures .is,
+      ← c8 .before .before .before .up-to .ensures,
+      le-ltb _ _ (c8 .before .before .if2 .left),
+      ← c8 .before .string-at .ensures .is,
+      ← c8 .is-initiator .ensures,
+      not-false (c8 .is-initiator .result) (c .before .before .before .before .before .before .before .if3 .left),
+      ← c .before .before .before .before .before .before .content-of .ensures,
+      ← c .before .before .before .before .before .read-at .ensures,
+      c .before .before .before .read2 .given .1,
+      ← c .before .copied .ensures,
+    )
 
 pub discovery-at-spec : {M : Type 1} → statement M
 discovery-at-spec =

@@ -40,7 +40,13 @@ option-at-requires c κs = search needs
 returns-3 : tie.Need-returns-3
 unfolding endAt pick
 returns-3 c =
-    rw (eq-eqb _ _ (c .before .before .before .before .if1 .left), ← c .before .before .before .number-at .ensures .is, ← c .before .before .up-to .ensures, le-ltb _ _ (c .before .if2 .left), ← c .option-at .ensures)
+    rw (
+      eq-eqb _ _ (c .before .before .before .before .if1 .left),
+      ← c .before .before .before .number-at .ensures .is,
+      ← c .before .before .up-to .ensures,
+      le-ltb _ _ (c .before .if2 .left),
+      ← c .option-at .ensures,
+    )
 
 pub end-at-spec : {M : Type 1} → statement M
 end-at-spec =

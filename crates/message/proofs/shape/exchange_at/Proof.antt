@@ -44,7 +44,14 @@ enum-known-read c = search needs
 returns-3 : tie.Need-returns-3
 unfolding exchangeAt exchanged pick
 returns-3 c =
-    rw (eq-eqb _ _ (c .before .before .before .before .before .before .before .if1 .left), ← c .before .before .before .before .before .before .number-at .ensures .is, ← c .before .before .before .before .before .up-to .ensures, le-ltb _ _ (c .before .before .before .before .if2 .left), ← c .before .before .before .read-at .ensures, c .before .read .given .1)
+    rw (
+      eq-eqb _ _ (c .before .before .before .before .before .before .before .if1 .left),
+      ← c .before .before .before .before .before .before .number-at .ensures .is,
+      ← c .before .before .before .before .before .up-to .ensures,
+      le-ltb _ _ (c .before .before .before .before .if2 .left),
+      ← c .before .before .before .read-at .ensures,
+      c .before .read .given .1,
+    )
 
 enum-known-read-2 : tie.Need-enum-known-read-2
 enum-known-read-2 c = search needs
@@ -60,12 +67,28 @@ exchange-of-requires c κs = search needs
 
 add-t18 : tie.Need-add-t18
 add-t18 c =
-    omega (arith, c .before .before .before .before .before .before .before .before .before .number-at .ensures, c .before .before .before .before .before .before .before .before .before .before .before .before .good, objective-within 2 (c .before .before .before .before .before .before .before .before .before .before .before .before .args .s .now) _ (c .before .before .before .before .before .before .before .before .before .number-at .result .next) _ _ (c .before .before .before .before .before .before .read-at .ensures) (c .before .before .before .before .read2 .given .1))
+    let c9 = c .before .before .before .before .before .before .before .before .before in
+    omega (
+      arith,
+      c9 .number-at .ensures,
+      c9 .before .before .before .good,
+      objective-within 2 (c9 .before .before .before .args .s .now) _ (c9 .number-at .result .next) _ _
+          (c .before .before .before .before .before .before .read-at .ensures) (c .before .before .before .before .read2 .given .1),
+    )
 
 returns-4 : tie.Need-returns-4
 unfolding exchangeAt exchanged pick
 returns-4 c =
-    rw (eq-eqb _ _ (c .before .before .before .before .before .before .before .before .before .before .if1 .left), ← c .before .before .before .before .before .before .before .before .before .number-at .ensures .is, ← c .before .before .before .before .before .before .before .before .up-to .ensures, le-ltb _ _ (c .before .before .before .before .before .before .before .if2 .left), ← c .before .before .before .before .before .before .read-at .ensures, c .before .before .before .before .read2 .given .1, ← c .before .before .copied .ensures, ← c .before .exchange-of .ensures)
+    rw (
+      eq-eqb _ _ (c .before .before .before .before .before .before .before .before .before .before .if1 .left),
+      ← c .before .before .before .before .before .before .before .before .before .number-at .ensures .is,
+      ← c .before .before .before .before .before .before .before .before .up-to .ensures,
+      le-ltb _ _ (c .before .before .before .before .before .before .before .if2 .left),
+      ← c .before .before .before .before .before .before .read-at .ensures,
+      c .before .before .before .before .read2 .given .1,
+      ← c .before .before .copied .ensures,
+      ← c .before .exchange-of .ensures,
+    )
 
 pub exchange-at-spec : {M : Type 1} → statement M
 exchange-at-spec =

@@ -34,7 +34,13 @@ cast-if3 c = search needs
 returns-3 : tie.Need-returns-3
 unfolding invalidAt pick
 returns-3 c =
-    rw (le-ltb _ _ (c .before .before .before .before .if1 .left), le-ltb _ _ (c .before .before .before .if2 .left), ← c .before .before .number-at .ensures .is, ← c .before .up-to .ensures, lt-ltb _ _ (c .if3 .taken))
+    rw (
+      le-ltb _ _ (c .before .before .before .before .if1 .left),
+      le-ltb _ _ (c .before .before .before .if2 .left),
+      ← c .before .before .number-at .ensures .is,
+      ← c .before .up-to .ensures,
+      lt-ltb _ _ (c .if3 .taken),
+    )
 
 cast-t10 : tie.Need-cast-t10
 cast-t10 c = search needs
@@ -42,7 +48,14 @@ cast-t10 c = search needs
 returns-4 : tie.Need-returns-4
 unfolding invalidAt pick
 returns-4 c =
-    rw (le-ltb _ _ (c .before .before .before .before .before .if1 .left), le-ltb _ _ (c .before .before .before .before .if2 .left), ← c .before .before .before .number-at .ensures .is, ← c .before .before .up-to .ensures, le-ltb _ _ (c .before .if3 .left), eq-eqb _ _ (c .if4 .taken))
+    rw (
+      le-ltb _ _ (c .before .before .before .before .before .if1 .left),
+      le-ltb _ _ (c .before .before .before .before .if2 .left),
+      ← c .before .before .before .number-at .ensures .is,
+      ← c .before .before .up-to .ensures,
+      le-ltb _ _ (c .before .if3 .left),
+      eq-eqb _ _ (c .if4 .taken),
+    )
 
 size-at-requires : tie.Need-size-at-requires
 size-at-requires c κs = search needs
@@ -50,7 +63,16 @@ size-at-requires c κs = search needs
 returns-5 : tie.Need-returns-5
 unfolding invalidAt pick
 returns-5 c =
-    rw (le-ltb _ _ (c .before .before .before .before .before .before .before .if1 .left), le-ltb _ _ (c .before .before .before .before .before .before .if2 .left), ← c .before .before .before .before .before .number-at .ensures .is, ← c .before .before .before .before .up-to .ensures, le-ltb _ _ (c .before .before .before .if3 .left), ne-eqb _ _ (c .before .before .if4 .left), ← c .before .size-at .ensures .is, eq-eqb _ _ (c .if5 .taken))
+    rw (
+      le-ltb _ _ (c .before .before .before .before .before .before .before .if1 .left),
+      le-ltb _ _ (c .before .before .before .before .before .before .if2 .left),
+      ← c .before .before .before .before .before .number-at .ensures .is,
+      ← c .before .before .before .before .up-to .ensures,
+      le-ltb _ _ (c .before .before .before .if3 .left),
+      ne-eqb _ _ (c .before .before .if4 .left),
+      ← c .before .size-at .ensures .is,
+      eq-eqb _ _ (c .if5 .taken),
+    )
 
 cast-t13 : tie.Need-cast-t13
 cast-t13 c = search needs
@@ -61,7 +83,16 @@ add-t16 c = search needs
 returns-6 : tie.Need-returns-6
 unfolding invalidAt pick
 returns-6 c =
-    rw (le-ltb _ _ (c .before .before .before .before .before .before .before .if1 .left), le-ltb _ _ (c .before .before .before .before .before .before .if2 .left), ← c .before .before .before .before .before .number-at .ensures .is, ← c .before .before .before .before .up-to .ensures, le-ltb _ _ (c .before .before .before .if3 .left), ne-eqb _ _ (c .before .before .if4 .left), ← c .before .size-at .ensures .is, ne-eqb _ _ (c .if5 .left))
+    rw (
+      le-ltb _ _ (c .before .before .before .before .before .before .before .if1 .left),
+      le-ltb _ _ (c .before .before .before .before .before .before .if2 .left),
+      ← c .before .before .before .before .before .number-at .ensures .is,
+      ← c .before .before .before .before .up-to .ensures,
+      le-ltb _ _ (c .before .before .before .if3 .left),
+      ne-eqb _ _ (c .before .before .if4 .left),
+      ← c .before .size-at .ensures .is,
+      ne-eqb _ _ (c .if5 .left),
+    )
 
 pub invalid-at-spec : {M : Type 1} → statement M
 invalid-at-spec =

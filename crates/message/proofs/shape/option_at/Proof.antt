@@ -37,12 +37,27 @@ up-to-requires c κs = search needs
 returns-2 : tie.Need-returns-2
 unfolding optionAt pick
 returns-2 c =
-    rw (← c .before .before .before .before .before .array-at .ensures .is, ← c .before .before .before .before .items-in .ensures, ne-eqb _ _ (c .before .before .before .if1 .left), ← c .before .before .number-at .ensures .is, ← c .before .up-to .ensures, lt-ltb _ _ (c .if2 .taken))
+    rw (
+      ← c .before .before .before .before .before .array-at .ensures .is,
+      ← c .before .before .before .before .items-in .ensures,
+      ne-eqb _ _ (c .before .before .before .if1 .left),
+      ← c .before .before .number-at .ensures .is,
+      ← c .before .up-to .ensures,
+      lt-ltb _ _ (c .if2 .taken),
+    )
 
 returns-3 : tie.Need-returns-3
 unfolding optionAt pick
 returns-3 c =
-    rw (← c .before .before .before .before .before .before .array-at .ensures .is, ← c .before .before .before .before .before .items-in .ensures, ne-eqb _ _ (c .before .before .before .before .if1 .left), ← c .before .before .before .number-at .ensures .is, ← c .before .before .up-to .ensures, le-ltb _ _ (c .before .if2 .left), lt-ltb _ _ (c .if3 .taken))
+    rw (
+      ← c .before .before .before .before .before .before .array-at .ensures .is,
+      ← c .before .before .before .before .before .items-in .ensures,
+      ne-eqb _ _ (c .before .before .before .before .if1 .left),
+      ← c .before .before .before .number-at .ensures .is,
+      ← c .before .before .up-to .ensures,
+      le-ltb _ _ (c .before .if2 .left),
+      lt-ltb _ _ (c .if3 .taken),
+    )
 
 ended-requires : tie.Need-ended-requires
 ended-requires c κs = search needs
@@ -50,7 +65,18 @@ ended-requires c κs = search needs
 returns-4 : tie.Need-returns-4
 unfolding optionAt pick
 returns-4 c =
-    rw (← c .before .before .before .before .before .before .before .before .before .before .array-at .ensures .is, ← c .before .before .before .before .before .before .before .before .before .items-in .ensures, ne-eqb _ _ (c .before .before .before .before .before .before .before .before .if1 .left), ← c .before .before .before .before .before .before .before .number-at .ensures .is, ← c .before .before .before .before .before .before .up-to .ensures, le-ltb _ _ (c .before .before .before .before .before .if2 .left), le-ltb _ _ (c .before .before .before .before .if3 .left), eq-eqb _ _ (c .before .before .if4 .taken), eq-eqb _ _ (c .before .if5 .taken), ← c .ended .ensures)
+    rw (
+      ← c .before .before .before .before .before .before .before .before .before .before .array-at .ensures .is,
+      ← c .before .before .before .before .before .before .before .before .before .items-in .ensures,
+      ne-eqb _ _ (c .before .before .before .before .before .before .before .before .if1 .left),
+      ← c .before .before .before .before .before .before .before .number-at .ensures .is,
+      ← c .before .before .before .before .before .before .up-to .ensures,
+      le-ltb _ _ (c .before .before .before .before .before .if2 .left),
+      le-ltb _ _ (c .before .before .before .before .if3 .left),
+      eq-eqb _ _ (c .before .before .if4 .taken),
+      eq-eqb _ _ (c .before .if5 .taken),
+      ← c .ended .ensures,
+    )
 
 ended-requires-2 : tie.Need-ended-requires-2
 ended-requires-2 c κs = search needs
@@ -58,17 +84,50 @@ ended-requires-2 c κs = search needs
 returns-5 : tie.Need-returns-5
 unfolding optionAt pick
 returns-5 c =
-    rw (← c .before .before .before .before .before .before .before .before .before .before .array-at .ensures .is, ← c .before .before .before .before .before .before .before .before .before .items-in .ensures, ne-eqb _ _ (c .before .before .before .before .before .before .before .before .if1 .left), ← c .before .before .before .before .before .before .before .number-at .ensures .is, ← c .before .before .before .before .before .before .up-to .ensures, le-ltb _ _ (c .before .before .before .before .before .if2 .left), le-ltb _ _ (c .before .before .before .before .if3 .left), eq-eqb _ _ (c .before .before .if4 .taken), ne-eqb _ _ (c .before .if5 .left), ← c .ended2 .ensures)
+    rw (
+      ← c .before .before .before .before .before .before .before .before .before .before .array-at .ensures .is,
+      ← c .before .before .before .before .before .before .before .before .before .items-in .ensures,
+      ne-eqb _ _ (c .before .before .before .before .before .before .before .before .if1 .left),
+      ← c .before .before .before .before .before .before .before .number-at .ensures .is,
+      ← c .before .before .before .before .before .before .up-to .ensures,
+      le-ltb _ _ (c .before .before .before .before .before .if2 .left),
+      le-ltb _ _ (c .before .before .before .before .if3 .left),
+      eq-eqb _ _ (c .before .before .if4 .taken),
+      ne-eqb _ _ (c .before .if5 .left),
+      ← c .ended2 .ensures,
+    )
 
 returns-6 : tie.Need-returns-6
 unfolding optionAt pick
 returns-6 c =
-    rw (← c .before .before .before .before .before .before .before .before .before .array-at .ensures .is, ← c .before .before .before .before .before .before .before .before .items-in .ensures, ne-eqb _ _ (c .before .before .before .before .before .before .before .if1 .left), ← c .before .before .before .before .before .before .number-at .ensures .is, ← c .before .before .before .before .before .up-to .ensures, le-ltb _ _ (c .before .before .before .before .if2 .left), le-ltb _ _ (c .before .before .before .if3 .left), ne-eqb _ _ (c .before .if4 .left), eq-eqb _ _ (c .if6 .taken))
+    rw (
+      ← c .before .before .before .before .before .before .before .before .before .array-at .ensures .is,
+      ← c .before .before .before .before .before .before .before .before .items-in .ensures,
+      ne-eqb _ _ (c .before .before .before .before .before .before .before .if1 .left),
+      ← c .before .before .before .before .before .before .number-at .ensures .is,
+      ← c .before .before .before .before .before .up-to .ensures,
+      le-ltb _ _ (c .before .before .before .before .if2 .left),
+      le-ltb _ _ (c .before .before .before .if3 .left),
+      ne-eqb _ _ (c .before .if4 .left),
+      eq-eqb _ _ (c .if6 .taken),
+    )
 
 returns-7 : tie.Need-returns-7
 unfolding optionAt pick
 returns-7 c =
-    rw (← c .before .before .before .before .before .before .before .before .before .before .before .array-at .ensures .is, ← c .before .before .before .before .before .before .before .before .before .before .items-in .ensures, ne-eqb _ _ (c .before .before .before .before .before .before .before .before .before .if1 .left), ← c .before .before .before .before .before .before .before .before .number-at .ensures .is, ← c .before .before .before .before .before .before .before .up-to .ensures, le-ltb _ _ (c .before .before .before .before .before .before .if2 .left), le-ltb _ _ (c .before .before .before .before .before .if3 .left), ne-eqb _ _ (c .before .before .before .if4 .left), ne-eqb _ _ (c .before .before .if6 .left), ne-eqb _ _ (c .if7 .taken))
+    let c6 = c .before .before .before .before .before .before in
+    rw (
+      ← c6 .before .before .before .before .before .array-at .ensures .is,
+      ← c6 .before .before .before .before .items-in .ensures,
+      ne-eqb _ _ (c6 .before .before .before .if1 .left),
+      ← c6 .before .before .number-at .ensures .is,
+      ← c6 .before .up-to .ensures,
+      le-ltb _ _ (c6 .if2 .left),
+      le-ltb _ _ (c .before .before .before .before .before .if3 .left),
+      ne-eqb _ _ (c .before .before .before .if4 .left),
+      ne-eqb _ _ (c .before .before .if6 .left),
+      ne-eqb _ _ (c .if7 .taken),
+    )
 
 string-at-requires : tie.Need-string-at-requires
 string-at-requires c κs = search needs
@@ -76,7 +135,21 @@ string-at-requires c κs = search needs
 returns-8 : tie.Need-returns-8
 unfolding optionAt pick
 returns-8 c =
-    rw (← c .before .before .before .before .before .before .before .before .before .before .before .before .before .before .array-at .ensures .is, ← c .before .before .before .before .before .before .before .before .before .before .before .before .before .items-in .ensures, ne-eqb _ _ (c .before .before .before .before .before .before .before .before .before .before .before .before .if1 .left), ← c .before .before .before .before .before .before .before .before .before .before .before .number-at .ensures .is, ← c .before .before .before .before .before .before .before .before .before .before .up-to .ensures, le-ltb _ _ (c .before .before .before .before .before .before .before .before .before .if2 .left), le-ltb _ _ (c .before .before .before .before .before .before .before .before .if3 .left), ne-eqb _ _ (c .before .before .before .before .before .before .if4 .left), ne-eqb _ _ (c .before .before .before .before .before .if6 .left), eq-eqb _ _ (c .before .before .before .if7 .left), ← c .before .before .string-at .ensures .is, ne-eqb _ _ (c .if8 .taken))
+    let c8 = c .before .before .before .before .before .before .before .before in
+    rw (
+      ← c8 .before .before .before .before .before .before .array-at .ensures .is,
+      ← c8 .before .before .before .before .before .items-in .ensures,
+      ne-eqb _ _ (c8 .before .before .before .before .if1 .left),
+      ← c8 .before .before .before .number-at .ensures .is,
+      ← c8 .before .before .up-to .ensures,
+      le-ltb _ _ (c8 .before .if2 .left),
+      le-ltb _ _ (c8 .if3 .left),
+      ne-eqb _ _ (c .before .before .before .before .before .before .if4 .left),
+      ne-eqb _ _ (c .before .before .before .before .before .if6 .left),
+      eq-eqb _ _ (c .before .before .before .if7 .left),
+      ← c .before .before .string-at .ensures .is,
+      ne-eqb _ _ (c .if8 .taken),
+    )
 
 content-of-requires : tie.Need-content-of-requires
 content-of-requires c κs = search needs
@@ -99,7 +172,24 @@ ended-requires-3 c κs = search needs
 returns-9 : tie.Need-returns-9
 unfolding optionAt pick
 returns-9 c =
-    rw (← c .before .before .before .before .before .before .before .before .before .before .before .before .before .before .before .before .before .before .array-at .ensures .is, ← c .before .before .before .before .before .before .before .before .before .before .before .before .before .before .before .before .before .items-in .ensures, ne-eqb _ _ (c .before .before .before .before .before .before .before .before .before .before .before .before .before .before .before .before .if1 .left), ← c .before .before .before .before .before .before .before .before .before .before .before .before .before .before .before .number-at .ensures .is, ← c .before .before .before .before .before .before .before .before .before .before .before .before .before .before .up-to .ensures, le-ltb _ _ (c .before .before .before .before .before .before .before .before .before .before .before .before .before .if2 .left), le-ltb _ _ (c .before .before .before .before .before .before .before .before .before .before .before .before .if3 .left), ne-eqb _ _ (c .before .before .before .before .before .before .before .before .before .before .if4 .left), ne-eqb _ _ (c .before .before .before .before .before .before .before .before .before .if6 .left), eq-eqb _ _ (c .before .before .before .before .before .before .before .if7 .left), ← c .before .before .before .before .before .before .string-at .ensures .is, eq-eqb _ _ (c .before .before .before .before .if8 .left), ← c .before .before .before .content-of .ensures, ← c .before .bad-text .ensures, ← c .ended3 .ensures)
+    let c9 = c .before .before .before .before .before .before .before .before .before in
+    rw (
+      ← c9 .before .before .before .before .before .before .before .before .before .array-at .ensures .is,
+      ← c9 .before .before .before .before .before .before .before .before .items-in .ensures,
+      ne-eqb _ _ (c9 .before .before .before .before .before .before .before .if1 .left),
+      ← c9 .before .before .before .before .before .before .number-at .ensures .is,
+      ← c9 .before .before .before .before .before .up-to .ensures,
+      le-ltb _ _ (c9 .before .before .before .before .if2 .left),
+      le-ltb _ _ (c9 .before .before .before .if3 .left),
+      ne-eqb _ _ (c9 .before .if4 .left),
+      ne-eqb _ _ (c9 .if6 .left),
+      eq-eqb _ _ (c .before .before .before .before .before .before .before .if7 .left),
+      ← c .before .before .before .before .before .before .string-at .ensures .is,
+      eq-eqb _ _ (c .before .before .before .before .if8 .left),
+      ← c .before .before .before .content-of .ensures,
+      ← c .before .bad-text .ensures,
+      ← c .ended3 .ensures,
+    )
 
 pub option-at-spec : {M : Type 1} → statement M
 option-at-spec =

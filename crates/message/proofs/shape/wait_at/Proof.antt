@@ -42,7 +42,15 @@ cast-if3 c = search needs
 returns-3 : tie.Need-returns-3
 unfolding waitAt pick
 returns-3 c =
-    rw (eq-eqb _ _ (c .before .before .before .before .before .before .if1 .left), ← c .before .before .before .before .before .number-at .ensures .is, ← c .before .before .before .before .up-to .ensures, le-ltb _ _ (c .before .before .before .if2 .left), ← c .before .before .number-at2 .ensures .is, ← c .before .up-to2 .ensures, lt-ltb _ _ (c .if3 .taken))
+    rw (
+      eq-eqb _ _ (c .before .before .before .before .before .before .if1 .left),
+      ← c .before .before .before .before .before .number-at .ensures .is,
+      ← c .before .before .before .before .up-to .ensures,
+      le-ltb _ _ (c .before .before .before .if2 .left),
+      ← c .before .before .number-at2 .ensures .is,
+      ← c .before .up-to2 .ensures,
+      lt-ltb _ _ (c .if3 .taken),
+    )
 
 cast-t10 : tie.Need-cast-t10
 cast-t10 c = search needs
@@ -53,7 +61,15 @@ cast-t11 c = search needs
 returns-4 : tie.Need-returns-4
 unfolding waitAt pick
 returns-4 c =
-    rw (eq-eqb _ _ (c .before .before .before .before .before .before .if1 .left), ← c .before .before .before .before .before .number-at .ensures .is, ← c .before .before .before .before .up-to .ensures, le-ltb _ _ (c .before .before .before .if2 .left), ← c .before .before .number-at2 .ensures .is, ← c .before .up-to2 .ensures, le-ltb _ _ (c .if3 .left))
+    rw (
+      eq-eqb _ _ (c .before .before .before .before .before .before .if1 .left),
+      ← c .before .before .before .before .before .number-at .ensures .is,
+      ← c .before .before .before .before .up-to .ensures,
+      le-ltb _ _ (c .before .before .before .if2 .left),
+      ← c .before .before .number-at2 .ensures .is,
+      ← c .before .up-to2 .ensures,
+      le-ltb _ _ (c .if3 .left),
+    )
 
 pub wait-at-spec : {M : Type 1} → statement M
 wait-at-spec =

@@ -22,7 +22,10 @@ same-length : tie.Need-same-length
 same-length c = search needs
 
 returns : tie.Need-returns
-returns c = barred-outcome (c .before .before .before .before .before .before .before .args .node) (c .before .before .before .before .before .before .before .args .table .now) (callOf (c .before .before .before .before .before .before .before .args .clock) (c .before .before .before .before .before .before .before .args .interface) (c .before .before .before .before .before .before .before .args .names .now) (c .before .before .before .before .before .before .before .args .message .now) (c .before .before .before .before .before .before .before .args .out .now)) _ _ (c .before .barred-by .ensures) (c .if1 .taken) refl
+returns c =
+    let args = c .before .before .before .before .before .before .before .args in
+    barred-outcome (args .node) (args .table .now) (callOf (args .clock) (args .interface) (args .names .now) (args .message .now) (args .out .now)) _ _
+    (c .before .barred-by .ensures) (c .if1 .taken) refl
 
 read-requires : tie.Need-read-requires
 read-requires c κs = search needs
@@ -34,22 +37,33 @@ enum-known-read-2 : tie.Need-enum-known-read-2
 enum-known-read-2 c = search needs
 
 cast-take : tie.Need-cast-take
-cast-take c = let p = passed (c .before .before .before .before .before .before .before .before .before .before .before .before .args .node) (c .before .before .before .before .before .before .before .before .before .before .before .before .args .table .now) (c .before .before .before .before .before .before .before .before .before .before .before .before .args .clock) (c .before .before .before .before .before .before .before .before .before .before .before .before .args .interface) (c .before .before .before .before .before .before .before .before .before .before .before .before .args .names .now) (length (c .before .before .before .before .before .before .before .before .before .before .before .before .args .out .now)) (sym (c .before .before .before .before .before .before .barred-by .ensures) ∙ c .before .before .before .before .before .if1 .left) in omega (arith, arrival-small (c .before .before .before .before .before .before .before .before .before .before .before .before .args .node) (c .before .before .before .before .before .before .before .before .before .before .before .before .args .interface) (p .good) (p .arrives))
+cast-take c =
+    let c5 = c .before .before .before .before .before in
+    let args = c5 .before .before .before .before .before .before .before .args in
+    let p = passed (args .node) (args .table .now) (args .clock) (args .interface) (args .names .now) (length (args .out .now))
+    (sym (c5 .before .barred-by .ensures) ∙ c5 .if1 .left) in omega (arith, arrival-small (args .node) (args .interface) (p .good) (p .arrives))
 
 role-of-requires : tie.Need-role-of-requires
 role-of-requires c κs = search needs
 
 take-requires : tie.Need-take-requires
-take-requires c κs = (
-  passed (c .before .before .before .before .before .before .before .before .before .before .before .before .before .before .args .node) (c .before .before .before .before .before .before .before .before .before .before .before .before .before .before .args .table .now) (c .before .before .before .before .before .before .before .before .before .before .before .before .before .before .args .clock) (c .before .before .before .before .before .before .before .before .before .before .before .before .before .before .args .interface) (c .before .before .before .before .before .before .before .before .before .before .before .before .before .before .args .names .now) (length (c .before .before .before .before .before .before .before .before .before .before .before .before .before .before .args .out .now)) (sym (c .before .before .before .before .before .before .before .before .barred-by .ensures) ∙ c .before .before .before .before .before .before .before .if1 .left),
-  record { is = _; read = sym (c .before .before .before .before .before .before .read .ensures) ∙ c .before .before .before .before .read3 .given .1; plays = sym (c .before .role-of .ensures) },
-)
+take-requires c κs =
+    let c6 = c .before .before .before .before .before .before in
+    let args = c6 .before .before .before .before .before .before .before .before .args in (
+      passed (args .node) (args .table .now) (args .clock) (args .interface) (args .names .now) (length (args .out .now))
+          (sym (c6 .before .before .barred-by .ensures) ∙ c6 .before .if1 .left),
+      record { is = _; read = sym (c6 .read .ensures) ∙ c .before .before .before .before .read3 .given .1; plays = sym (c .before .role-of .ensures) },
+    )
 
 same-length-2 : tie.Need-same-length-2
 same-length-2 c = search needs
 
 returns-2 : tie.Need-returns-2
-returns-2 c = refused-outcome (c .before .before .before .before .before .before .before .before .before .before .before .args .node) (c .before .before .before .before .before .before .before .before .before .before .before .args .table .now) (callOf (c .before .before .before .before .before .before .before .before .before .before .before .args .clock) (c .before .before .before .before .before .before .before .before .before .before .before .args .interface) (c .before .before .before .before .before .before .before .before .before .before .before .args .names .now) (c .before .before .before .before .before .before .before .before .before .before .before .args .message .now) (c .before .before .before .before .before .before .before .before .before .before .before .args .out .now)) _ (c .before .before .before .before .before .barred-by .ensures) (c .before .before .before .before .if1 .left) _ _ refl (sym (c .before .before .before .read .ensures) ∙ c .before .read2 .given .1)
+returns-2 c =
+    let c3 = c .before .before .before in
+    let args = c3 .before .before .before .before .before .before .before .before .args in
+    refused-outcome (args .node) (args .table .now) (callOf (args .clock) (args .interface) (args .names .now) (args .message .now) (args .out .now)) _
+    (c3 .before .before .barred-by .ensures) (c3 .before .if1 .left) _ _ refl (sym (c3 .read .ensures) ∙ c .before .read2 .given .1)
 
 same-length-3 : tie.Need-same-length-3
 same-length-3 c = search needs
@@ -59,7 +73,11 @@ same-length-4 c = search needs
 
 returns-3 : tie.Need-returns-3
 returns-3 c =
-    taken-outcome (c .before .before .before .before .before .before .before .before .before .before .before .before .before .before .before .before .before .before .before .args .node) (c .before .before .before .before .before .before .before .before .before .before .before .before .before .before .before .before .before .before .before .args .table .now) (callOf (c .before .before .before .before .before .before .before .before .before .before .before .before .before .before .before .before .before .before .before .args .clock) (c .before .before .before .before .before .before .before .before .before .before .before .before .before .before .before .before .before .before .before .args .interface) (c .before .before .before .before .before .before .before .before .before .before .before .before .before .before .before .before .before .before .before .args .names .now) (c .before .before .before .before .before .before .before .before .before .before .before .before .before .before .before .before .before .before .before .args .message .now) (c .before .before .before .before .before .before .before .before .before .before .before .before .before .before .before .before .before .before .before .args .out .now)) _ (c .before .before .before .before .before .before .before .before .before .before .before .before .before .barred-by .ensures) (c .before .before .before .before .before .before .before .before .before .before .before .before .if1 .left) _ _ (sym (c .before .before .before .before .before .before .before .before .before .before .before .read .ensures) ∙ c .before .before .before .before .before .before .before .before .before .read3 .given .1)
+    let c9 = c .before .before .before .before .before .before .before .before .before in
+    let args = c9 .before .before .before .before .before .before .before .before .before .before .args in
+    taken-outcome (args .node) (args .table .now) (callOf (args .clock) (args .interface) (args .names .now) (args .message .now) (args .out .now)) _
+    (c9 .before .before .before .before .barred-by .ensures) (c9 .before .before .before .if1 .left) _ _
+    (sym (c9 .before .before .read .ensures) ∙ c9 .read3 .given .1)
     (rw (← (c .before .before .before .before .before .before .role-of .ensures)) (c .before .before .before .before .take .ensures))
 
 pub node-call-spec : {M : Type 1} → statement M

@@ -38,25 +38,35 @@ enum-known-role c = search needs
 
 judge-requires : tie.Need-judge-requires
 unfolding clocked
-judge-requires c κs = (
-  subst (λ (t : List ℕ). Ready (clocked (c .before .before .before .before .before .before .before .before .before .before .before .before .before .args .node) (c .before .before .before .before .before .before .before .before .before .before .before .before .before .args .clock)) t (c .before .before .before .before .before .before .before .before .before .before .before .before .before .args .interface) (length (c .before .before .before .before .before .before .before .before .before .before .before .before .before .args .out .now))) (sym (passed-freed (c .before .before .before .before .before .before .before .before .before .before .before .before .before .pre .0) (c .before .before .before .before .before .before .before .free-dead .ensures)))
-      (readied (c .before .before .before .before .before .before .before .before .before .before .before .before .before .args .node) (c .before .before .before .before .before .before .before .before .before .before .before .before .before .args .table .now) (c .before .before .before .before .before .before .before .before .before .before .before .before .before .args .clock) (c .before .before .before .before .before .before .before .before .before .before .before .before .before .args .interface) (length (c .before .before .before .before .before .before .before .before .before .before .before .before .before .args .out .now)) (c .before .before .before .before .before .before .before .before .before .before .before .before .before .pre .0)),
-  subst (RoleIn (c .before .before .before .before .before .before .before .before .before .before .before .before .before .args .message .now)) (c .before .before .before .role .given .1) (c .before .before .before .before .before .before .before .before .before .before .before .before .before .pre .1),
-)
+judge-requires c κs =
+    let c7 = c .before .before .before .before .before .before .before in
+    let args = c7 .before .before .before .before .before .before .args in
+    let pre = c7 .before .before .before .before .before .before .pre in (
+      subst (λ (t : List ℕ). Ready (clocked (args .node) (args .clock)) t (args .interface) (length (args .out .now)))
+          (sym (passed-freed (pre .0) (c7 .free-dead .ensures)))
+          (readied (args .node) (args .table .now) (args .clock) (args .interface) (length (args .out .now)) (pre .0)),
+      subst (RoleIn (args .message .now)) (c .before .before .before .role .given .1) (pre .1),
+    )
 
 same-length : tie.Need-same-length
 same-length c = search needs
 
 returns : tie.Need-returns
 unfolding taken quiet clocked
-returns c = rw (c .before .enum-told .given .1, c .quiet .ensures, passed-freed (c .before .before .before .before .before .before .before .before .before .before .before .pre .0) (c .before .before .before .before .before .free-dead .ensures)) refl
+returns c =
+    let c5 = c .before .before .before .before .before in
+    rw (c .before .enum-told .given .1, c .quiet .ensures, passed-freed (c5 .before .before .before .before .before .before .pre .0) (c5 .free-dead .ensures))
+    refl
 
 same-length-2 : tie.Need-same-length-2
 same-length-2 c = search needs
 
 returns-2 : tie.Need-returns-2
 unfolding taken quiet clocked
-returns-2 c = rw (c .before .enum-told2 .given .1, c .quiet2 .ensures, passed-freed (c .before .before .before .before .before .before .before .before .before .before .before .pre .0) (c .before .before .before .before .before .free-dead .ensures)) refl
+returns-2 c =
+    let c5 = c .before .before .before .before .before in
+    rw (c .before .enum-told2 .given .1, c .quiet2 .ensures, passed-freed (c5 .before .before .before .before .before .before .pre .0) (c5 .free-dead .ensures))
+    refl
 
 same-length-3 : tie.Need-same-length-3
 same-length-3 c = search needs
@@ -66,7 +76,13 @@ same-length-4 c = search needs
 
 returns-3 : tie.Need-returns-3
 unfolding taken quiet clocked
-returns-3 c = rw (c .before .before .before .before .before .before .before .before .role .given .1, ← (passed-freed (c .before .before .before .before .before .before .before .before .before .before .before .before .before .before .before .before .before .before .pre .0) (c .before .before .before .before .before .before .before .before .before .before .before .before .free-dead .ensures))) (c .before .before .before .before .judge .ensures)
+returns-3 c =
+    let c8 = c .before .before .before .before .before .before .before .before in
+    rw (
+      c8 .role .given .1,
+      ← (passed-freed (c8 .before .before .before .before .before .before .before .before .before .before .pre .0)
+          (c8 .before .before .before .before .free-dead .ensures)),
+    ) (c .before .before .before .before .judge .ensures)
 
 pub take-spec : {M : Type 1} → statement M
 take-spec =

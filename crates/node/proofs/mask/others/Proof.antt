@@ -12,7 +12,8 @@ shl-result : tie.Need-shl-result
 shl-result c = up-below 8 (c .args .mask) (c .args .i) (omega (arith, c .good)) (c .pre)
 
 sub-result : tie.Need-sub-result
-sub-result c = rw (one-bit 8 (c .args .i) (up-below 8 (c .args .mask) (c .args .i) (omega (arith, c .good)) (c .pre))) (up-le (c .args .mask) (c .args .i) (c .pre))
+sub-result c =
+    rw (one-bit 8 (c .args .i) (up-below 8 (c .args .mask) (c .args .i) (omega (arith, c .good)) (c .pre))) (up-le (c .args .mask) (c .args .i) (c .pre))
 
 returns : tie.Need-returns
 returns c = rw (one-bit 8 (c .args .i) (up-below 8 (c .args .mask) (c .args .i) (omega (arith, c .good)) (c .pre))) refl

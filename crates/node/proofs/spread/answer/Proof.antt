@@ -19,7 +19,13 @@ same-length : tie.Need-same-length
 same-length c = search needs
 
 returns : tie.Need-returns
-returns c = (rw (one-bit 8 (c .before .before .before .before .before .before .args .interface) (c .before .before .before .before .before .before .pre .0), c .before .before .put-response .ensures .0) refl, c .before .before .put-response .ensures .1)
+returns c = (
+  rw (
+    one-bit 8 (c .before .before .before .before .before .before .args .interface) (c .before .before .before .before .before .before .pre .0),
+    c .before .before .put-response .ensures .0,
+  ) refl,
+  c .before .before .put-response .ensures .1,
+)
 
 pub answer-spec : {M : Type 1} → statement M
 answer-spec = tie.close (tie.spec put-response-requires shl-t10 same-length returns)

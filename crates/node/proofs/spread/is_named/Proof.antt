@@ -29,7 +29,10 @@ is-named-requires : tie.Need-is-named-requires
 is-named-requires c κs = search needs
 
 returns-2 : tie.Need-returns-2
-returns-2 c = rw (c .before .before .before .if1 .left) (c .is-named .ensures ∙ ap (isNamed (c .before .before .before .before .before .before .args .names .now)) (part-held (c .before .before .before .before .before .before .args .message .now) (c .before .before .before .before .before .before .args .s .objective .name)))
+returns-2 c =
+    let args = c .before .before .before .before .before .before .args in
+    rw (c .before .before .before .if1 .left)
+    (c .is-named .ensures ∙ ap (isNamed (args .names .now)) (part-held (args .message .now) (args .s .objective .name)))
 
 pub is-named-spec : {M : Type 1} → statement M
 is-named-spec =

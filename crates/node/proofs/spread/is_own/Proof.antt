@@ -31,7 +31,9 @@ are-same-requires : tie.Need-are-same-requires
 are-same-requires c κs = search needs
 
 returns : tie.Need-returns
-returns c = c .are-same .ensures ∙ ap (λ (z : List ℕ). sameBytes z (c .before .before .before .before .before .before .args .node .address)) (part-held (c .before .before .before .before .before .before .args .message .now) (c .before .before .before .before .before .before .args .s .initiator))
+returns c =
+    let args = c .before .before .before .before .before .before .args in
+    c .are-same .ensures ∙ ap (λ (z : List ℕ). sameBytes z (args .node .address)) (part-held (args .message .now) (args .s .initiator))
 
 pub is-own-spec : {M : Type 1} → statement M
 is-own-spec =

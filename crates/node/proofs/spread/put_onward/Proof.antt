@@ -23,13 +23,22 @@ same-length : tie.Need-same-length
 same-length c = search needs
 
 returns : tie.Need-returns
-returns c = sent-length _ _ (onward (c .before .before .before .before .before .before .before .before .before .before .args .message .now) (c .before .before .before .before .before .before .before .before .before .before .args .s .objective)) (c .before .before .before .before .before .before .before .before .before .before .args .out .now) (c .before .before .before .before .before .lower .ensures .0) (c .before .before .before .before .before .lower .ensures .1) (onward-given (c .before .before .before .before .before .before .before .before .before .before .args .message .now) (c .before .before .before .before .before .before .before .before .before .before .args .out .now) (c .before .before .before .before .before .before .before .before .before .before .args .s) (c .before .before .before .before .before .before .before .before .before .before .pre .1 .1) (c .before .before .before .before .before .before .before .before .before .before .pre .0) (c .before .before .before .before .before .before .before .before .before .before .pre .1 .0)) _ (c .before .sent .given .1)
+returns c =
+    let args = c .before .before .before .before .before .before .before .before .before .before .args in
+    let pre = c .before .before .before .before .before .before .before .before .before .before .pre in
+    sent-length _ _ (onward (args .message .now) (args .s .objective)) (args .out .now)
+    (c .before .before .before .before .before .lower .ensures .0) (c .before .before .before .before .before .lower .ensures .1)
+    (onward-given (args .message .now) (args .out .now) (args .s) (pre .1 .1) (pre .0) (pre .1 .0)) _ (c .before .sent .given .1)
 
 same-length-2 : tie.Need-same-length-2
 same-length-2 c = search needs
 
 returns-2 : tie.Need-returns-2
-returns-2 c = sent-never _ _ (c .before .before .before .before .lower .ensures .0) (onward-given (c .before .before .before .before .before .before .before .before .before .args .message .now) (c .before .before .before .before .before .before .before .before .before .args .out .now) (c .before .before .before .before .before .before .before .before .before .args .s) (c .before .before .before .before .before .before .before .before .before .pre .1 .1) (c .before .before .before .before .before .before .before .before .before .pre .0) (c .before .before .before .before .before .before .before .before .before .pre .1 .0) .0) (c .enum-told .given .1)
+returns-2 c =
+    let args = c .before .before .before .before .before .before .before .before .before .args in
+    let pre = c .before .before .before .before .before .before .before .before .before .pre in
+    sent-never _ _ (c .before .before .before .before .lower .ensures .0)
+    (onward-given (args .message .now) (args .out .now) (args .s) (pre .1 .1) (pre .0) (pre .1 .0) .0) (c .enum-told .given .1)
 
 pub put-onward-spec : {M : Type 1} → statement M
 put-onward-spec =

@@ -40,14 +40,31 @@ same-length c = search needs
 
 returns : tie.Need-returns
 unfolding response
-returns c = sent-length _ _ (response (c .before .before .before .before .before .before .before .before .before .before .before .before .before .args .node) (c .before .before .before .before .before .before .before .before .before .before .before .before .before .args .message .now) (c .before .before .before .before .before .before .before .before .before .before .before .before .before .args .s)) (c .before .before .before .before .before .before .before .before .before .before .before .before .before .args .out .now) (c .before .before .before .before .before .answer .ensures .0 ∙ ap (λ (z : List ℕ). answerAnswer (c .before .before .before .before .before .before .before .before .before .before .before .before .before .args .s .session) z (c .before .before .before .before .before .before .before .before .before .before .before .before .before .args .node .ttl) (c .before .before .before .before .before .before .before .before .before .before .before .before .before .args .node .address) (c .before .before .before .before .before .before .before .before .before .before .before .before .before .args .node .port) (c .before .before .before .before .before .before .before .before .before .before .before .before .before .args .out .now)) (part-held (c .before .before .before .before .before .before .before .before .before .before .before .before .before .args .message .now) (c .before .before .before .before .before .before .before .before .before .before .before .before .before .args .s .initiator))) (c .before .before .before .before .before .answer .ensures .1 ∙ ap (λ (z : List ℕ). answerOut (c .before .before .before .before .before .before .before .before .before .before .before .before .before .args .s .session) z (c .before .before .before .before .before .before .before .before .before .before .before .before .before .args .node .ttl) (c .before .before .before .before .before .before .before .before .before .before .before .before .before .args .node .address) (c .before .before .before .before .before .before .before .before .before .before .before .before .before .args .node .port) (c .before .before .before .before .before .before .before .before .before .before .before .before .before .args .out .now)) (part-held (c .before .before .before .before .before .before .before .before .before .before .before .before .before .args .message .now) (c .before .before .before .before .before .before .before .before .before .before .before .before .before .args .s .initiator))) (response-given (c .before .before .before .before .before .before .before .before .before .before .before .before .before .args .node) (c .before .before .before .before .before .before .before .before .before .before .before .before .before .args .message .now) (c .before .before .before .before .before .before .before .before .before .before .before .before .before .args .out .now) (c .before .before .before .before .before .before .before .before .before .before .before .before .before .args .s) (search needs) (held-sized (c .before .before .before .before .before .before .before .before .before .before .before .before .before .pre .1)) (c .before .before .before .before .before .before .before .before .before .before .before .before .before .pre .0)) _ (c .before .sent .given .1)
+returns c =
+    let args = c .before .before .before .before .before .before .before .before .before .before .before .before .before .args in
+    sent-length _ _ (response (args .node) (args .message .now) (args .s)) (args .out .now) (c .before .before .before .before .before .answer .ensures .0
+    ∙ ap (λ (z : List ℕ). answerAnswer (args .s .session) z (args .node .ttl) (args .node .address) (args .node .port) (args .out .now))
+    (part-held (args .message .now) (args .s .initiator)))
+    (c .before .before .before .before .before .answer .ensures .1
+    ∙ ap (λ (z : List ℕ). answerOut (args .s .session) z (args .node .ttl) (args .node .address) (args .node .port) (args .out .now))
+    (part-held (args .message .now) (args .s .initiator)))
+    (response-given (args .node) (args .message .now) (args .out .now) (args .s) (search needs)
+    (held-sized (c .before .before .before .before .before .before .before .before .before .before .before .before .before .pre .1))
+    (c .before .before .before .before .before .before .before .before .before .before .before .before .before .pre .0)) _ (c .before .sent .given .1)
 
 same-length-2 : tie.Need-same-length-2
 same-length-2 c = search needs
 
 returns-2 : tie.Need-returns-2
 unfolding response
-returns-2 c = sent-never _ _ (c .before .before .before .before .answer .ensures .0 ∙ ap (λ (z : List ℕ). answerAnswer (c .before .before .before .before .before .before .before .before .before .before .before .before .args .s .session) z (c .before .before .before .before .before .before .before .before .before .before .before .before .args .node .ttl) (c .before .before .before .before .before .before .before .before .before .before .before .before .args .node .address) (c .before .before .before .before .before .before .before .before .before .before .before .before .args .node .port) (c .before .before .before .before .before .before .before .before .before .before .before .before .args .out .now)) (part-held (c .before .before .before .before .before .before .before .before .before .before .before .before .args .message .now) (c .before .before .before .before .before .before .before .before .before .before .before .before .args .s .initiator))) (response-given (c .before .before .before .before .before .before .before .before .before .before .before .before .args .node) (c .before .before .before .before .before .before .before .before .before .before .before .before .args .message .now) (c .before .before .before .before .before .before .before .before .before .before .before .before .args .out .now) (c .before .before .before .before .before .before .before .before .before .before .before .before .args .s) (search needs) (held-sized (c .before .before .before .before .before .before .before .before .before .before .before .before .pre .1)) (c .before .before .before .before .before .before .before .before .before .before .before .before .pre .0) .0) (c .enum-told .given .1)
+returns-2 c =
+    let args = c .before .before .before .before .before .before .before .before .before .before .before .before .args in
+    sent-never _ _ (c .before .before .before .before .answer .ensures .0
+    ∙ ap (λ (z : List ℕ). answerAnswer (args .s .session) z (args .node .ttl) (args .node .address) (args .node .port) (args .out .now))
+    (part-held (args .message .now) (args .s .initiator)))
+    (response-given (args .node) (args .message .now) (args .out .now) (args .s) (search needs)
+    (held-sized (c .before .before .before .before .before .before .before .before .before .before .before .before .pre .1))
+    (c .before .before .before .before .before .before .before .before .before .before .before .before .pre .0) .0) (c .enum-told .given .1)
 
 pub put-response-spec : {M : Type 1} → statement M
 put-response-spec =

@@ -21,7 +21,10 @@ quiet-requires : tie.Need-quiet-requires
 quiet-requires c κs = search needs
 
 returns : tie.Need-returns
-returns c = last-outcome (c .before .before .before .before .before .before .args .node) (c .before .before .before .before .before .before .args .table .now) (callOf (c .before .before .before .before .before .before .args .node .clock) (c .before .before .before .before .before .before .args .interface) [] (c .before .before .before .before .before .before .args .message .now) (c .before .before .before .before .before .before .args .out .now)) (c .before .before .before .before .before .before .args .s) _ (c .quiet .ensures) (omega (arith, c .before .if1 .taken))
+returns c =
+    let args = c .before .before .before .before .before .before .args in
+    last-outcome (args .node) (args .table .now) (callOf (args .node .clock) (args .interface) [] (args .message .now) (args .out .now)) (args .s) _
+    (c .quiet .ensures) (omega (arith, c .before .if1 .taken))
 
 others-requires : tie.Need-others-requires
 others-requires c κs = search needs
@@ -31,7 +34,10 @@ quiet-requires-2 c κs = search needs
 
 returns-2 : tie.Need-returns-2
 unfolding others
-returns-2 c = nowhere-outcome (c .before .before .before .before .before .before .before .before .args .node) (c .before .before .before .before .before .before .before .before .args .table .now) (callOf (c .before .before .before .before .before .before .before .before .args .node .clock) (c .before .before .before .before .before .before .before .before .args .interface) [] (c .before .before .before .before .before .before .before .before .args .message .now) (c .before .before .before .before .before .before .before .before .args .out .now)) (c .before .before .before .before .before .before .before .before .args .s) (c .before .before .before .if1 .left) _ (c .quiet2 .ensures) (sym (c .before .before .others .ensures) ∙ c .before .if2 .taken)
+returns-2 c =
+    let args = c .before .before .before .before .before .before .before .before .args in
+    nowhere-outcome (args .node) (args .table .now) (callOf (args .node .clock) (args .interface) [] (args .message .now) (args .out .now)) (args .s)
+    (c .before .before .before .if1 .left) _ (c .quiet2 .ensures) (sym (c .before .before .others .ensures) ∙ c .before .if2 .taken)
 
 fill-lowest-requires : tie.Need-fill-lowest-requires
 fill-lowest-requires c κs = search needs
@@ -44,7 +50,12 @@ same-length c = search needs
 
 returns-3 : tie.Need-returns-3
 unfolding others
-returns-3 c = norow-outcome (c .before .before .before .before .before .before .before .before .before .before .before .before .before .args .node) (c .before .before .before .before .before .before .before .before .before .before .before .before .before .args .table .now) (callOf (c .before .before .before .before .before .before .before .before .before .before .before .before .before .args .node .clock) (c .before .before .before .before .before .before .before .before .before .before .before .before .before .args .interface) [] (c .before .before .before .before .before .before .before .before .before .before .before .before .before .args .message .now) (c .before .before .before .before .before .before .before .before .before .before .before .before .before .args .out .now)) (c .before .before .before .before .before .before .before .before .before .before .before .before .before .args .s) (c .before .before .before .before .before .before .before .before .if1 .left) (λ e. c .before .before .before .before .before .before .if2 .left (c .before .before .before .before .before .before .before .others .ensures ∙ e)) _ _ _ (c .before .before .before .before .fill-lowest .ensures) (c .before .before .before .before .before .before .before .before .before .before .before .before .before .pre .0 .sized) _ (c .quiet3 .ensures) (c .before .if3 .taken)
+returns-3 c =
+    let c6 = c .before .before .before .before .before .before in
+    let args = c6 .before .before .before .before .before .before .before .args in
+    norow-outcome (args .node) (args .table .now) (callOf (args .node .clock) (args .interface) [] (args .message .now) (args .out .now)) (args .s)
+    (c6 .before .before .if1 .left) (λ e. c6 .if2 .left (c6 .before .others .ensures ∙ e)) _ _ _ (c .before .before .before .before .fill-lowest .ensures)
+    (c6 .before .before .before .before .before .before .before .pre .0 .sized) _ (c .quiet3 .ensures) (c .before .if3 .taken)
 
 put-onward-requires : tie.Need-put-onward-requires
 put-onward-requires c κs = search needs
@@ -60,7 +71,14 @@ same-length-3 c = search needs
 
 returns-4 : tie.Need-returns-4
 unfolding others
-returns-4 c = relay-outcome (c .before .before .before .before .before .before .before .before .before .before .before .before .before .before .before .before .before .args .node) (c .before .before .before .before .before .before .before .before .before .before .before .before .before .before .before .before .before .args .table .now) (callOf (c .before .before .before .before .before .before .before .before .before .before .before .before .before .before .before .before .before .args .node .clock) (c .before .before .before .before .before .before .before .before .before .before .before .before .before .before .before .before .before .args .interface) [] (c .before .before .before .before .before .before .before .before .before .before .before .before .before .before .before .before .before .args .message .now) (c .before .before .before .before .before .before .before .before .before .before .before .before .before .before .before .before .before .args .out .now)) (c .before .before .before .before .before .before .before .before .before .before .before .before .before .before .before .before .before .args .s) (c .before .before .before .before .before .before .before .before .before .before .before .before .if1 .left) (λ e. c .before .before .before .before .before .before .before .before .before .before .if2 .left (c .before .before .before .before .before .before .before .before .before .before .before .others .ensures ∙ e)) _ _ _ (c .before .before .before .before .before .before .before .before .fill-lowest .ensures) (c .before .before .before .before .before .before .before .before .before .before .before .before .before .before .before .before .before .pre .1 .1) _ _ (rw (← (c .before .before .before .before .before .before .before .before .before .before .before .others .ensures), ← (c .before .before .before .put-onward .ensures .0)) (c .relayed .ensures)) (c .before .before .before .put-onward .ensures .1) (c .before .before .before .before .before .if3 .left)
+returns-4 c =
+    let c3 = c .before .before .before in
+    let c11 = c3 .before .before .before .before .before .before .before .before in
+    let args = c11 .before .before .before .before .before .before .args in
+    relay-outcome (args .node) (args .table .now) (callOf (args .node .clock) (args .interface) [] (args .message .now) (args .out .now)) (args .s)
+    (c11 .before .if1 .left) (λ e. c3 .before .before .before .before .before .before .before .if2 .left (c11 .others .ensures ∙ e)) _ _ _
+    (c3 .before .before .before .before .before .fill-lowest .ensures) (c11 .before .before .before .before .before .before .pre .1 .1) _ _
+    (rw (← (c11 .others .ensures), ← (c3 .put-onward .ensures .0)) (c .relayed .ensures)) (c3 .put-onward .ensures .1) (c3 .before .before .if3 .left)
 
 pub relay-or-end-spec : {M : Type 1} → statement M
 relay-or-end-spec =

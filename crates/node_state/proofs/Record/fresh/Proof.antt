@@ -20,10 +20,15 @@ unfolding fresh pick
 returns c = rw (sym (c .before .are-bad .ensures) ∙ c .if1 .taken) refl
 
 cast-t9 : tie.Need-cast-t9
-cast-t9 c = omega (arith, links-fit (c .before .before .args .interfaces) (c .before .before .args .mask) (sym (c .before .are-bad .ensures) ∙ c .if1 .left) .most)
+cast-t9 c =
+    omega (arith, links-fit (c .before .before .args .interfaces) (c .before .before .args .mask) (sym (c .before .are-bad .ensures) ∙ c .if1 .left) .most)
 
 cast-t10 : tie.Need-cast-t10
-cast-t10 c = omega (arith, fit-small (c .before .before .args .interfaces) (c .before .before .args .mask) (links-fit (c .before .before .args .interfaces) (c .before .before .args .mask) (sym (c .before .are-bad .ensures) ∙ c .if1 .left)))
+cast-t10 c = omega (
+  arith,
+  fit-small (c .before .before .args .interfaces) (c .before .before .args .mask)
+      (links-fit (c .before .before .args .interfaces) (c .before .before .args .mask) (sym (c .before .are-bad .ensures) ∙ c .if1 .left)),
+)
 
 returns-2 : tie.Need-returns-2
 unfolding fresh pick

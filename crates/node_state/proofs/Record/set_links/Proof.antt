@@ -28,14 +28,31 @@ are-bad-requires c κs = search needs
 
 returns-2 : tie.Need-returns-2
 unfolding setLinks linked pick
-returns-2 c = rw (sym (c .before .before .before .before .is-bad .ensures) ∙ c .before .before .before .if1 .left, (let f = record-links _ (sym (c .before .before .before .before .is-bad .ensures) ∙ c .before .before .before .if1 .left) in sym (links-wide _ _ (f .some) (f .most))) ∙ sym (c .before .are-bad .ensures) ∙ c .if2 .taken) refl
+returns-2 c =
+    let c3 = c .before .before .before in
+    rw (
+      sym (c3 .before .is-bad .ensures) ∙ c3 .if1 .left,
+      (let f = record-links _ (sym (c3 .before .is-bad .ensures) ∙ c3 .if1 .left) in sym (links-wide _ _ (f .some) (f .most)))
+          ∙ sym (c .before .are-bad .ensures) ∙ c .if2 .taken,
+    ) refl
 
 cast-node : tie.Need-cast-node
-cast-node c = omega (arith, fit-small (c .before .before .before .before .before .args .self .interfaces) (c .before .before .before .before .before .args .mask) (links-fit (c .before .before .before .before .before .args .self .interfaces) (c .before .before .before .before .before .args .mask) (sym (c .before .are-bad .ensures) ∙ c .if2 .left)))
+cast-node c =
+    let args = c .before .before .before .before .before .args in
+    omega (
+      arith,
+      fit-small (args .self .interfaces) (args .mask) (links-fit (args .self .interfaces) (args .mask) (sym (c .before .are-bad .ensures) ∙ c .if2 .left)),
+    )
 
 returns-3 : tie.Need-returns-3
 unfolding setLinks linked pick
-returns-3 c = rw (sym (c .before .before .before .before .is-bad .ensures) ∙ c .before .before .before .if1 .left, (let f = record-links _ (sym (c .before .before .before .before .is-bad .ensures) ∙ c .before .before .before .if1 .left) in sym (links-wide _ _ (f .some) (f .most))) ∙ sym (c .before .are-bad .ensures) ∙ c .if2 .left) refl
+returns-3 c =
+    let c3 = c .before .before .before in
+    rw (
+      sym (c3 .before .is-bad .ensures) ∙ c3 .if1 .left,
+      (let f = record-links _ (sym (c3 .before .is-bad .ensures) ∙ c3 .if1 .left) in sym (links-wide _ _ (f .some) (f .most)))
+          ∙ sym (c .before .are-bad .ensures) ∙ c .if2 .left,
+    ) refl
 
 pub set-links-spec : {M : Type 1} → statement M
 set-links-spec =

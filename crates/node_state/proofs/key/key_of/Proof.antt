@@ -15,16 +15,20 @@ tag-of-requires : tie.Need-tag-of-requires
 tag-of-requires c κs = search needs
 
 mul-first : tie.Need-mul-first
-mul-first c = let t = tag-range (c .before .before .args .flood) (length (c .before .before .args .initiator .now)) in let e = c .tag-of .ensures in omega (arith, t .1)
+mul-first c = let t = tag-range (c .before .before .args .flood) (length (c .before .before .args .initiator .now)) in let e = c .tag-of .ensures in
+    omega (arith, t .1)
 
 add-first : tie.Need-add-first
-add-first c = let t = tag-range (c .before .before .args .flood) (length (c .before .before .args .initiator .now)) in let e = c .tag-of .ensures in omega (arith, t .1, c .before .before .fits .session)
+add-first c = let t = tag-range (c .before .before .args .flood) (length (c .before .before .args .initiator .now)) in let e = c .tag-of .ensures in
+    omega (arith, t .1, c .before .before .fits .session)
 
 number-at-requires : tie.Need-number-at-requires
 number-at-requires c κs = search needs
 
 returns : tie.Need-returns
-returns c = key-short (c .before .before .before .before .args .flood) (c .before .before .before .before .args .session) (c .before .before .before .before .args .initiator .now) _ _ (c .before .before .tag-of .ensures) (c .before .if1 .taken) (c .number-at .ensures)
+returns c =
+    let args = c .before .before .before .before .args in
+    key-short (args .flood) (args .session) (args .initiator .now) _ _ (c .before .before .tag-of .ensures) (c .before .if1 .taken) (c .number-at .ensures)
 
 number-at-requires-2 : tie.Need-number-at-requires-2
 number-at-requires-2 c κs = search needs
@@ -33,10 +37,15 @@ number-at-requires-3 : tie.Need-number-at-requires-3
 number-at-requires-3 c κs = search needs
 
 returns-2 : tie.Need-returns-2
-returns-2 c = key-long (c .before .before .before .before .before .before .args .flood) (c .before .before .before .before .before .before .args .session) (c .before .before .before .before .before .before .args .initiator .now) _ _ (c .before .before .before .before .tag-of .ensures) _ (c .before .before .if2 .taken) (c .before .number-at2 .ensures) (c .number-at3 .ensures)
+returns-2 c =
+    let args = c .before .before .before .before .before .before .args in
+    key-long (args .flood) (args .session) (args .initiator .now) _ _ (c .before .before .before .before .tag-of .ensures) _ (c .before .before .if2 .taken)
+    (c .before .number-at2 .ensures) (c .number-at3 .ensures)
 
 returns-3 : tie.Need-returns-3
-returns-3 c = key-none (c .before .before .before .before .args .flood) (c .before .before .before .before .args .session) (c .before .before .before .before .args .initiator .now) (c .before .if1 .left) (c .if2 .left)
+returns-3 c =
+    let args = c .before .before .before .before .args in
+    key-none (args .flood) (args .session) (args .initiator .now) (c .before .if1 .left) (c .if2 .left)
 
 pub key-of-spec : {M : Type 1} → statement M
 key-of-spec =

@@ -1,4 +1,5 @@
--- `node_state::key::number_at` meets its contract. The loop's invariant: the bytes passed spell `value`, a number of that many bytes.
+-- `node_state::key::number_at` meets its contract. The loop's invariant: the bytes passed spell `value`, a number of
+-- that many bytes.
 -- Assumes nothing.
 use mathlib.Core.Path.{_≡_, refl}
 use Prim.Native.Nat.{_≤_, _<_, _-_, _+_, _*_, _^_}
@@ -39,7 +40,8 @@ shared-slice-read-value c = omega (arith, c .before .before .before .pre .1)
 
 -- the next byte makes a number of one byte more
 grown : (c : tie.After-shared-slice-known Inv-loop μ-loop)
-    → c .before .before .loop .value * 256 + getD (c .before .before .before .args .s .now) (c .before .before .before .args .at + c .before .before .loop .i) 0 < 2 ^ (8 * (c .before .before .loop .i + 1))
+    → c .before .before .loop .value * 256 + getD (c .before .before .before .args .s .now) (c .before .before .before .args .at + c .before .before .loop .i) 0
+    < 2 ^ (8 * (c .before .before .loop .i + 1))
 grown c =
     let at-loop = c .before .before .loop in
     below-more (at-loop .i) (at-loop .value) _ (at-loop .inv .2) (c .shared-slice-known .given (c .before .before .before .args .at + at-loop .i) .fits)
@@ -59,8 +61,11 @@ loop-less c = omega arith
 loop-again : tie.Need-loop-again Inv-loop μ-loop
 unfolding bigEndian
 loop-again c =
-    let e = c .before .before .loop .inv .1 in
-    (omega arith, rw (add-one, getD-drop (c .before .before .before .args .at) (c .before .before .before .args .s .now) (c .before .before .loop .i) 0) (cc), grown c)
+    let e = c .before .before .loop .inv .1 in (
+      omega arith,
+      rw (add-one, getD-drop (c .before .before .before .args .at) (c .before .before .before .args .s .now) (c .before .before .loop .i) 0) (cc),
+      grown c,
+    )
 
 returns : tie.Need-returns Inv-loop μ-loop
 returns c = let e : c .before .loop .i ≡ c .before .before .args .n = omega arith in rw e at (c .before .loop .inv .1)

@@ -24,7 +24,8 @@ shl-result c = search needs
 
 returns-3 : tie.Need-returns-3
 unfolding linksBad
-returns-3 c = rw (ne-eqb _ 0 (c .before .if1 .left), le-ltb 8 _ (c .if2 .left), one-bit 64 (c .before .before .args .interfaces) (omega (arith, c .if2 .left))) refl
+returns-3 c =
+    rw (ne-eqb _ 0 (c .before .if1 .left), le-ltb 8 _ (c .if2 .left), one-bit 64 (c .before .before .args .interfaces) (omega (arith, c .if2 .left))) refl
 
 pub are-bad-spec : {M : Type 1} → statement M
 are-bad-spec = tie.close (tie.spec returns returns-2 shl-result returns-3)

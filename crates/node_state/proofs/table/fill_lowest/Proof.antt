@@ -26,13 +26,15 @@ same-length : tie.Need-same-length
 same-length c = search needs
 
 returns-2 : tie.Need-returns-2
-returns-2 c = fills-row _ _ _ _ (c .before .before .before .before .before .before .before .if1 .left) (c .before .before .before .before .before .lowest-free .ensures) _ (c .before .before .put-row .ensures)
+returns-2 c = fills-row _ _ _ _ (c .before .before .before .before .before .before .before .if1 .left)
+    (c .before .before .before .before .before .lowest-free .ensures) _ (c .before .before .put-row .ensures)
 
 same-length-2 : tie.Need-same-length-2
 same-length-2 c = search needs
 
 returns-3 : tie.Need-returns-3
-returns-3 c = fills-none _ _ (c .before .before .before .before .before .args .key) (c .before .before .before .before .before .args .clock) (c .before .before .before .if1 .left) (c .before .lowest-free .ensures) (c .if2 .left)
+returns-3 c = fills-none _ _ (c .before .before .before .before .before .args .key) (c .before .before .before .before .before .args .clock)
+    (c .before .before .before .if1 .left) (c .before .lowest-free .ensures) (c .if2 .left)
 
 pub fill-lowest-spec : {M : Type 1} → statement M
 fill-lowest-spec =

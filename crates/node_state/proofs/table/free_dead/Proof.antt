@@ -1,4 +1,5 @@
--- `node_state::table::free_dead` meets its contract. The loop's invariant: the rows passed are freed where they were dead.
+-- `node_state::table::free_dead` meets its contract. The loop's invariant: the rows passed are freed where they were
+-- dead.
 -- Assumes nothing.
 use mathlib.Core.Path.{_≡_, refl, sym, ap, _∙_}
 use mathlib.Core.Logic.{⊎-elim}
@@ -34,7 +35,10 @@ is-dead-requires : tie.Need-is-dead-requires Inv-loop μ-loop
 is-dead-requires c κs = (c .before .loop-test .taken, pass-length _ _ _ _ (c .before .before .loop .inv .1) (c .before .before .before .if1 .left))
 
 put-row-requires : tie.Need-put-row-requires Inv-loop μ-loop
-put-row-requires c κs = (c .before .before .before .before .loop-test .taken, pass-length _ _ _ _ (c .before .before .before .before .before .loop .inv .1) (c .before .before .before .before .before .before .if1 .left))
+put-row-requires c κs = (
+  c .before .before .before .before .loop-test .taken,
+  pass-length _ _ _ _ (c .before .before .before .before .before .loop .inv .1) (c .before .before .before .before .before .before .if1 .left),
+)
 
 add-i : tie.Need-add-i Inv-loop μ-loop
 add-i c = omega arith
@@ -43,10 +47,19 @@ loop-less : tie.Need-loop-less Inv-loop μ-loop
 loop-less c = omega arith
 
 loop-again : tie.Need-loop-again Inv-loop μ-loop
-loop-again c = (omega arith, ⊎-elim (λ w. pass-dead (c .before .before .before .before .before .before .before .args .clock) (c .before .before .before .before .before .before .before .args .table .now) (c .before .before .before .before .loop .table) (c .if2 .table) (c .before .before .before .before .loop .i) (c .before .before .before .before .loop .inv .1) (sym (c .before .is-dead .ensures) ∙ w .0 .taken) (w .5 ∙ w .2 .ensures)) (λ w. w .1 ∙ pass-live (c .before .before .before .before .before .before .before .args .clock) (c .before .before .before .before .before .before .before .args .table .now) (c .before .before .before .before .loop .table) (c .before .before .before .before .loop .i) (c .before .before .before .before .loop .inv .1) (sym (c .before .is-dead .ensures) ∙ w .0 .left)) (c .if2 .came))
+loop-again c =
+    let loop = c .before .before .before .before .loop in
+    let args = c .before .before .before .before .before .before .before .args in (
+      omega arith,
+      ⊎-elim (λ w. pass-dead (args .clock) (args .table .now) (loop .table) (c .if2 .table) (loop .i)
+          (loop .inv .1) (sym (c .before .is-dead .ensures) ∙ w .0 .taken) (w .5 ∙ w .2 .ensures))
+          (λ w. w .1 ∙ pass-live (args .clock) (args .table .now) (loop .table) (loop .i) (loop .inv .1) (sym (c .before .is-dead .ensures) ∙ w .0 .left))
+          (c .if2 .came),
+    )
 
 same-length : tie.Need-same-length Inv-loop μ-loop
-same-length c = ap length (c .before .loop .inv .1) ∙ length-free (c .before .before .before .before .args .clock) (c .before .before .before .before .args .table .now) (c .before .loop .i)
+same-length c = ap length (c .before .loop .inv .1)
+    ∙ length-free (c .before .before .before .before .args .clock) (c .before .before .before .before .args .table .now) (c .before .loop .i)
 
 returns-2 : tie.Need-returns-2 Inv-loop μ-loop
 unfolding freed

@@ -1,4 +1,5 @@
--- `node_state::table::is_bad` meets its contract. The loop's invariant: the search from here on finds what the whole search finds.
+-- `node_state::table::is_bad` meets its contract. The loop's invariant: the search from here on finds what the whole
+-- search finds.
 -- Assumes nothing.
 use mathlib.Core.Path.{_≡_, refl, sym, _∙_}
 use Prim.Native.Nat.{_-_, _≤_}
@@ -33,7 +34,10 @@ is-bad-row-requires c κs = (c .loop-test .taken, c .before .before .if1 .left)
 
 returns-2 : tie.Need-returns-2 Inv-loop μ-loop
 unfolding tableBad
-returns-2 c = rw (eq-eqb _ 256 (c .before .before .before .before .if1 .left)) (some-here (rowBad (c .before .before .before .before .before .before .args .clock) (c .before .before .before .before .before .before .args .table .now)) (c .before .before .before .loop .i) (c .before .before .loop-test .taken) (sym (c .before .is-bad-row .ensures) ∙ c .if2 .taken) (c .before .before .before .loop .inv .1))
+returns-2 c =
+    let c3 = c .before .before .before in
+    rw (eq-eqb _ 256 (c3 .before .if1 .left)) (some-here (rowBad (c3 .before .before .before .args .clock) (c3 .before .before .before .args .table .now))
+    (c3 .loop .i) (c .before .before .loop-test .taken) (sym (c .before .is-bad-row .ensures) ∙ c .if2 .taken) (c3 .loop .inv .1))
 
 add-i : tie.Need-add-i Inv-loop μ-loop
 add-i c = omega arith
@@ -42,11 +46,18 @@ loop-less : tie.Need-loop-less Inv-loop μ-loop
 loop-less c = omega arith
 
 loop-again : tie.Need-loop-again Inv-loop μ-loop
-loop-again c = (omega arith, scan-next (rowBad (c .before .before .before .before .before .before .args .clock) (c .before .before .before .before .before .before .args .table .now)) 64 (c .before .before .before .loop .i) (firstFrom (rowBad (c .before .before .before .before .before .before .args .clock) (c .before .before .before .before .before .before .args .table .now)) 64 0) (c .before .before .loop-test .taken) (sym (c .before .is-bad-row .ensures) ∙ c .if2 .left) (c .before .before .before .loop .inv .1))
+loop-again c =
+    let args = c .before .before .before .before .before .before .args in (
+      omega arith,
+      scan-next (rowBad (args .clock) (args .table .now)) 64 (c .before .before .before .loop .i) (firstFrom (rowBad (args .clock) (args .table .now)) 64 0)
+          (c .before .before .loop-test .taken) (sym (c .before .is-bad-row .ensures) ∙ c .if2 .left) (c .before .before .before .loop .inv .1),
+    )
 
 returns-3 : tie.Need-returns-3 Inv-loop μ-loop
 unfolding tableBad
-returns-3 c = rw (eq-eqb _ 256 (c .before .before .if1 .left)) (some-end (rowBad (c .before .before .before .before .args .clock) (c .before .before .before .before .args .table .now)) (c .before .loop .i) (c .loop-test .left) (c .before .loop .inv .1))
+returns-3 c = rw (eq-eqb _ 256 (c .before .before .if1 .left))
+    (some-end (rowBad (c .before .before .before .before .args .clock) (c .before .before .before .before .args .table .now)) (c .before .loop .i)
+    (c .loop-test .left) (c .before .loop .inv .1))
 
 pub is-bad-spec : {M : Type 1} → statement M
 is-bad-spec =

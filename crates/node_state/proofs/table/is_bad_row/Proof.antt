@@ -35,7 +35,12 @@ shared-slice-read-result c = search needs
 
 returns-2 : tie.Need-returns-2
 unfolding rowBad rowUsed cell
-returns-2 c = rw (sym (c .before .before .before .before .is-free .ensures) ∙ c .before .before .before .if1 .left, sym (c .before .before .is-keyed .ensures) ∙ c .before .if2 .taken) (later-bad (c .before .before .before .before .before .before .args .clock) (cell (c .before .before .before .before .before .before .args .table .now) (c .before .before .before .before .before .before .args .i) 3))
+returns-2 c =
+    let args = c .before .before .before .before .before .before .args in
+    rw (
+      sym (c .before .before .before .before .is-free .ensures) ∙ c .before .before .before .if1 .left,
+      sym (c .before .before .is-keyed .ensures) ∙ c .before .if2 .taken,
+    ) (later-bad (args .clock) (cell (args .table .now) (args .i) 3))
 
 returns-3 : tie.Need-returns-3
 unfolding rowBad rowUsed

@@ -47,7 +47,8 @@ shared-slice-read-if3 c = search needs
 
 returns-3 : tie.Need-returns-3
 unfolding rowFree cell
-returns-3 c = rw (cell-first _ _, eq-eqb _ 0 (c .before .before .before .before .if1 .left), eq-eqb _ 0 (c .before .before .if2 .left), ne-eqb _ 0 (c .if3 .taken)) refl
+returns-3 c =
+    rw (cell-first _ _, eq-eqb _ 0 (c .before .before .before .before .if1 .left), eq-eqb _ 0 (c .before .before .if2 .left), ne-eqb _ 0 (c .if3 .taken)) refl
 
 add-result : tie.Need-add-result
 add-result c = search needs
@@ -60,7 +61,12 @@ shared-slice-read-result c = search needs
 
 returns-4 : tie.Need-returns-4
 unfolding rowFree cell
-returns-4 c = rw (cell-first _ _, eq-eqb _ 0 (c .before .before .before .before .before .if1 .left), eq-eqb _ 0 (c .before .before .before .if2 .left), eq-eqb _ 0 (c .before .if3 .left)) refl
+returns-4 c = rw (
+  cell-first _ _,
+  eq-eqb _ 0 (c .before .before .before .before .before .if1 .left),
+  eq-eqb _ 0 (c .before .before .before .if2 .left),
+  eq-eqb _ 0 (c .before .if3 .left),
+) refl
 
 pub is-free-spec : {M : Type 1} → statement M
 is-free-spec =

@@ -34,7 +34,13 @@ returns-2 c = rw (cell-first _ _, sym (c .before .before .tag-of .ensures), le-l
 
 returns-3 : tie.Need-returns-3
 unfolding rowKeyed initiatorFits cell pick
-returns-3 c = rw (cell-first _ _, sym (c .before .before .before .tag-of .ensures), le-leb 1 _ (c .before .before .if1 .left), le-leb _ 4 (c .before .if2 .left), eq-eqb _ 0 (c .if3 .taken)) refl
+returns-3 c = rw (
+  cell-first _ _,
+  sym (c .before .before .before .tag-of .ensures),
+  le-leb 1 _ (c .before .before .if1 .left),
+  le-leb _ 4 (c .before .if2 .left),
+  eq-eqb _ 0 (c .if3 .taken),
+) refl
 
 add-if4 : tie.Need-add-if4
 add-if4 c = search needs
@@ -47,7 +53,14 @@ shared-slice-read-if4 c = search needs
 
 returns-4 : tie.Need-returns-4
 unfolding rowKeyed initiatorFits cell pick
-returns-4 c = rw (cell-first _ _, sym (c .before .before .before .before .before .tag-of .ensures), le-leb 1 _ (c .before .before .before .before .if1 .left), le-leb _ 4 (c .before .before .before .if2 .left), ne-eqb _ 0 (c .before .before .if3 .left), le-ltb _ 4294967296 (c .if4 .taken)) refl
+returns-4 c = rw (
+  cell-first _ _,
+  sym (c .before .before .before .before .before .tag-of .ensures),
+  le-leb 1 _ (c .before .before .before .before .if1 .left),
+  le-leb _ 4 (c .before .before .before .if2 .left),
+  ne-eqb _ 0 (c .before .before .if3 .left),
+  le-ltb _ 4294967296 (c .if4 .taken),
+) refl
 
 add-result : tie.Need-add-result
 add-result c = search needs
@@ -60,7 +73,14 @@ shared-slice-read-result c = search needs
 
 returns-5 : tie.Need-returns-5
 unfolding rowKeyed initiatorFits cell pick
-returns-5 c = rw (cell-first _ _, sym (c .before .before .before .before .before .before .tag-of .ensures), le-leb 1 _ (c .before .before .before .before .before .if1 .left), le-leb _ 4 (c .before .before .before .before .if2 .left), ne-eqb _ 0 (c .before .before .before .if3 .left), lt-ltb _ 4294967296 (c .before .if4 .left)) refl
+returns-5 c = rw (
+  cell-first _ _,
+  sym (c .before .before .before .before .before .before .tag-of .ensures),
+  le-leb 1 _ (c .before .before .before .before .before .if1 .left),
+  le-leb _ 4 (c .before .before .before .before .if2 .left),
+  ne-eqb _ 0 (c .before .before .before .if3 .left),
+  lt-ltb _ 4294967296 (c .before .if4 .left),
+) refl
 
 pub is-keyed-spec : {M : Type 1} → statement M
 is-keyed-spec =

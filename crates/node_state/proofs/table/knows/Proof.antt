@@ -1,4 +1,5 @@
--- `node_state::table::knows` meets its contract. The loop's invariant: the search from here on finds what the whole search finds.
+-- `node_state::table::knows` meets its contract. The loop's invariant: the search from here on finds what the whole
+-- search finds.
 -- Assumes nothing.
 use mathlib.Core.Path.{_≡_, refl, sym, _∙_}
 use Prim.Native.Nat.{_-_, _≤_}
@@ -32,7 +33,10 @@ has-key-requires c κs = (c .loop-test .taken, c .before .before .if1 .left)
 
 returns-2 : tie.Need-returns-2 Inv-loop μ-loop
 unfolding isKnown
-returns-2 c = rw (of-sized _ _ _ (c .before .before .before .before .if1 .left)) (some-here (rowMatches (c .before .before .before .before .before .before .args .key) (c .before .before .before .before .before .before .args .table .now)) (c .before .before .before .loop .i) (c .before .before .loop-test .taken) (sym (c .before .has-key .ensures) ∙ c .if2 .taken) (c .before .before .before .loop .inv .1))
+returns-2 c =
+    let c3 = c .before .before .before in
+    rw (of-sized _ _ _ (c3 .before .if1 .left)) (some-here (rowMatches (c3 .before .before .before .args .key) (c3 .before .before .before .args .table .now))
+    (c3 .loop .i) (c .before .before .loop-test .taken) (sym (c .before .has-key .ensures) ∙ c .if2 .taken) (c3 .loop .inv .1))
 
 add-i : tie.Need-add-i Inv-loop μ-loop
 add-i c = omega arith
@@ -41,11 +45,18 @@ loop-less : tie.Need-loop-less Inv-loop μ-loop
 loop-less c = omega arith
 
 loop-again : tie.Need-loop-again Inv-loop μ-loop
-loop-again c = (omega arith, scan-next (rowMatches (c .before .before .before .before .before .before .args .key) (c .before .before .before .before .before .before .args .table .now)) 64 (c .before .before .before .loop .i) (firstFrom (rowMatches (c .before .before .before .before .before .before .args .key) (c .before .before .before .before .before .before .args .table .now)) 64 0) (c .before .before .loop-test .taken) (sym (c .before .has-key .ensures) ∙ c .if2 .left) (c .before .before .before .loop .inv .1))
+loop-again c =
+    let args = c .before .before .before .before .before .before .args in (
+      omega arith,
+      scan-next (rowMatches (args .key) (args .table .now)) 64 (c .before .before .before .loop .i) (firstFrom (rowMatches (args .key) (args .table .now)) 64 0)
+          (c .before .before .loop-test .taken) (sym (c .before .has-key .ensures) ∙ c .if2 .left) (c .before .before .before .loop .inv .1),
+    )
 
 returns-3 : tie.Need-returns-3 Inv-loop μ-loop
 unfolding isKnown
-returns-3 c = rw (of-sized _ _ _ (c .before .before .if1 .left)) (some-end (rowMatches (c .before .before .before .before .args .key) (c .before .before .before .before .args .table .now)) (c .before .loop .i) (c .loop-test .left) (c .before .loop .inv .1))
+returns-3 c = rw (of-sized _ _ _ (c .before .before .if1 .left))
+    (some-end (rowMatches (c .before .before .before .before .args .key) (c .before .before .before .before .args .table .now)) (c .before .loop .i)
+    (c .loop-test .left) (c .before .loop .inv .1))
 
 pub knows-spec : {M : Type 1} → statement M
 knows-spec =

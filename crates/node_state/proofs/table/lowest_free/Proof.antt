@@ -1,4 +1,5 @@
--- `node_state::table::lowest_free` meets its contract. The loop's invariant: the search from here on finds what the whole search finds.
+-- `node_state::table::lowest_free` meets its contract. The loop's invariant: the search from here on finds what the
+-- whole search finds.
 -- Assumes nothing.
 use mathlib.Core.Path.{_≡_, refl, sym, _∙_}
 use Prim.Native.Nat.{_-_, _≤_}
@@ -25,7 +26,10 @@ is-free-requires : tie.Need-is-free-requires Inv-loop μ-loop
 is-free-requires c κs = (c .loop-test .taken, c .before .before .before .pre)
 
 returns : tie.Need-returns Inv-loop μ-loop
-returns c = scan-here (rowFree (c .before .before .before .before .before .args .table .now)) 64 (c .before .before .before .loop .i) (lowestFree (c .before .before .before .before .before .args .table .now)) (sym (c .before .is-free .ensures) ∙ c .if1 .taken) (c .before .before .before .loop .inv .1)
+returns c =
+    let c3 = c .before .before .before in
+    scan-here (rowFree (c3 .before .before .args .table .now)) 64 (c3 .loop .i) (lowestFree (c3 .before .before .args .table .now))
+    (sym (c .before .is-free .ensures) ∙ c .if1 .taken) (c3 .loop .inv .1)
 
 add-i : tie.Need-add-i Inv-loop μ-loop
 add-i c = omega arith
@@ -34,10 +38,16 @@ loop-less : tie.Need-loop-less Inv-loop μ-loop
 loop-less c = omega arith
 
 loop-again : tie.Need-loop-again Inv-loop μ-loop
-loop-again c = (omega arith, scan-next (rowFree (c .before .before .before .before .before .args .table .now)) 64 (c .before .before .before .loop .i) (lowestFree (c .before .before .before .before .before .args .table .now)) (c .before .before .loop-test .taken) (sym (c .before .is-free .ensures) ∙ c .if1 .left) (c .before .before .before .loop .inv .1))
+loop-again c =
+    let c3 = c .before .before .before in (
+      omega arith,
+      scan-next (rowFree (c3 .before .before .args .table .now)) 64 (c3 .loop .i) (lowestFree (c3 .before .before .args .table .now))
+          (c .before .before .loop-test .taken) (sym (c .before .is-free .ensures) ∙ c .if1 .left) (c3 .loop .inv .1),
+    )
 
 returns-2 : tie.Need-returns-2 Inv-loop μ-loop
-returns-2 c = scan-end (rowFree (c .before .before .before .args .table .now)) 64 (c .before .loop .i) (lowestFree (c .before .before .before .args .table .now)) (c .loop-test .left) (c .before .loop .inv .1)
+returns-2 c = scan-end (rowFree (c .before .before .before .args .table .now)) 64 (c .before .loop .i)
+    (lowestFree (c .before .before .before .args .table .now)) (c .loop-test .left) (c .before .loop .inv .1)
 
 pub lowest-free-spec : {M : Type 1} → statement M
 lowest-free-spec =

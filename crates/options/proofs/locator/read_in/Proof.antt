@@ -37,7 +37,14 @@ add-t8 c = search needs
 returns-2 : tie.Need-returns-2
 unfolding locatorIn pick
 returns-2 c =
-    rw (← c .before .before .before .before .before .before .array-at .ensures .is, ← c .before .before .before .before .before .items-in .ensures, ne-eqb _ _ (c .before .before .before .before .if1 .left), ← c .before .before .before .number-at .ensures .is, ← c .before .before .up-to .ensures, lt-ltb _ _ (c .before .if2 .taken))
+    rw (
+      ← c .before .before .before .before .before .before .array-at .ensures .is,
+      ← c .before .before .before .before .before .items-in .ensures,
+      ne-eqb _ _ (c .before .before .before .before .if1 .left),
+      ← c .before .before .before .number-at .ensures .is,
+      ← c .before .before .up-to .ensures,
+      lt-ltb _ _ (c .before .if2 .taken),
+    )
 
 add-t9 : tie.Need-add-t9
 add-t9 c = search needs
@@ -45,12 +52,29 @@ add-t9 c = search needs
 returns-3 : tie.Need-returns-3
 unfolding locatorIn pick
 returns-3 c =
-    rw (← c .before .before .before .before .before .before .before .array-at .ensures .is, ← c .before .before .before .before .before .before .items-in .ensures, ne-eqb _ _ (c .before .before .before .before .before .if1 .left), ← c .before .before .before .before .number-at .ensures .is, ← c .before .before .before .up-to .ensures, le-ltb _ _ (c .before .before .if2 .left), lt-ltb _ _ (c .before .if3 .taken))
+    rw (
+      ← c .before .before .before .before .before .before .before .array-at .ensures .is,
+      ← c .before .before .before .before .before .before .items-in .ensures,
+      ne-eqb _ _ (c .before .before .before .before .before .if1 .left),
+      ← c .before .before .before .before .number-at .ensures .is,
+      ← c .before .before .before .up-to .ensures,
+      le-ltb _ _ (c .before .before .if2 .left),
+      lt-ltb _ _ (c .before .if3 .taken),
+    )
 
 returns-4 : tie.Need-returns-4
 unfolding locatorIn pick
 returns-4 c =
-    rw (← c .before .before .before .before .before .before .before .before .array-at .ensures .is, ← c .before .before .before .before .before .before .before .items-in .ensures, ne-eqb _ _ (c .before .before .before .before .before .before .if1 .left), ← c .before .before .before .before .before .number-at .ensures .is, ← c .before .before .before .before .up-to .ensures, le-ltb _ _ (c .before .before .before .if2 .left), le-ltb _ _ (c .before .before .if3 .left), ne-eqb _ _ (c .if4 .taken))
+    rw (
+      ← c .before .before .before .before .before .before .before .before .array-at .ensures .is,
+      ← c .before .before .before .before .before .before .before .items-in .ensures,
+      ne-eqb _ _ (c .before .before .before .before .before .before .if1 .left),
+      ← c .before .before .before .before .before .number-at .ensures .is,
+      ← c .before .before .before .before .up-to .ensures,
+      le-ltb _ _ (c .before .before .before .if2 .left),
+      le-ltb _ _ (c .before .before .if3 .left),
+      ne-eqb _ _ (c .if4 .taken),
+    )
 
 read-reached-requires : tie.Need-read-reached-requires
 read-reached-requires c κs = search needs
@@ -58,7 +82,17 @@ read-reached-requires c κs = search needs
 returns-5 : tie.Need-returns-5
 unfolding locatorIn pick
 returns-5 c =
-    rw (← c .before .before .before .before .before .before .before .before .before .array-at .ensures .is, ← c .before .before .before .before .before .before .before .before .items-in .ensures, ne-eqb _ _ (c .before .before .before .before .before .before .before .if1 .left), ← c .before .before .before .before .before .before .number-at .ensures .is, ← c .before .before .before .before .before .up-to .ensures, le-ltb _ _ (c .before .before .before .before .if2 .left), le-ltb _ _ (c .before .before .before .if3 .left), eq-eqb _ _ (c .before .if4 .left), ← c .read-reached .ensures)
+    rw (
+      ← c .before .before .before .before .before .before .before .before .before .array-at .ensures .is,
+      ← c .before .before .before .before .before .before .before .before .items-in .ensures,
+      ne-eqb _ _ (c .before .before .before .before .before .before .before .if1 .left),
+      ← c .before .before .before .before .before .before .number-at .ensures .is,
+      ← c .before .before .before .before .before .up-to .ensures,
+      le-ltb _ _ (c .before .before .before .before .if2 .left),
+      le-ltb _ _ (c .before .before .before .if3 .left),
+      eq-eqb _ _ (c .before .if4 .left),
+      ← c .read-reached .ensures,
+    )
 
 pub read-in-spec : {M : Type 1} → statement M
 read-in-spec =

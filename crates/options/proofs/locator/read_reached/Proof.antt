@@ -28,7 +28,11 @@ add-t16 c = search needs
 returns : tie.Need-returns
 unfolding locatorReached textOf pick
 returns c =
-    rw (← c .before .before .before .string-at .ensures .is, ← c .before .before .address-fits .ensures, not-true (c .before .before .address-fits .result) (c .before .if1 .taken))
+    rw (
+      ← c .before .before .before .string-at .ensures .is,
+      ← c .before .before .address-fits .ensures,
+      not-true (c .before .before .address-fits .result) (c .before .if1 .taken),
+    )
 
 number-or-null-at-requires : tie.Need-number-or-null-at-requires
 number-or-null-at-requires c κs = search needs
@@ -42,7 +46,15 @@ add-t17 c = search needs
 returns-2 : tie.Need-returns-2
 unfolding locatorReached textOf pick
 returns-2 c =
-    rw (← c .before .before .before .before .before .before .string-at .ensures .is, ← c .before .before .before .before .before .address-fits .ensures, not-false (c .before .before .before .before .before .address-fits .result) (c .before .before .before .before .if1 .left), ← c .before .before .before .number-or-null-at .ensures .is, ← c .before .before .protocol-of .ensures, eq-eqb _ _ (c .before .if2 .taken))
+    let c5 = c .before .before .before .before .before in
+    rw (
+      ← c5 .before .string-at .ensures .is,
+      ← c5 .address-fits .ensures,
+      not-false (c5 .address-fits .result) (c .before .before .before .before .if1 .left),
+      ← c .before .before .before .number-or-null-at .ensures .is,
+      ← c .before .before .protocol-of .ensures,
+      eq-eqb _ _ (c .before .if2 .taken),
+    )
 
 number-or-null-at-requires-2 : tie.Need-number-or-null-at-requires-2
 number-or-null-at-requires-2 c κs = search needs
@@ -56,7 +68,18 @@ add-t18 c = search needs
 returns-3 : tie.Need-returns-3
 unfolding locatorReached textOf pick
 returns-3 c =
-    rw (← c .before .before .before .before .before .before .before .before .before .string-at .ensures .is, ← c .before .before .before .before .before .before .before .before .address-fits .ensures, not-false (c .before .before .before .before .before .before .before .before .address-fits .result) (c .before .before .before .before .before .before .before .if1 .left), ← c .before .before .before .before .before .before .number-or-null-at .ensures .is, ← c .before .before .before .before .before .protocol-of .ensures, ne-eqb _ _ (c .before .before .before .before .if2 .left), ← c .before .before .before .number-or-null-at2 .ensures .is, ← c .before .before .port-of .ensures, eq-eqb _ _ (c .before .if3 .taken))
+    let c8 = c .before .before .before .before .before .before .before .before in
+    rw (
+      ← c8 .before .string-at .ensures .is,
+      ← c8 .address-fits .ensures,
+      not-false (c8 .address-fits .result) (c .before .before .before .before .before .before .before .if1 .left),
+      ← c .before .before .before .before .before .before .number-or-null-at .ensures .is,
+      ← c .before .before .before .before .before .protocol-of .ensures,
+      ne-eqb _ _ (c .before .before .before .before .if2 .left),
+      ← c .before .before .before .number-or-null-at2 .ensures .is,
+      ← c .before .before .port-of .ensures,
+      eq-eqb _ _ (c .before .if3 .taken),
+    )
 
 add-locator-of : tie.Need-add-locator-of
 add-locator-of c = search needs
@@ -70,7 +93,20 @@ locator-of-requires c κs = search needs
 returns-4 : tie.Need-returns-4
 unfolding locatorReached textOf pick
 returns-4 c =
-    rw (← c .before .before .before .before .before .before .before .before .before .before .string-at .ensures .is, ← c .before .before .before .before .before .before .before .before .before .address-fits .ensures, not-false (c .before .before .before .before .before .before .before .before .before .address-fits .result) (c .before .before .before .before .before .before .before .before .if1 .left), ← c .before .before .before .before .before .before .before .number-or-null-at .ensures .is, ← c .before .before .before .before .before .before .protocol-of .ensures, ne-eqb _ _ (c .before .before .before .before .before .if2 .left), ← c .before .before .before .before .number-or-null-at2 .ensures .is, ← c .before .before .before .port-of .ensures, ne-eqb _ _ (c .before .before .if3 .left), ← c .before .locator-of .ensures, lt-ltb _ _ (c .if4 .taken))
+    let c9 = c .before .before .before .before .before .before .before .before .before in
+    rw (
+      ← c9 .before .string-at .ensures .is,
+      ← c9 .address-fits .ensures,
+      not-false (c9 .address-fits .result) (c .before .before .before .before .before .before .before .before .if1 .left),
+      ← c .before .before .before .before .before .before .before .number-or-null-at .ensures .is,
+      ← c .before .before .before .before .before .before .protocol-of .ensures,
+      ne-eqb _ _ (c .before .before .before .before .before .if2 .left),
+      ← c .before .before .before .before .number-or-null-at2 .ensures .is,
+      ← c .before .before .before .port-of .ensures,
+      ne-eqb _ _ (c .before .before .if3 .left),
+      ← c .before .locator-of .ensures,
+      lt-ltb _ _ (c .if4 .taken),
+    )
 
 sub-bad-text : tie.Need-sub-bad-text
 sub-bad-text c = search needs
@@ -90,7 +126,22 @@ bad-text-requires c κs = search needs
 returns-5 : tie.Need-returns-5
 unfolding locatorReached textOf pick
 returns-5 c =
-    rw (← c .before .before .before .before .before .before .before .before .before .before .before .before .before .string-at .ensures .is, ← c .before .before .before .before .before .before .before .before .before .before .before .before .address-fits .ensures, not-false (c .before .before .before .before .before .before .before .before .before .before .before .before .address-fits .result) (c .before .before .before .before .before .before .before .before .before .before .before .if1 .left), ← c .before .before .before .before .before .before .before .before .before .before .number-or-null-at .ensures .is, ← c .before .before .before .before .before .before .before .before .before .protocol-of .ensures, ne-eqb _ _ (c .before .before .before .before .before .before .before .before .if2 .left), ← c .before .before .before .before .before .before .before .number-or-null-at2 .ensures .is, ← c .before .before .before .before .before .before .port-of .ensures, ne-eqb _ _ (c .before .before .before .before .before .if3 .left), ← c .before .before .before .before .locator-of .ensures, le-ltb _ _ (c .before .before .before .if4 .left), ← c .bad-text .ensures)
+    let c6 = c .before .before .before .before .before .before in
+    let c12 = c6 .before .before .before .before .before .before in
+    rw (
+      ← c12 .before .string-at .ensures .is,
+      ← c12 .address-fits .ensures,
+      not-false (c12 .address-fits .result) (c6 .before .before .before .before .before .if1 .left),
+      ← c6 .before .before .before .before .number-or-null-at .ensures .is,
+      ← c6 .before .before .before .protocol-of .ensures,
+      ne-eqb _ _ (c6 .before .before .if2 .left),
+      ← c6 .before .number-or-null-at2 .ensures .is,
+      ← c6 .port-of .ensures,
+      ne-eqb _ _ (c .before .before .before .before .before .if3 .left),
+      ← c .before .before .before .before .locator-of .ensures,
+      le-ltb _ _ (c .before .before .before .if4 .left),
+      ← c .bad-text .ensures,
+    )
 
 pub read-reached-spec : {M : Type 1} → statement M
 read-reached-spec =

@@ -33,17 +33,38 @@ add-t8 c = search needs
 returns-2 : tie.Need-returns-2
 unfolding objectiveIn pick
 returns-2 c =
-    rw (← c .before .before .before .before .before .before .array-at .ensures .is, ← c .before .before .before .before .before .items-in .ensures, ne-eqb _ _ (c .before .before .before .before .if1 .left), ← c .before .before .before .string-at .ensures .is, ne-eqb _ _ (c .before .if2 .taken))
+    rw (
+      ← c .before .before .before .before .before .before .array-at .ensures .is,
+      ← c .before .before .before .before .before .items-in .ensures,
+      ne-eqb _ _ (c .before .before .before .before .if1 .left),
+      ← c .before .before .before .string-at .ensures .is,
+      ne-eqb _ _ (c .before .if2 .taken),
+    )
 
 returns-3 : tie.Need-returns-3
 unfolding objectiveIn pick
 returns-3 c =
-    rw (← c .before .before .before .before .before .before .before .array-at .ensures .is, ← c .before .before .before .before .before .before .items-in .ensures, ne-eqb _ _ (c .before .before .before .before .before .if1 .left), ← c .before .before .before .before .string-at .ensures .is, eq-eqb _ _ (c .before .before .if2 .left), lt-ltb _ _ (c .if3 .taken))
+    rw (
+      ← c .before .before .before .before .before .before .before .array-at .ensures .is,
+      ← c .before .before .before .before .before .before .items-in .ensures,
+      ne-eqb _ _ (c .before .before .before .before .before .if1 .left),
+      ← c .before .before .before .before .string-at .ensures .is,
+      eq-eqb _ _ (c .before .before .if2 .left),
+      lt-ltb _ _ (c .if3 .taken),
+    )
 
 returns-4 : tie.Need-returns-4
 unfolding objectiveIn pick
 returns-4 c =
-    rw (← c .before .before .before .before .before .before .before .before .before .array-at .ensures .is, ← c .before .before .before .before .before .before .before .before .items-in .ensures, ne-eqb _ _ (c .before .before .before .before .before .before .before .if1 .left), ← c .before .before .before .before .before .before .string-at .ensures .is, eq-eqb _ _ (c .before .before .before .before .if2 .left), le-ltb _ _ (c .before .before .if3 .left), lt-ltb _ _ (c .if4 .taken))
+    rw (
+      ← c .before .before .before .before .before .before .before .before .before .array-at .ensures .is,
+      ← c .before .before .before .before .before .before .before .before .items-in .ensures,
+      ne-eqb _ _ (c .before .before .before .before .before .before .before .if1 .left),
+      ← c .before .before .before .before .before .before .string-at .ensures .is,
+      eq-eqb _ _ (c .before .before .before .before .if2 .left),
+      le-ltb _ _ (c .before .before .if3 .left),
+      lt-ltb _ _ (c .if4 .taken),
+    )
 
 read-named-requires : tie.Need-read-named-requires
 read-named-requires c κs = search needs
@@ -51,7 +72,16 @@ read-named-requires c κs = search needs
 returns-5 : tie.Need-returns-5
 unfolding objectiveIn pick
 returns-5 c =
-    rw (← c .before .before .before .before .before .before .before .before .before .before .array-at .ensures .is, ← c .before .before .before .before .before .before .before .before .before .items-in .ensures, ne-eqb _ _ (c .before .before .before .before .before .before .before .before .if1 .left), ← c .before .before .before .before .before .before .before .string-at .ensures .is, eq-eqb _ _ (c .before .before .before .before .before .if2 .left), le-ltb _ _ (c .before .before .before .if3 .left), le-ltb _ _ (c .before .if4 .left), ← c .read-named .ensures)
+    rw (
+      ← c .before .before .before .before .before .before .before .before .before .before .array-at .ensures .is,
+      ← c .before .before .before .before .before .before .before .before .before .items-in .ensures,
+      ne-eqb _ _ (c .before .before .before .before .before .before .before .before .if1 .left),
+      ← c .before .before .before .before .before .before .before .string-at .ensures .is,
+      eq-eqb _ _ (c .before .before .before .before .before .if2 .left),
+      le-ltb _ _ (c .before .before .before .if3 .left),
+      le-ltb _ _ (c .before .if4 .left),
+      ← c .read-named .ensures,
+    )
 
 pub read-in-spec : {M : Type 1} → statement M
 read-in-spec =

@@ -42,7 +42,14 @@ add-t20 c = search needs
 returns-2 : tie.Need-returns-2
 unfolding objectiveNamed pick
 returns-2 c =
-    rw (← c .before .before .before .before .before .before .number-at .ensures .is, ← c .before .before .before .before .before .up-to .ensures, le-ltb _ _ (c .before .before .before .before .if1 .left), ← c .before .before .before .number-at2 .ensures .is, ← c .before .before .up-to2 .ensures, lt-ltb _ _ (c .before .if2 .taken))
+    rw (
+      ← c .before .before .before .before .before .before .number-at .ensures .is,
+      ← c .before .before .before .before .before .up-to .ensures,
+      le-ltb _ _ (c .before .before .before .before .if1 .left),
+      ← c .before .before .before .number-at2 .ensures .is,
+      ← c .before .before .up-to2 .ensures,
+      lt-ltb _ _ (c .before .if2 .taken),
+    )
 
 sub-bad-text : tie.Need-sub-bad-text
 sub-bad-text c = search needs
@@ -77,7 +84,19 @@ objective-of-requires c κs = search needs
 returns-3 : tie.Need-returns-3
 unfolding objectiveNamed pick
 returns-3 c =
-    rw (← c .before .before .before .before .before .before .before .before .before .before .before .before .number-at .ensures .is, ← c .before .before .before .before .before .before .before .before .before .before .before .up-to .ensures, le-ltb _ _ (c .before .before .before .before .before .before .before .before .before .before .if1 .left), ← c .before .before .before .before .before .before .before .before .before .number-at2 .ensures .is, ← c .before .before .before .before .before .before .before .before .up-to2 .ensures, le-ltb _ _ (c .before .before .before .before .before .before .before .if2 .left), ← c .before .before .before .before .bad-text .ensures, ← c .before .before .long-name .ensures, eq-eqb _ _ (c .before .if3 .taken), ← c .objective-of .ensures)
+    let c7 = c .before .before .before .before .before .before .before in
+    rw (
+      ← c7 .before .before .before .before .before .number-at .ensures .is,
+      ← c7 .before .before .before .before .up-to .ensures,
+      le-ltb _ _ (c7 .before .before .before .if1 .left),
+      ← c7 .before .before .number-at2 .ensures .is,
+      ← c7 .before .up-to2 .ensures,
+      le-ltb _ _ (c7 .if2 .left),
+      ← c .before .before .before .before .bad-text .ensures,
+      ← c .before .before .long-name .ensures,
+      eq-eqb _ _ (c .before .if3 .taken),
+      ← c .objective-of .ensures,
+    )
 
 size-at-requires : tie.Need-size-at-requires
 size-at-requires c κs = search needs
@@ -88,7 +107,20 @@ add-t28 c = search needs
 returns-4 : tie.Need-returns-4
 unfolding objectiveNamed pick
 returns-4 c =
-    rw (← c .before .before .before .before .before .before .before .before .before .before .before .before .before .number-at .ensures .is, ← c .before .before .before .before .before .before .before .before .before .before .before .before .up-to .ensures, le-ltb _ _ (c .before .before .before .before .before .before .before .before .before .before .before .if1 .left), ← c .before .before .before .before .before .before .before .before .before .before .number-at2 .ensures .is, ← c .before .before .before .before .before .before .before .before .before .up-to2 .ensures, le-ltb _ _ (c .before .before .before .before .before .before .before .before .if2 .left), ← c .before .before .before .before .before .bad-text .ensures, ← c .before .before .before .long-name .ensures, ne-eqb _ _ (c .before .before .if3 .left), ← c .before .size-at .ensures .is, eq-eqb _ _ (c .if4 .taken))
+    let c8 = c .before .before .before .before .before .before .before .before in
+    rw (
+      ← c8 .before .before .before .before .before .number-at .ensures .is,
+      ← c8 .before .before .before .before .up-to .ensures,
+      le-ltb _ _ (c8 .before .before .before .if1 .left),
+      ← c8 .before .before .number-at2 .ensures .is,
+      ← c8 .before .up-to2 .ensures,
+      le-ltb _ _ (c8 .if2 .left),
+      ← c .before .before .before .before .before .bad-text .ensures,
+      ← c .before .before .before .long-name .ensures,
+      ne-eqb _ _ (c .before .before .if3 .left),
+      ← c .before .size-at .ensures .is,
+      eq-eqb _ _ (c .if4 .taken),
+    )
 
 cast-objective-of-3 : tie.Need-cast-objective-of-3
 cast-objective-of-3 c = search needs
@@ -100,12 +132,34 @@ objective-of-requires-2 : tie.Need-objective-of-requires-2
 objective-of-requires-2 c κs = search needs
 
 add-t22 : tie.Need-add-t22
-add-t22 c = omega (arith, c .before .before .size-at .ensures, c .before .before .before .before .before .before .before .before .before .before .before .number-at2 .ensures, c .before .before .before .before .before .before .before .before .before .before .before .before .before .before .number-at .ensures, c .before .before .before .before .before .before .before .before .before .before .before .before .before .before .before .before .good)
+add-t22 c =
+    let c10 = c .before .before .before .before .before .before .before .before .before .before in
+    omega (
+      arith,
+      c .before .before .size-at .ensures,
+      c10 .before .number-at2 .ensures,
+      c10 .before .before .before .before .number-at .ensures,
+      c10 .before .before .before .before .before .before .good,
+    )
 
 returns-5 : tie.Need-returns-5
 unfolding objectiveNamed pick
 returns-5 c =
-    rw (← c .before .before .before .before .before .before .before .before .before .before .before .before .before .before .number-at .ensures .is, ← c .before .before .before .before .before .before .before .before .before .before .before .before .before .up-to .ensures, le-ltb _ _ (c .before .before .before .before .before .before .before .before .before .before .before .before .if1 .left), ← c .before .before .before .before .before .before .before .before .before .before .before .number-at2 .ensures .is, ← c .before .before .before .before .before .before .before .before .before .before .up-to2 .ensures, le-ltb _ _ (c .before .before .before .before .before .before .before .before .before .if2 .left), ← c .before .before .before .before .before .before .bad-text .ensures, ← c .before .before .before .before .long-name .ensures, ne-eqb _ _ (c .before .before .before .if3 .left), ← c .before .before .size-at .ensures .is, ne-eqb _ _ (c .before .if4 .left), ← c .objective-of2 .ensures)
+    let c9 = c .before .before .before .before .before .before .before .before .before in
+    rw (
+      ← c9 .before .before .before .before .before .number-at .ensures .is,
+      ← c9 .before .before .before .before .up-to .ensures,
+      le-ltb _ _ (c9 .before .before .before .if1 .left),
+      ← c9 .before .before .number-at2 .ensures .is,
+      ← c9 .before .up-to2 .ensures,
+      le-ltb _ _ (c9 .if2 .left),
+      ← c .before .before .before .before .before .before .bad-text .ensures,
+      ← c .before .before .before .before .long-name .ensures,
+      ne-eqb _ _ (c .before .before .before .if3 .left),
+      ← c .before .before .size-at .ensures .is,
+      ne-eqb _ _ (c .before .if4 .left),
+      ← c .objective-of2 .ensures,
+    )
 
 pub read-named-spec : {M : Type 1} → statement M
 read-named-spec =

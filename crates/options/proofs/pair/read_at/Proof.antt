@@ -28,7 +28,9 @@ read-in-requires : tie.Need-read-in-requires
 read-in-requires c κs = search needs
 
 returns-2 : tie.Need-returns-2
-returns-2 c = c .read-in .ensures ∙ ap (pairIn (c .before .before .before .before .args .at)) (rest-is (c .before .before .before .before .args .at) (c .before .before .before .before .args .s .now))
+returns-2 c =
+    let args = c .before .before .before .before .args in
+    c .read-in .ensures ∙ ap (pairIn (args .at)) (rest-is (args .at) (args .s .now))
 
 pub read-at-spec : {M : Type 1} → statement M
 read-at-spec =

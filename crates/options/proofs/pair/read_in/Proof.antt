@@ -49,22 +49,49 @@ enum-known-read-2 : tie.Need-enum-known-read-2
 enum-known-read-2 c = search needs
 
 add-read-tag : tie.Need-add-read-tag
-add-read-tag c = omega (arith, c .before .before .before .before .before .before .before .before .before .before .before .pre, c .before .before .before .before .before .before .before .before .before .array-at .ensures, objective-fits 3 (c .before .before .before .before .before .before .before .before .before .before .before .args .s .now) _ (c .before .before .before .before .before .before .before .before .before .array-at .result .next) _ _ (c .before .before .before .before .before .read-in .ensures) (c .before .before .before .read2 .given .1))
+add-read-tag c =
+    let c9 = c .before .before .before .before .before .before .before .before .before in
+    omega (
+      arith,
+      c9 .before .before .pre,
+      c9 .array-at .ensures,
+      objective-fits 3 (c9 .before .before .args .s .now) _ (c9 .array-at .result .next) _ _ (c .before .before .before .before .before .read-in .ensures)
+          (c .before .before .before .read2 .given .1),
+    )
 
 read-tag-requires : tie.Need-read-tag-requires
-read-tag-requires c κs = (c .before .before .before .before .before .before .before .before .before .before .before .pre, omega (arith, c .before .before .before .before .before .before .before .before .before .array-at .ensures, objective-fits 3 (c .before .before .before .before .before .before .before .before .before .before .before .args .s .now) _ (c .before .before .before .before .before .before .before .before .before .array-at .result .next) _ _ (c .before .before .before .before .before .read-in .ensures) (c .before .before .before .read2 .given .1)))
+read-tag-requires c κs =
+    let c9 = c .before .before .before .before .before .before .before .before .before in (
+      c9 .before .before .pre,
+      omega (
+        arith,
+        c9 .array-at .ensures,
+        objective-fits 3 (c9 .before .before .args .s .now) _ (c9 .array-at .result .next) _ _ (c .before .before .before .before .before .read-in .ensures)
+            (c .before .before .before .read2 .given .1),
+      ),
+    )
 
 returns-2 : tie.Need-returns-2
 unfolding pairLed pick
-returns-2 c = (c .read-tag .ensures) ∙ rw (eq-eqb _ _ (c .before .if2 .taken)) at (pair-found _ _ _ _ _ (ObjectiveRead.Got _ _ _ _) (c .before .before .before .before .before .before .before .before .before .before .array-at .ensures .is) (c .before .before .before .before .before .before .before .before .before .items-in .ensures) (c .before .before .before .before .before .before .before .before .if1 .left) (c .before .before .before .before .before .before .read-in .ensures) (c .before .before .before .before .read2 .given .1))
+returns-2 c = (c .read-tag .ensures) ∙ rw (eq-eqb _ _ (c .before .if2 .taken)) at (pair-found _ _ _ _ _ (ObjectiveRead.Got _ _ _ _)
+    (c .before .before .before .before .before .before .before .before .before .before .array-at .ensures .is)
+    (c .before .before .before .before .before .before .before .before .before .items-in .ensures)
+    (c .before .before .before .before .before .before .before .before .if1 .left) (c .before .before .before .before .before .before .read-in .ensures)
+    (c .before .before .before .before .read2 .given .1))
 
 returns-3 : tie.Need-returns-3
 unfolding pairLed pick
-returns-3 c = pair-found _ _ _ _ _ (ObjectiveRead.Bad _) (c .before .before .before .before .before .before .before .array-at .ensures .is) (c .before .before .before .before .before .before .items-in .ensures) (c .before .before .before .before .before .if1 .left) (c .before .before .before .read-in .ensures) (c .before .read .given .1)
+returns-3 c = pair-found _ _ _ _ _ (ObjectiveRead.Bad _) (c .before .before .before .before .before .before .before .array-at .ensures .is)
+    (c .before .before .before .before .before .before .items-in .ensures) (c .before .before .before .before .before .if1 .left)
+    (c .before .before .before .read-in .ensures) (c .before .read .given .1)
 
 returns-4 : tie.Need-returns-4
 unfolding pairLed pick
-returns-4 c = rw (ne-eqb _ _ (c .if2 .left)) at (pair-found _ _ _ _ _ (ObjectiveRead.Got _ _ _ _) (c .before .before .before .before .before .before .before .before .before .array-at .ensures .is) (c .before .before .before .before .before .before .before .before .items-in .ensures) (c .before .before .before .before .before .before .before .if1 .left) (c .before .before .before .before .before .read-in .ensures) (c .before .before .before .read2 .given .1))
+returns-4 c = rw (ne-eqb _ _ (c .if2 .left))
+    at (pair-found _ _ _ _ _ (ObjectiveRead.Got _ _ _ _) (c .before .before .before .before .before .before .before .before .before .array-at .ensures .is)
+    (c .before .before .before .before .before .before .before .before .items-in .ensures)
+    (c .before .before .before .before .before .before .before .if1 .left) (c .before .before .before .before .before .read-in .ensures)
+    (c .before .before .before .read2 .given .1))
 
 pub read-in-spec : {M : Type 1} → statement M
 read-in-spec =

@@ -47,18 +47,30 @@ enum-known-read-2 : tie.Need-enum-known-read-2
 enum-known-read-2 c = search needs
 
 add-t22 : tie.Need-add-t22
-add-t22 c = omega (arith, c .before .before .before .before .before .before .before .before .before .pre, c .before .before .before .before .before .before .before .before .before .good, locator-fits (c .before .before .before .before .before .before .before .before .before .args .s .now) _ (c .before .before .before .before .before .before .before .before .before .args .at) _ _ (c .before .before .before .read-in .ensures) (c .before .read2 .given .1))
+add-t22 c =
+    let c9 = c .before .before .before .before .before .before .before .before .before in
+    omega (
+      arith,
+      c9 .pre,
+      c9 .good,
+      locator-fits (c9 .args .s .now) _ (c9 .args .at) _ _ (c .before .before .before .read-in .ensures) (c .before .read2 .given .1),
+    )
 
 first-of-requires : tie.Need-first-of-requires
 first-of-requires c κs = search needs
 
 returns-2 : tie.Need-returns-2
 unfolding pairTagged
-returns-2 c = tail-found _ _ _ _ _ _ _ _ _ (LocatorRead.Bad _) (c .before .before .before .before .before .before .before .array-at .ensures .is) (c .before .before .before .before .before .before .is-empty .ensures) (c .before .before .before .before .before .if1 .left) (c .before .before .before .read-in .ensures) (c .before .read .given .1)
+returns-2 c = tail-found _ _ _ _ _ _ _ _ _ (LocatorRead.Bad _) (c .before .before .before .before .before .before .before .array-at .ensures .is)
+    (c .before .before .before .before .before .before .is-empty .ensures) (c .before .before .before .before .before .if1 .left)
+    (c .before .before .before .read-in .ensures) (c .before .read .given .1)
 
 returns-3 : tie.Need-returns-3
 unfolding pairTagged
-returns-3 c = rw (c .first-of .ensures) (tail-found _ _ _ _ _ _ _ _ _ (LocatorRead.Got _ _ _) (c .before .before .before .before .before .before .before .before .array-at .ensures .is) (c .before .before .before .before .before .before .before .is-empty .ensures) (c .before .before .before .before .before .before .if1 .left) (c .before .before .before .before .read-in .ensures) (c .before .before .read2 .given .1))
+returns-3 c = rw (c .first-of .ensures)
+    (tail-found _ _ _ _ _ _ _ _ _ (LocatorRead.Got _ _ _) (c .before .before .before .before .before .before .before .before .array-at .ensures .is)
+    (c .before .before .before .before .before .before .before .is-empty .ensures) (c .before .before .before .before .before .before .if1 .left)
+    (c .before .before .before .before .read-in .ensures) (c .before .before .read2 .given .1))
 
 pub read-tag-spec : {M : Type 1} → statement M
 read-tag-spec =

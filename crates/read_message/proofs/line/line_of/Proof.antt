@@ -37,7 +37,12 @@ returns c =
 returns-2 : tie.Need-returns-2
 unfolding lineOf lineFrom
 returns-2 c =
-    rw (← c .before .before .before .before .before .read .ensures, c .before .before .before .reading2 .given .1, ← c .before .kind-of .ensures, ← c .kind-line .ensures)
+    rw (
+      ← c .before .before .before .before .before .read .ensures,
+      c .before .before .before .reading2 .given .1,
+      ← c .before .kind-of .ensures,
+      ← c .kind-line .ensures,
+    )
 
 pub line-of-spec : {M : Type 1} → statement M
 line-of-spec =

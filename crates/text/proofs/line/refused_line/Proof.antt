@@ -19,7 +19,8 @@ returns : tie.Need-returns
 unfolding padded withText refusedWord refusedLine
 returns c =
     c .with-number .ensures
-    ∙ by-digits (λ (text : List ℕ). withText (padded refusedWord) text ≡ padded (refusedWord ++ text)) (λ a. refl) (λ a b. refl) (λ a b c. refl) (c .before .args .n)
+    ∙ by-digits (λ (text : List ℕ). withText (padded refusedWord) text ≡ padded (refusedWord ++ text)) (λ a. refl) (λ a b. refl) (λ a b c. refl)
+    (c .before .args .n)
 
 pub refused-line-spec : {M : Type 1} → statement M
 refused-line-spec = tie.close (tie.spec with-number-requires returns)

@@ -23,7 +23,9 @@ refusal-requires c κs = search needs
 
 returns-2 : tie.Need-returns-2
 unfolding answerAnswer answerOut
-returns-2 c = pass-not _ _ _ (by-length _ _ (sym (c .before .before .before .before .ok-initiator .ensures) ∙ not-false _ (c .before .before .before .if1 .left)) (c .before .before .answer-len .ensures)) (c .before .before .answer-len .ensures) (c .before .refusal .ensures) (c .if2 .taken)
+returns-2 c = pass-not _ _ _
+    (by-length _ _ (sym (c .before .before .before .before .ok-initiator .ensures) ∙ not-false _ (c .before .before .before .if1 .left))
+    (c .before .before .answer-len .ensures)) (c .before .before .answer-len .ensures) (c .before .refusal .ensures) (c .if2 .taken)
 
 put-answer-requires : tie.Need-put-answer-requires
 put-answer-requires c κs = search needs
@@ -33,7 +35,11 @@ same-length c = search needs
 
 returns-3 : tie.Need-returns-3
 unfolding answerAnswer answerOut
-returns-3 c = pass-put _ _ _ (by-length _ _ (sym (c .before .before .before .before .before .before .before .before .before .ok-initiator .ensures) ∙ not-false _ (c .before .before .before .before .before .before .before .before .if1 .left)) (c .before .before .before .before .before .before .before .answer-len .ensures)) (c .before .before .before .before .before .before .before .answer-len .ensures) (c .before .before .before .before .before .before .refusal .ensures) (c .before .before .before .before .before .if2 .left) (c .before .before .put-answer .ensures)
+returns-3 c =
+    let c7 = c .before .before .before .before .before .before .before in
+    pass-put _ _ _ (by-length _ _ (sym (c7 .before .before .ok-initiator .ensures) ∙ not-false _ (c7 .before .if1 .left)) (c7 .answer-len .ensures))
+    (c7 .answer-len .ensures) (c .before .before .before .before .before .before .refusal .ensures) (c .before .before .before .before .before .if2 .left)
+    (c .before .before .put-answer .ensures)
 
 pub answer-spec : {M : Type 1} → statement M
 answer-spec =

@@ -32,13 +32,16 @@ same-length c = search needs
 returns : tie.Need-returns
 unfolding preamble
 returns c =
+    let c6 = c .before .before .before .before .before .before in
+    let c14 = c6 .before .before .before .before .before .before .before .before in
+    let c18 = c14 .before .before .before .before in
     rw answer-is
     (then (then (then (then (then
-    (head-in _ _ _ 4 _ _ (lit< tt) (c .before .before .before .before .before .before .before .before .before .before .before .before .before .before .before .before .before .before .before .before .before .before .head .ensures .0) (c .before .before .before .before .before .before .before .before .before .before .before .before .before .before .before .before .before .before .before .before .before .before .head .ensures .1))
-    (head-in _ _ _ 0 _ _ (lit< tt) (c .before .before .before .before .before .before .before .before .before .before .before .before .before .before .before .before .before .before .head2 .ensures .0) (c .before .before .before .before .before .before .before .before .before .before .before .before .before .before .before .before .before .before .head2 .ensures .1)))
-    (head-in _ _ _ 0 _ _ (lit< tt) (c .before .before .before .before .before .before .before .before .before .before .before .before .before .before .head3 .ensures .0) (c .before .before .before .before .before .before .before .before .before .before .before .before .before .before .head3 .ensures .1)))
-    (c .before .before .before .before .before .before .before .before .before .before .put-string .ensures))
-    (head-in _ _ _ 0 _ _ (lit< tt) (c .before .before .before .before .before .before .head4 .ensures .0) (c .before .before .before .before .before .before .head4 .ensures .1)))
+    (head-in _ _ _ 4 _ _ (lit< tt) (c18 .before .before .before .before .head .ensures .0) (c18 .before .before .before .before .head .ensures .1))
+    (head-in _ _ _ 0 _ _ (lit< tt) (c18 .head2 .ensures .0) (c18 .head2 .ensures .1)))
+    (head-in _ _ _ 0 _ _ (lit< tt) (c14 .head3 .ensures .0) (c14 .head3 .ensures .1)))
+    (c6 .before .before .before .before .put-string .ensures))
+    (head-in _ _ _ 0 _ _ (lit< tt) (c6 .head4 .ensures .0) (c6 .head4 .ensures .1)))
     (c .before .before .put-home .ensures))
 
 pub put-answer-spec : {M : Type 1} → statement M

@@ -27,7 +27,14 @@ same-length c = search needs
 
 returns : tie.Need-returns
 unfolding fixed reached
-returns c = then (then (then (then (head-in _ _ _ 4 _ _ (lit< tt) (c .before .before .before .before .before .before .before .before .before .before .before .before .before .before .before .before .before .before .head .ensures .0) (c .before .before .before .before .before .before .before .before .before .before .before .before .before .before .before .before .before .before .head .ensures .1)) (head-in _ _ _ 0 _ _ (lit< tt) (c .before .before .before .before .before .before .before .before .before .before .before .before .before .before .head2 .ensures .0) (c .before .before .before .before .before .before .before .before .before .before .before .before .before .before .head2 .ensures .1))) (c .before .before .before .before .before .before .before .before .before .before .put-string .ensures)) (head-in _ _ _ 0 _ _ (lit< tt) (c .before .before .before .before .before .before .head3 .ensures .0) (c .before .before .before .before .before .before .head3 .ensures .1))) (head-in _ _ _ 0 _ _ (lit< tt) (c .before .before .head4 .ensures .0) (c .before .before .head4 .ensures .1))
+returns c =
+    let c6 = c .before .before .before .before .before .before in
+    let c14 = c6 .before .before .before .before .before .before .before .before in
+    then (then (then
+    (then (head-in _ _ _ 4 _ _ (lit< tt) (c14 .before .before .before .before .head .ensures .0) (c14 .before .before .before .before .head .ensures .1))
+    (head-in _ _ _ 0 _ _ (lit< tt) (c14 .head2 .ensures .0) (c14 .head2 .ensures .1))) (c6 .before .before .before .before .put-string .ensures))
+    (head-in _ _ _ 0 _ _ (lit< tt) (c6 .head3 .ensures .0) (c6 .head3 .ensures .1)))
+    (head-in _ _ _ 0 _ _ (lit< tt) (c .before .before .head4 .ensures .0) (c .before .before .head4 .ensures .1))
 
 pub put-home-spec : {M : Type 1} → statement M
 put-home-spec =

@@ -18,7 +18,9 @@ same-length c = search needs
 
 returns : tie.Need-returns
 unfolding string
-returns c = then (head-in _ _ _ 2 _ _ (lit< tt) (c .before .before .before .before .before .before .head .ensures .0) (c .before .before .before .before .before .before .head .ensures .1)) (all-in (c .before .before .all .ensures .0) (c .before .before .all .ensures .1))
+returns c =
+    let head = c .before .before .before .before .before .before .head .ensures in
+    then (head-in _ _ _ 2 _ _ (lit< tt) (head .0) (head .1)) (all-in (c .before .before .all .ensures .0) (c .before .before .all .ensures .1))
 
 pub put-string-spec : {M : Type 1} → statement M
 put-string-spec = tie.close (tie.spec head-requires all-requires same-length returns)

@@ -1,4 +1,5 @@
--- `writer::relay::lower` meets its contract: the tests are those of `lowerAnswer`, on a length that is known before anything is put.
+-- `writer::relay::lower` meets its contract: the tests are those of `lowerAnswer`, on a length that is known before
+-- anything is put.
 -- Assumes nothing.
 use mathlib.Core.Path.{refl}
 use native.Mathlib.Nat.{le-trans}
@@ -47,8 +48,11 @@ refusal-requires c κs = search needs
 
 returns-4 : tie.Need-returns-4
 unfolding lowerAnswer lowerOut okLower pick
-returns-4 c = rw (ne-eqb _ _ (c .before .before .before .before .before .if1 .left), le-ltb _ _ (c .before .before .before .before .if2 .left), le-ltb _ _ (c .before .before .before .if3 .left))
-    (let e = (lowered-length _ _ _ _ _ (le-trans (c .before .before .before .before .if2 .left) (c .before .before .before .if3 .left)) (c .before .before .head-len .ensures)) in pass-not _ _ _ (by-length _ _ refl e) e (c .before .refusal .ensures) (c .if4 .taken))
+returns-4 c =
+    let c3 = c .before .before .before in
+    rw (ne-eqb _ _ (c3 .before .before .if1 .left), le-ltb _ _ (c3 .before .if2 .left), le-ltb _ _ (c3 .if3 .left))
+    (let e = (lowered-length _ _ _ _ _ (le-trans (c3 .before .if2 .left) (c3 .if3 .left)) (c .before .before .head-len .ensures)) in
+    pass-not _ _ _ (by-length _ _ refl e) e (c .before .refusal .ensures) (c .if4 .taken))
 
 put-lowered-requires : tie.Need-put-lowered-requires
 put-lowered-requires c κs = search needs
@@ -58,8 +62,13 @@ same-length c = search needs
 
 returns-5 : tie.Need-returns-5
 unfolding lowerAnswer lowerOut okLower pick
-returns-5 c = rw (ne-eqb _ _ (c .before .before .before .before .before .before .before .before .before .if1 .left), le-ltb _ _ (c .before .before .before .before .before .before .before .before .if2 .left), le-ltb _ _ (c .before .before .before .before .before .before .before .if3 .left))
-    (let e = (lowered-length _ _ _ _ _ (le-trans (c .before .before .before .before .before .before .before .before .if2 .left) (c .before .before .before .before .before .before .before .if3 .left)) (c .before .before .before .before .before .before .head-len .ensures)) in pass-put _ _ _ (by-length _ _ refl e) e (c .before .before .before .before .before .refusal .ensures) (c .before .before .before .before .if4 .left) (c .before .before .put-lowered .ensures))
+returns-5 c =
+    let c7 = c .before .before .before .before .before .before .before in
+    rw (ne-eqb _ _ (c7 .before .before .if1 .left), le-ltb _ _ (c7 .before .if2 .left), le-ltb _ _ (c7 .if3 .left))
+    (let e =
+    (lowered-length _ _ _ _ _ (le-trans (c7 .before .if2 .left) (c7 .if3 .left)) (c .before .before .before .before .before .before .head-len .ensures)) in
+    pass-put _ _ _ (by-length _ _ refl e) e (c .before .before .before .before .before .refusal .ensures) (c .before .before .before .before .if4 .left)
+    (c .before .before .put-lowered .ensures))
 
 pub lower-spec : {M : Type 1} → statement M
 lower-spec =

@@ -43,7 +43,11 @@ same-length c = search needs
 
 returns : tie.Need-returns
 unfolding lowered
-returns c = then (then (all-in (c .before .before .before .before .before .before .before .before .before .before .before .all .ensures .0) (c .before .before .before .before .before .before .before .before .before .before .before .all .ensures .1)) (head-in _ _ _ 0 _ _ (lit< tt) (c .before .before .before .before .before .before .before .head .ensures .0) (c .before .before .before .before .before .before .before .head .ensures .1))) (rw rest-is at (all-in (c .before .before .all2 .ensures .0) (c .before .before .all2 .ensures .1)))
+returns c =
+    let c7 = c .before .before .before .before .before .before .before in
+    then (then (all-in (c7 .before .before .before .before .all .ensures .0) (c7 .before .before .before .before .all .ensures .1))
+    (head-in _ _ _ 0 _ _ (lit< tt) (c7 .head .ensures .0) (c7 .head .ensures .1)))
+    (rw rest-is at (all-in (c .before .before .all2 .ensures .0) (c .before .before .all2 .ensures .1)))
 
 pub put-lowered-spec : {M : Type 1} → statement M
 put-lowered-spec =
