@@ -2,7 +2,7 @@
 
 use second::vectors::unhex;
 
-/// Session 7, and then an initiator: 192.0.2.1, or our own address, which is 01's.
+/// Session 7, and then an initiator: 192.0.2.1, or our own address, that of rules 12.5.
 const THEIRS: &str = "07 44 C0000201";
 const OURS: &str = "07 50 20010DB8000000000000000000000001";
 const TTL: &str = "19 EA60";
@@ -47,7 +47,7 @@ fn objective(count: u8) -> String {
     format!("83 63455831 01 {count:02X}")
 }
 
-/// 01's has 15 bytes: from them, with a count of 2.
+/// That of rules 12.2 has 15 bytes: from them, with a count of 2.
 pub fn discovery(from: From, count: u8) -> Vec<u8> {
     unhex(&["84 01", start(from), &objective(count)].concat())
 }

@@ -21,7 +21,7 @@ const LINKS: u64 = 7;
 const CLOCK: u64 = 1_000_000;
 const ARRIVAL: u64 = 0;
 
-/// Another own name than 01's, as one CBOR array.
+/// Another own name than that of rules 12.5, as one CBOR array.
 pub const EX2: &[u8] = b"\x81\x63EX2";
 
 /// A call and what should come of it.

@@ -2,7 +2,7 @@
 
 use second::cbor::big_endian;
 
-/// Numbers near the limits of the rules.
+/// Numbers near the limits and the ranges of fields (rules 2.10, 1.3).
 const LIMITS: [u64; 9] = [
     59_999,
     60_000,

@@ -7,7 +7,7 @@ use crate::input::Input;
 /// The address that records are mostly given: an initiator of these bytes is ours.
 pub const ADDRESS: [u8; 16] = [0x20; 16];
 
-/// Names of objectives; the second is that of the rules' examples, the last two are refused.
+/// Names of objectives; the second is that of rules 12, the last two are refused.
 const NAMES: [&[u8]; 8] = [
     b"",
     b"EX1",

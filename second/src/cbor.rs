@@ -1,17 +1,17 @@
-//! CBOR heads, items and texts (RFC 8949, RFC 3629) under the house limits of 01.
+//! CBOR heads, items and texts (RFC 8949, RFC 3629) under the house limits (rules 2).
 
-/// 01, refusal 2: the bytes end inside an item.
+/// Refusal 2 (rules 4.3): the bytes end inside an item.
 pub const ENDED: u8 = 2;
-/// 01, refusal 3: additional information 28 to 30, or a two-byte simple value below 32.
+/// Refusal 3 (rules 4.3): additional information 28 to 30, or a two-byte simple value below 32.
 pub const RESERVED: u8 = 3;
-/// 01, refusal 4: additional information 31.
+/// Refusal 4 (rules 4.3): additional information 31.
 pub const INDEFINITE: u8 = 4;
-/// 01, refusal 5: a head longer than needed.
+/// Refusal 5 (rules 2.7): a head longer than needed.
 pub const LONG: u8 = 5;
-/// 01, refusal 6: level 9 reached.
+/// Refusal 6 (rules 2.3): level 9 reached.
 pub const DEEP: u8 = 6;
 
-/// The deepest level that an array, map or tag may stand at (01, house limits).
+/// The deepest level that an array, map or tag may stand at (rules 2.3).
 const DEEPEST: usize = 8;
 
 /// A refusal's number, and the place of the faulty head, or for 2 the length of the bytes.

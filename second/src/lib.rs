@@ -1,4 +1,4 @@
-//! The rules of 01 written again, and the test cases they give.
+//! The rules (docs/RULES.md) written again, and the test cases they give.
 
 pub mod block;
 pub mod cbor;

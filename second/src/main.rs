@@ -78,7 +78,7 @@ fn store(root: &Path, file: &Stored) -> Result<(), String> {
         .map_err(|error: io::Error| error.to_string())
 }
 
-/// Compares the file under the root with what the rules give.
+/// Compares the file under the root with what the second program computes.
 fn check(root: &Path, file: &Stored) -> Result<(), String> {
     let found = fs::read(root.join(&file.path)).map_err(|error| error.to_string())?;
     match first_difference(&found, &file.contents) {

@@ -1,4 +1,4 @@
-//! GRASP messages (RFC 8990, section 4) as 01 reads them: what one says, and where.
+//! GRASP messages (RFC 8990, section 4) as rules 4 reads them: what one says, and where.
 
 mod item;
 mod shape;
@@ -7,20 +7,20 @@ use crate::cbor;
 pub use item::Item;
 pub use shape::{ACCEPT, DECLINE, DIVERT, DOMAIN, TCP, UDP, URI, V4, V6};
 
-/// 01, refusal 1: a message of 0 bytes or over 2,048.
+/// Refusal 1 (rules 2.1): a message of 0 bytes or over 2,048.
 pub const SIZE: u8 = 1;
-/// 01, refusal 7: bytes after the item.
+/// Refusal 7 (rules 4.5): bytes after the item.
 pub const AFTER: u8 = 7;
-/// 01, refusal 8: the message's array begins with an unsigned number that is no kind.
+/// Refusal 8 (rules 4.6): the message's array begins with an unsigned number that is no kind.
 pub const KIND: u8 = 8;
-/// 01, refusal 9: any other departure from the message shapes.
+/// Refusal 9 (rules 4.7): any other departure from the message shapes.
 pub const SHAPE: u8 = 9;
-/// 01, refusal 10: a name over 64 bytes.
+/// Refusal 10 (rules 2.2): a name over 64 bytes.
 pub const LONG_NAME: u8 = 10;
-/// 01, refusal 11: named text that is not UTF-8.
+/// Refusal 11 (rules 2.8): named text that is not UTF-8.
 pub const NOT_UTF8: u8 = 11;
 
-/// The most bytes of a message, and of an objective's name (01, house limits).
+/// The most bytes of a message, and of an objective's name (rules 2.1, 2.2).
 pub const MOST_BYTES: usize = 2048;
 pub const MOST_OF_A_NAME: usize = 64;
 
@@ -162,7 +162,7 @@ pub fn read(bytes: &[u8]) -> Result<Message, u8> {
     Ok(message)
 }
 
-/// The one item that 1 to 2,048 bytes are (01, refusals 1 to 7).
+/// The one item that 1 to 2,048 bytes are (refusals 1 to 7, rules 4.2 to 4.5).
 pub fn one_item(bytes: &[u8]) -> Result<Item, u8> {
     if bytes.is_empty() || bytes.len() > MOST_BYTES {
         return Err(SIZE);
@@ -227,7 +227,7 @@ impl Message {
         }
     }
 
-    /// All texts that 01 names: names, those of locators and the reason of a decline.
+    /// All named texts (rules 2.8): names, those of locators and the reason of a decline.
     fn texts(&self) -> Vec<Span> {
         let reason = match self {
             Message::End {

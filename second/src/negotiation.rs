@@ -1,8 +1,8 @@
-//! One negotiation (01, "Negotiation (house)").
+//! One negotiation (rules 10).
 
 use crate::message::{self, Message};
 
-/// 01, refusal 20: a step that is not allowed.
+/// Refusal 20 (rules 10.3): a step that is not allowed.
 pub const NOT_ALLOWED: u8 = 20;
 
 /// A negotiation's state; a closed one remembers nothing.

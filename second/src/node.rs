@@ -1,4 +1,4 @@
-//! The node of 01: the call on a record and a lent table, and the setting of links.
+//! The node (rules 6 to 9): the call on a record and a lent table, and the setting of links.
 
 mod names;
 mod record;
@@ -13,18 +13,18 @@ pub use table::{Key, Row, Table, DISCOVERY_LIFE, FLOOD_LIFE, NUMBERS, OF_A_ROW, 
 pub use verdict::Verdict;
 use verdict::{Passing, Place};
 
-/// 01, refusal 12: a bad record.
+/// Refusal 12 (rules 6.2): a bad record.
 pub const BAD_RECORD: u8 = 12;
-/// 01, refusal 13: an arriving interface that is not there or down, or a new mask with a bit too
-/// high.
+/// Refusal 13 (rules 8.3, 6.6): an arriving interface that is not there or down, or a new mask with
+/// a bit too high.
 pub const BAD_LINK: u8 = 13;
-/// 01, refusal 14: a clock earlier than the record's.
+/// Refusal 14 (rules 8.3): a clock earlier than the record's.
 pub const EARLY: u8 = 14;
-/// 01, refusal 15: a table that is not 256 numbers long, or a bad row.
+/// Refusal 15 (rules 7.7): a table that is not 256 numbers long, or a bad row.
 pub const BAD_TABLE: u8 = 15;
-/// 01, refusal 16: bad own names.
+/// Refusal 16 (rules 8.4): bad own names.
 pub const BAD_NAMES: u8 = 16;
-/// 01, refusal 17: an output shorter than 2,048 bytes.
+/// Refusal 17 (rules 8.3): an output shorter than 2,048 bytes.
 pub const SHORT_OUTPUT: u8 = 17;
 
 /// What a node call is given beside the record and the table.

@@ -9,9 +9,9 @@ use crate::block::layout::FIELDS;
 use crate::message::{self, MOST_BYTES, TCP, V6};
 use items::{array, bytes, number};
 
-/// 01, refusal 18: no accepted message has this description.
+/// Refusal 18 (rules 5.3): no accepted message has this description.
 pub const NO_MESSAGE: u8 = 18;
-/// 01, refusal 19: the output is shorter than the encoding.
+/// Refusal 19 (rules 5.5): the output is shorter than the encoding.
 pub const SHORT_OUTPUT: u8 = 19;
 
 /// The numbers that say a message; `list` holds the rows.
@@ -48,7 +48,7 @@ pub fn lower(
     fitting(copy, out_len)
 }
 
-/// The Response that an ANSWER sends (01, "Verdicts"); an initiator has 4 or 16 bytes.
+/// The Response that an ANSWER sends (rules 9.8); an initiator has 4 or 16 bytes.
 pub fn answer(
     session: u32,
     initiator: &[u8],

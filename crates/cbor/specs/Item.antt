@@ -12,7 +12,7 @@ use Rattle.cbor.specs.declared.item.Step.{Step}
 use Rattle.cbor.specs.declared.item.ItemRead.{ItemRead}
 use Rattle.cbor.specs.Head.{headAt}
 
--- house limit: how many levels of arrays, maps and tags an item has at most
+-- house limit (rules 2.3): how many levels of arrays, maps and tags an item has at most
 abbrev pub mostLevels : ℕ
 mostLevels = 8
 

@@ -9,7 +9,7 @@ ghost use Rattle.cbor.specs.Turn.{Counts, TurnIs, CommonIs};
 use crate::head;
 use crate::head::HeadRead;
 
-// House limit: how many levels of arrays, maps and tags an item has at most.
+// House limit (rules 2.3): how many levels of arrays, maps and tags an item has at most.
 pub const MOST_LEVELS: usize = 8;
 
 // The first whole item: where it ends, or the refusal with its place.

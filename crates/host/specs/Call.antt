@@ -15,7 +15,7 @@ use Rattle.node.specs.Call.{Call, nodeCall}
 use Rattle.host.specs.declared.call.CallNumbers as A
 use Rattle.host.specs.Table.{tableBytes, loaded, saved}
 
--- the verdicts in the rules' order, from 1
+-- the verdicts from 1, in the order of rules 9.2, then NOOP and HAND
 abbrev pub verdictNumber : Verdict → ℕ
 verdictNumber Own = 1
 verdictNumber Answer = 2

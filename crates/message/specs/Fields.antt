@@ -1,4 +1,4 @@
--- What a message that was read holds: its kind's number by the rules, its session, initiator and (first) objective.
+-- What a message that was read holds: its kind's number (rules 1.2), its session, initiator and (first) objective.
 use Prim.Native.Nat.{ℕ}
 use Rattle.options.specs.declared.Span.{Span}
 use Rattle.options.specs.Text.{spanOf}

@@ -16,7 +16,7 @@ mod response;
 mod sequence;
 mod shape;
 
-// House limit: how many bytes a message has at most.
+// House limit (rules 2.1): how many bytes a message has at most.
 pub const MOST_BYTES: usize = 2_048;
 
 // So many items one after the other, the first at `at`.

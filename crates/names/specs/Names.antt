@@ -1,4 +1,4 @@
--- A node's own names (the rules, refusal 16): one CBOR array that passes refusals 1 to 7, with 0 to 16 items, each a
+-- A node's own names (refusal 16, rules 8.4): one CBOR array that passes refusals 1 to 7, with 0 to 16 items, each a
 -- UTF-8 text of at most 64 bytes.
 use Prim.Native.Nat.{ℕ, zero, suc}
 use mathlib.Core.Bool.{Bool, true, false, not, _&&_, _||_}
@@ -16,7 +16,7 @@ use Rattle.options.specs.Text.{contentIn}
 use Rattle.rfc8990.specs.Limits.{mostName}
 use Rattle.rfc8990.specs.Limits.{mostBytes}
 
--- house limit: how many own names a node has at most
+-- house limit (rules 8.4): how many own names a node has at most
 abbrev pub mostNames : ℕ
 mostNames = 16
 

@@ -1,4 +1,4 @@
-// A node's own names: one CBOR array of texts, lent as bytes.
+// A node's own names (rules 8.4): one CBOR array of texts, lent as bytes.
 ghost use mathlib.Core.Path.{_≡_};
 ghost use Prim.Native.Nat.{_≤_};
 ghost use lib.ListN.{length};
@@ -11,7 +11,7 @@ use cbor::token::Token;
 use message::MOST_BYTES;
 use options::objective::MOST_NAME;
 
-// House limit: how many own names there are at most.
+// House limit (rules 8.4): how many own names there are at most.
 pub const MOST_NAMES: u64 = 16;
 
 // 16: not one array that passes refusals 1 to 7, of 0 to 16 items, each a UTF-8 text of at most 64 bytes.

@@ -1,5 +1,5 @@
--- The last sentence of demand 3. An open state may still accept one Negotiate less than its count says, and each
--- accepted one lowers the count.
+-- The last sentence of demand 3 (rules 13.3.5). An open state may still accept one Negotiate less than its count says,
+-- and each accepted one lowers the count.
 -- Assumes nothing.
 use mathlib.Core.Path.{_≡_, refl, sym, ap, _∙_}
 use mathlib.Core.List.{List, [], _∷_}

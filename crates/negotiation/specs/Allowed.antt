@@ -1,5 +1,5 @@
--- The ways in which a step is accepted (the rules, "Negotiation (house)"), said of what the message holds: its kind,
--- its session, its objective's count.
+-- The ways in which a step is accepted (rules 10.3), said of what the message holds: its kind, its session, its
+-- objective's count.
 use mathlib.Core.Path.{_≡_}
 use Prim.Native.Nat.{ℕ, _+_, _≤_}
 use Rattle.options.specs.declared.objective.Objective.{Objective}

@@ -1,5 +1,5 @@
--- What `step` answers (the rules, "Negotiation (house)"; the messages of RFC 8990, sections 2.8.6 to 2.8.9): 1 to 11 by
--- the message's reading, then 20.
+-- What `step` answers (rules 10; the messages of RFC 8990, sections 2.8.6 to 2.8.9): 1 to 11 by the message's reading,
+-- then 20.
 use Prim.Native.Nat.{ℕ, _+_}
 use mathlib.Core.List.{List}
 use mathlib.Core.Bool.{Bool, true, false}

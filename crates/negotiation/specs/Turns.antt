@@ -1,4 +1,4 @@
--- A list of steps on one negotiation state, and the last sentence of demand 3 about it.
+-- A list of steps on one negotiation state (rules 13.9), and the last sentence of demand 3 about it (rules 13.3.5).
 use mathlib.Core.Path.{_≡_}
 use mathlib.Core.List.{List, [], _∷_}
 use mathlib.Core.Bool.{Bool, false}

@@ -1,4 +1,4 @@
-// Negotiation (house): what a message does to the state of one session.
+// Negotiation (rules 10): what a message does to the state of one session.
 ghost use mathlib.Core.Path.{_≡_};
 ghost use Rattle.negotiation.specs.Step.{moveOf, otherSide, sameSide, freshStep};
 ghost use Rattle.negotiation.specs.Step.{lowerStep, turnStep, stateStep, step};

@@ -1,4 +1,4 @@
--- One node call (the rules, "Refusal numbers", "Record and relay table" and "Verdicts"): what it answers, and the
+-- One node call (rules 3.2, 8, 9), from its first test to what it sends and keeps: what it answers, and the
 -- record, the table and the output after it.
 use Prim.Native.Nat.{ℕ, _^_}
 use mathlib.Core.Bool.{Bool, true, false, not, _&&_}

@@ -1,4 +1,4 @@
--- What a node looks at in a message (the rules, "Verdicts"), and the key of its row.
+-- What a node looks at in a message (rules 9), and the key of its row (rules 7.9).
 use Prim.Native.Nat.{ℕ, _+_, _≤_}
 use mathlib.Core.Bool.{Bool, true, false}
 use mathlib.Core.List.{List}

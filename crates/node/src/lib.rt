@@ -1,4 +1,4 @@
-// The node (the rules, "Verdicts"): the verdict on each message, and what it does to record and table.
+// The node (rules 9): the verdict on each message, and what it does to record and table.
 ghost use mathlib.Core.Path.{_≡_};
 ghost use Rattle.node.specs.declared.Reply.the-variants.{Given};
 ghost use Rattle.node.specs.Call.{replies};
@@ -9,7 +9,7 @@ mod mask;
 mod role;
 mod spread;
 
-// The rules' own term: what a node does with a message.
+// What a node does with a message (rules 9.2, 9.3).
 pub enum Verdict {
     Own,
     Answer,
@@ -22,8 +22,8 @@ pub enum Verdict {
     Hand,
 }
 
-// What a node call answers: the number of a refusal; or the verdict, whether the message is handed up (the rules' own
-// term: given to the host), the mask of the interfaces to send on, and how many bytes to send.
+// What a node call answers (rules 8.2): the number of a refusal; or the verdict, whether the message is handed up
+// (given to the host), the mask of the interfaces to send on, and how many bytes to send.
 pub enum Reply {
     Refused(u8),
     Given {

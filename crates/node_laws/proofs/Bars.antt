@@ -1,4 +1,4 @@
--- A node call is barred with 12 to 17 exactly as the rules say.
+-- A node call is barred with 12 to 17 exactly as rules 8.3 says.
 -- Assumes nothing.
 use mathlib.Core.Path.{_≡_, refl, ap, subst}
 use mathlib.Core.Logic.{_⊎_, inl, inr, _↔_}
@@ -124,7 +124,7 @@ module _ (r : Record) (t : List ℕ) (c : Call) where
 
 -- for readers
 
--- A node call is barred with a number exactly if that row of the rules applies and none before it does, and with 0
+-- A node call is barred with a number exactly if that row of rules 8.3 applies and none before it does, and with 0
 -- exactly if none does.
 pub barred-exactly : (r : Record) (t : List ℕ) (c : Call) (n : ℕ) → bar r t c ≡ n ↔ Barred r t c n
 barred-exactly r t c n = (λ e. subst (Barred r t c) e (bars r t c), bars-is r t c)

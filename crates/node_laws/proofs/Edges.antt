@@ -1,4 +1,4 @@
--- The rules' "Bytes at the edges": the cases marked with a star, computed.
+-- Bytes at the edges (rules 12): the cases marked with a star, computed.
 -- Assumes nothing.
 use mathlib.Core.Path.{_≡_, refl}
 use mathlib.Core.Bool.{true, false}

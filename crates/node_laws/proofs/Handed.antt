@@ -1,4 +1,4 @@
--- Which messages are never handed up.
+-- Which messages are never handed up (rules 9.4).
 -- Assumes nothing.
 use mathlib.Core.Path.{_≡_, refl, sym, _∙_}
 use mathlib.Core.Logic.{inl, inr}

@@ -1,4 +1,4 @@
--- Two keys have the same numbers exactly if kind, session and initiator (with its length) are the same.
+-- Two keys have the same numbers exactly if kind, session and initiator (with its length) are the same (rules 7.9).
 -- Assumes nothing.
 use mathlib.Core.Path.{_≡_, refl, sym, ap, _∙_}
 use mathlib.Core.Logic.{_⊎_, inl, inr, _↔_}

@@ -1,4 +1,4 @@
--- For readers: `Whole`, demand 3; `Edges`, the starred cases of the rules, computed; `Verdict`, what comes of a node
+-- For readers: `Whole`, demand 3; `Edges`, the starred cases of rules 12, computed; `Verdict`, what comes of a node
 -- call; `Bars`, the refusals 12 to 17; `OwnNames`, which bytes are own names, and which names are among them; `Handed`,
 -- what is never handed up; `Sent`, what each verdict leaves and sends; `RelayRows`, the rows of the relay table;
 -- `Keys`, when two keys are the same; `Tally`, which never wraps; `Links`, which links are up; `Settings`, a fresh
@@ -19,8 +19,8 @@ pub mod Settings
 mod Told
 pub mod Calls
 mod Copies
--- For the others: the tests of a node call and of rows, held against the rules' conditions; texts that stand one after
--- the other; the array and the frame around own names.
+-- For the others: the tests of a node call and of rows, held against the conditions of rules 7 and 9; texts that stand
+-- one after the other; the array and the frame around own names.
 mod Ways
 mod Lives
 mod NameTexts

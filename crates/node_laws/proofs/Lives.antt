@@ -1,4 +1,4 @@
--- The tests on rows, held against what the rules call free, used, live and dead.
+-- The tests on rows, held against what rules 7.3 to 7.6 call free, used, live and dead.
 -- Assumes nothing.
 use mathlib.Core.Path.{_≡_, refl, sym, ap, _∙_}
 use mathlib.Core.Logic.{_⊎_, inl, inr, _↔_}

@@ -1,4 +1,4 @@
--- A node's own names held against the row of refusal 16, and a name held against them. For readers: each statement
+-- A node's own names held against rules 8.4 (refusal 16), and a name held against them. For readers: each statement
 -- stands alone.
 -- Assumes nothing.
 use mathlib.Core.Path.{_≡_, ap, subst}

@@ -1,4 +1,4 @@
--- What each verdict leaves and sends.
+-- What each verdict leaves and sends (rules 9.6).
 -- Assumes nothing.
 use mathlib.Core.Path.{_≡_, refl, sym, ap, _∙_}
 use mathlib.Core.Logic.{_≢_}

@@ -1,4 +1,5 @@
--- A fresh record and the setting of links are answered as the rules say. For readers: each statement stands alone.
+-- A fresh record and the setting of links are answered as rules 6.3, 6.5 and 6.6 say. For readers: each statement
+-- stands alone.
 -- Assumes nothing.
 use mathlib.Core.Path.{_≡_, refl, subst}
 use mathlib.Core.Logic.{_↔_}
@@ -52,12 +53,12 @@ set-once {r} {mask} (LinksSet.set good low) = rw (failing (record-test r) good, 
 
 -- for readers
 
--- A fresh record is given, or refused, exactly as the rules say.
+-- A fresh record is given, or refused, exactly as rules 6.3 says.
 pub fresh-exactly : (address : List ℕ) (port ttl interfaces mask : ℕ) (k : RecordAnswer) → fresh address port ttl interfaces mask ≡ k
     ↔ FreshIs address port ttl interfaces mask k
 fresh-exactly address port ttl interfaces mask k =
     (λ e. subst (FreshIs address port ttl interfaces mask) e (fresh-is address port ttl interfaces mask), fresh-once)
 
--- Links are set, or the setting is refused, exactly as the rules say.
+-- Links are set, or the setting is refused, exactly as rules 6.5 and 6.6 say.
 pub set-exactly : (r : Record) (mask : ℕ) (k : RecordAnswer) → setLinks r mask ≡ k ↔ LinksSet r mask k
 set-exactly r mask k = (λ e. subst (LinksSet r mask) e (set-is r mask), set-once)

@@ -1,4 +1,4 @@
--- The tally never wraps: a call adds at most 7, and a record with more than 2^63 is refused.
+-- The tally never wraps (rules 6.8): a call adds at most 7, and a record with more than 2^63 is refused.
 -- Assumes nothing.
 use mathlib.Core.Path.{_≡_, ap}
 use mathlib.Core.List.{List, [], _∷_}

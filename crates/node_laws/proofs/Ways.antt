@@ -1,5 +1,5 @@
--- What comes of a node call: each of its tests decides the condition that the rules name, so the verdict that it picks
--- is the one that is due.
+-- What comes of a node call: each of its tests decides the condition that rules 9.2 and 9.3 name, so the verdict that
+-- it picks is the one that is due.
 -- Assumes nothing.
 use mathlib.Core.Path.{_≡_, refl, sym, _∙_, subst}
 use mathlib.Core.Logic.{_≢_, _⊎_, inl, inr, _↔_}

@@ -1,4 +1,4 @@
--- The refusals 12 to 17 of a node call (the rules, "Refusal numbers"), in their order.
+-- The refusals 12 to 17 of a node call, in their order (rules 8.3).
 use Prim.Native.Nat.{ℕ, _^_, _≤_, _<_}
 use mathlib.Core.Bool.{true, false}
 use mathlib.Core.List.{List}
@@ -15,7 +15,7 @@ use Rattle.node_laws.specs.RelayRows.{Free, Used}
 abbrev pub HighLink : ℕ → ℕ → Type 0
 HighLink interfaces mask = (j : ℕ) × (interfaces ≤ j) × (hasBit mask j ≡ true)
 
--- the interface count isn't 1 to 8, a link bit is set at or above it, or the tally is above 2^63
+-- the interface count isn't 1 to 8, a link bit is set at or above it, or the tally is above 2^63 (rules 6.2)
 pub data BadRecord (r : Record) : Type 0 where
   no-interface : r .interfaces ≡ 0 → BadRecord r
   many-interfaces : 8 < r .interfaces → BadRecord r
@@ -30,11 +30,11 @@ BadArrival r c = (r .interfaces ≤ c .interface) ⊎ (hasBit (r .links) (c .int
 abbrev pub Earlier : Record → Call → Type 0
 Earlier r c = c .clock < r .clock
 
--- the table has 256 numbers, and each row is free or used at this clock
+-- the table has 256 numbers, and each row is free or used at this clock (rules 7.7)
 abbrev pub GoodTable : List ℕ → ℕ → Type 0
 GoodTable t now = (length t ≡ 256) × ((i : ℕ) → i < 64 → Free t i ⊎ Used now t i)
 
--- the own names aren't an array of names (`own_names Own`)
+-- the own names aren't an array of names (`OwnNames`)
 abbrev pub BadNames : Call → Type 0
 BadNames c = OwnNames (c .names) → ⊥
 

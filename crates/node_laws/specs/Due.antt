@@ -1,4 +1,4 @@
--- The verdict that is due on a message (the rules, "Verdicts"), and what comes of a node call.
+-- The verdict that is due on a message (rules 9), and what comes of a node call (rules 8.5, 8.6).
 use Prim.Native.Nat.{ℕ, _<_}
 use mathlib.Core.Bool.{Bool, true, false}
 use mathlib.Core.List.{List, List·Memᴰ}
@@ -65,7 +65,7 @@ First (when P v up rules) w up′ = (P × (v ≡ w) × (up ≡ up′)) ⊎ ((P �
 First (otherwise v up) w up′ = (v ≡ w) × (up ≡ up′)
 
 module _ (r : Record) (t : List ℕ) (c : Call) where
-  -- a Discovery's, which is never handed up
+  -- a Discovery's, which is never handed up (rules 9.2)
   abbrev pub discoveryRules : ℕ → Span → Objective → Rules
   discoveryRules session initiator o =
       when (OwnInitiator r c initiator) Own false
@@ -76,7 +76,7 @@ module _ (r : Record) (t : List ℕ) (c : Call) where
       (when (Full t (c .clock)) NoRow false
       (otherwise Relay false))))))
 
-  -- a Flood's; the count that matters is the first objective's
+  -- a Flood's; the count that matters is the first objective's (rules 9.3)
   abbrev pub floodRules : ℕ → Span → Objective → Rules
   floodRules session initiator first =
       when (OwnInitiator r c initiator) Own false
@@ -86,7 +86,7 @@ module _ (r : Record) (t : List ℕ) (c : Call) where
       (when (Full t (c .clock)) NoRow true
       (otherwise Relay true)))))
 
-  -- by the kind: NOOP, HAND, and the two lists
+  -- by the kind: NOOP, HAND, and the two lists (rules 9.1)
   abbrev pub rulesOn : Message → Rules
   rulesOn M.Noop = otherwise Noop false
   rulesOn (M.Discovery session initiator objective) = discoveryRules session initiator objective

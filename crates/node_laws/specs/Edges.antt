@@ -1,4 +1,4 @@
--- The rules' "Bytes at the edges": the node and the node calls there (the messages are those of `writer`).
+-- Bytes at the edges (rules 12): the node and the node calls there (the messages are those of `writer`).
 use Prim.Native.Nat.{ℕ, _+_}
 use mathlib.Core.List.{List, [], _∷_, map}
 use lib.ListN.{replicate}

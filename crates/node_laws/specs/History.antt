@@ -1,5 +1,5 @@
 -- A list of node calls and link settings on one node, each given the record and the table as those before it left them,
--- and the relays in it.
+-- and the relays in it (rules 13.3 to 13.8).
 use Prim.Native.Nat.{ℕ, zero, suc, _+_, _*_, _-_, _≤_, _<_}
 use mathlib.Core.Bool.{Bool, true, false}
 use mathlib.Core.List.{List, [], _∷_, Sublistᴰ}
@@ -111,7 +111,7 @@ told s = toldReading s (readOf s)
 
 -- ---- the relays
 
--- a relay is a node call of the list answered RELAY
+-- a relay is a node call of the list answered RELAY (rules 13.5)
 unfoldable pub relaysOf : List Step → List Step
 relaysOf [] = []
 relaysOf (x ∷ xs) = pick (saysRelay (x .after .called .reply)) (x ∷ relaysOf xs) (relaysOf xs)
@@ -137,7 +137,7 @@ unfoldable pub interfacesIn : ℕ → ℕ → List ℕ
 interfacesIn zero mask = []
 interfacesIn (suc n) mask = pick (hasBit mask n) (n ∷ interfacesIn n mask) (interfacesIn n mask)
 
--- its copies: the interfaces in its mask, which has 8 bits
+-- its copies: the interfaces in its mask, which has 8 bits (rules 13.6)
 unfoldable pub copies : Step → List ℕ
 copies x = interfacesIn 8 (maskOf (x .after .called .reply))
 
@@ -146,7 +146,7 @@ unfoldable pub copiesOf : List Step → ℕ
 copiesOf [] = 0
 copiesOf (x ∷ xs) = length (copies x) + copiesOf xs
 
--- ---- the demand's sentences about one list
+-- ---- the demand's sentences about one list (rules 13.3.1 to 13.3.4)
 
 -- one kind, session and initiator (with its length)
 pub record SameKey (x y : Step) : Type 0 where

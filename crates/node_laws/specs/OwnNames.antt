@@ -1,4 +1,4 @@
--- The bytes that are to be accepted as a node's own names (the rules, refusal 16).
+-- The bytes that are to be accepted as a node's own names (refusal 16, rules 8.4).
 use Prim.Native.Nat.{ℕ, _≤_}
 use mathlib.Core.List.{List, [], _∷_}
 use lib.ListN.{length}

@@ -1,4 +1,4 @@
--- What RELAY and ANSWER do (the rules, "Verdicts"), once the clock is taken and the dead rows are freed.
+-- What RELAY and ANSWER do (rules 9.6 to 9.8), once the clock is taken and the dead rows are freed.
 use Prim.Native.Nat.{ℕ, _^_, _<_}
 use mathlib.Core.Bool.{true, false}
 use mathlib.Core.List.{List}

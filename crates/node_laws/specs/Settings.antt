@@ -1,5 +1,4 @@
--- Asking for a fresh record, and setting links (the rules, "Record and relay table" and "Refusal numbers", 12 and 13),
--- said of the bits of a mask.
+-- Asking for a fresh record, and setting links (rules 6.3, 6.5, 6.6), said of the bits of a mask.
 use Prim.Native.Nat.{ℕ}
 use mathlib.Core.List.{List}
 use Rattle.node_state.specs.declared.Record.{Record}

@@ -1,4 +1,4 @@
--- The key of a message's row (the rules, "Record and relay table").
+-- The key of a message's row (rules 7.4, 7.5, 7.9).
 use Prim.Native.Nat.{ℕ, _+_, _*_, _^_}
 use mathlib.Core.Bool.{Bool, _||_}
 use mathlib.Core.List.{List}

@@ -1,5 +1,4 @@
--- The node's record (the rules, "Record and relay table"), and masks of links, whose bit i is set when interface i is
--- up.
+-- The node's record (rules 6), and masks of links, whose bit i is set when interface i is up.
 use Prim.Native.Nat.{ℕ, _+_, _-_, _^_}
 use mathlib.Core.Bool.{Bool, not, _||_}
 use mathlib.Core.List.{List}
@@ -10,11 +9,11 @@ use Rattle.base.specs.Bits.{hasBit}
 use Rattle.node_state.specs.declared.Record.{Record}
 use Rattle.node_state.specs.declared.RecordAnswer.{RecordAnswer}
 
--- house limit: how many interfaces a node has at most
+-- house limit (rules 6.2): how many interfaces a node has at most
 abbrev pub mostInterfaces : ℕ
 mostInterfaces = 8
 
--- house limit: the greatest tally of a record that isn't refused
+-- house limit (rules 6.2): the greatest tally of a record that isn't refused
 abbrev pub mostTally : ℕ
 mostTally = 2 ^ 63
 
@@ -22,7 +21,7 @@ mostTally = 2 ^ 63
 unfoldable pub linksBad : ℕ → ℕ → Bool
 linksBad interfaces mask = eqb interfaces 0 || ltb mostInterfaces interfaces || leb (2 ^ interfaces) mask
 
--- refusal 12 is due: bad links, or a tally above the limit
+-- refusal 12 is due (rules 6.2): bad links, or a tally above the limit
 unfoldable pub recordBad : Record → Bool
 recordBad r = linksBad (r .interfaces) (r .links) || ltb mostTally (r .tally)
 
@@ -39,7 +38,7 @@ begun address port ttl interfaces mask =
 abbrev pub blank : Record
 blank = begun (replicate 16 0) 0 0 0 0
 
--- asking for a fresh record: 12, with a blank one for the record, or the record with refusal 0
+-- asking for a fresh record (rules 6.3): 12, with a blank one for the record, or the record with refusal 0
 unfoldable pub fresh : List ℕ → ℕ → ℕ → ℕ → ℕ → RecordAnswer
 fresh address port ttl interfaces mask =
     pick (linksBad interfaces mask) (keeps 12 blank) (keeps 0 (begun address port ttl interfaces mask))

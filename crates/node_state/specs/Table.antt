@@ -1,4 +1,4 @@
--- The relay table (the rules, "Record and relay table"): 64 rows of four numbers, one after the other.
+-- The relay table (rules 7): 64 rows of four numbers, one after the other.
 use Prim.Native.Nat.{ℕ, zero, suc, _+_, _-_, _*_, _/_, _%_, _^_}
 use mathlib.Core.Bool.{Bool, true, not, _&&_, _||_}
 use mathlib.Core.List.{List}
@@ -8,7 +8,7 @@ use Rattle.base.specs.Pick.{pick}
 use Rattle.node_state.specs.declared.key.Key.{Key}
 use Rattle.node_state.specs.Key.{noKey}
 
--- house limit: how many rows the table has
+-- house limit (rules 7.1): how many rows the table has
 abbrev pub mostRows : ℕ
 mostRows = 64
 
@@ -68,15 +68,15 @@ firstFrom p (suc n) i = let r = firstFrom p n (suc i) in pick (p i) i r
 unfoldable pub someRow : (ℕ → Bool) → Bool
 someRow p = ltb (firstFrom p mostRows 0) mostRows
 
--- refusal 15 is due: not 256 numbers, or a bad row
+-- refusal 15 is due (rules 7.7): not 256 numbers, or a bad row
 unfoldable pub tableBad : ℕ → List ℕ → Bool
 tableBad now t = not (eqb (length t) tableNumbers) || someRow (rowBad now t)
 
--- house limit: how long a Discovery's row lives, in ms
+-- house limit (rules 7.5): how long a Discovery's row lives, in ms
 abbrev pub discoveryLife : ℕ
 discoveryLife = 60000
 
--- house limit: how long a Flood's row lives, in ms
+-- house limit (rules 7.5): how long a Flood's row lives, in ms
 abbrev pub floodLife : ℕ
 floodLife = 120000
 

@@ -1,5 +1,5 @@
-// What a node keeps from call to call (the rules, "Record and relay table"): its record, the relay table that it is
-// lent, and the keys of the table's rows.
+// What a node keeps from call to call (rules 6, 7): its record, the relay table that it is lent, and the keys of the
+// table's rows.
 ghost use mathlib.Core.Path.{_≡_};
 ghost use Rattle.node_state.specs.Record.{recordBad, fresh, setLinks};
 
@@ -7,8 +7,8 @@ pub mod key;
 mod links;
 pub mod table;
 
-// A node's record. Bit i of `links` is set when interface i is up; `clock` is the last accepted clock in ms; `tally` is
-// the rules' own term: the copies of all relays.
+// A node's record (rules 6.1). Bit i of `links` is set when interface i is up; `clock` is the last accepted clock in
+// ms; `tally` is the copies of all relays.
 #[repr(C)]
 pub struct Record {
     pub address: [u8; 16],
@@ -27,15 +27,15 @@ pub struct RecordAnswer {
 }
 
 impl Record {
-    // House limit: how many rows the relay table has.
+    // House limit (rules 7.1): how many rows the relay table has.
     pub const ROWS: usize = 64;
-    // House limit: how long the row of a Discovery lives, in ms.
+    // House limit (rules 7.5): how long the row of a Discovery lives, in ms.
     pub const DISCOVERY_LIFE: u64 = 60_000;
-    // House limit: how long the row of a Flood lives, in ms.
+    // House limit (rules 7.5): how long the row of a Flood lives, in ms.
     pub const FLOOD_LIFE: u64 = 120_000;
-    // House limit: how many interfaces a node has at most.
+    // House limit (rules 6.2): how many interfaces a node has at most.
     pub const MOST_INTERFACES: u64 = 8;
-    // House limit: the greatest tally of a record that is not refused.
+    // House limit (rules 6.2): the greatest tally of a record that is not refused.
     pub const MOST_TALLY: u64 = 9_223_372_036_854_775_808;
 
     // A fresh record: 12 where the interfaces aren't 1 to 8 or a link bit is at or above their number, with all zeros

@@ -7,7 +7,7 @@ use crate::Span;
 use cbor::token;
 use cbor::token::Token;
 
-// House limit: how many bytes an objective's name has at most.
+// House limit (rules 2.2): how many bytes an objective's name has at most.
 pub const MOST_NAME: u64 = 64;
 
 // The head of the loop count begins at `count_at` and ends at `value.at`. A value of 0 bytes is none.

@@ -1,5 +1,5 @@
--- Reading held against RFC 8990 and the rules' limits: which bytes are accepted, and what the answer says of them. For
--- readers: each statement stands alone.
+-- Reading held against RFC 8990 and the limits (rules 1, 2): which bytes are accepted, and what the answer says of
+-- them. For readers: each statement stands alone.
 -- Assumes nothing.
 use mathlib.Core.Path.{_≡_, ap, _∙_, subst}
 use mathlib.Core.Logic.{_↔_}
@@ -37,7 +37,7 @@ judged-good e e′ = rw (e, e′)
 
 -- for readers
 
--- The bytes that are read as a message are those of the messages of RFC 8990 within the limits of the rules.
+-- The bytes that are read as a message are those of the messages of RFC 8990 within the limits (rules 2).
 pub accepted-exactly : (s : List ℕ) → Bytes s → ((m : Message) × (readOf s ≡ Reading.Read m)) ↔ Accepted s
 unfolding readOf placeless
 accepted-exactly s b = (

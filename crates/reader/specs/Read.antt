@@ -1,5 +1,5 @@
--- What `reader::read` answers: the message that s is, or the refusal, in the order of the rules: 1, the walk's 2 to 6,
--- 7, 8, 9, 11, 10.
+-- What `reader::read` answers (rules 4): the message that s is, or the refusal, in their order (rules 3.2): 1, the
+-- walk's 2 to 6, 7, 8, 9, 11, 10.
 use Prim.Native.Nat.{ℕ}
 use mathlib.Core.List.{List}
 use lib.ListN.{length}

@@ -1,4 +1,4 @@
--- The bytes that are to be accepted: the encodings of the messages of RFC 8990 within the rules' limits.
+-- The bytes that are to be accepted: the encodings of the messages of RFC 8990 (rules 1) within the limits (rules 2).
 use Prim.Native.Nat.{ℕ, _≤_}
 use mathlib.Core.List.{List}
 use mathlib.Core.Path.{_≡_}

@@ -1,5 +1,5 @@
--- Which CBOR items are which message, as the CDDL of RFC 8990 (section 4) has it, with the limits of the rules on
--- numbers. Heads have any width here; which widths are good is said by `Good` of `cbor Tree`.
+-- Which CBOR items are which message, as the CDDL of RFC 8990 (section 4) has it, with the ranges of numbers (rules
+-- 1.3, 1.4). Heads have any width here; which widths are good is said by `Good` of `cbor Tree`.
 use Prim.Native.Nat.{ℕ, _≤_}
 use mathlib.Core.List.{List, [], _∷_}
 use mathlib.Core.Bool.{true, false}

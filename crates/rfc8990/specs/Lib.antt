@@ -1,4 +1,4 @@
--- What RFC 8990 and the rules say of messages, without reading one.
+-- What RFC 8990 and rules 1 to 4 say of messages, without reading one.
 -- `Message`: the messages as data, whatever stands for a value. `Cddl`: which CBOR items are which message, rule by
 -- rule of section 4.
 -- `Limits`: bytes, named texts and names. `Encoding`: a message's encoding with shortest heads.

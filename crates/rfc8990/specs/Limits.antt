@@ -1,5 +1,5 @@
--- The rules' limits on bytes and on texts: a message has at most 2,048 bytes, named texts are UTF-8, and names have at
--- most 64 bytes.
+-- The limits on bytes and on texts (rules 2): a message has at most 2,048 bytes, named texts are UTF-8, and names have
+-- at most 64 bytes.
 use Prim.Native.Nat.{ℕ, _≤_}
 use mathlib.Core.List.{List, [], _∷_, _++_, map, flatMap}
 use mathlib.Core.Option.{Option, none, some}
@@ -9,11 +9,11 @@ pub use Rattle.utf8.specs.Utf8.{Utf8}
 use Rattle.rfc8990.specs.Message.{Loc, Obj, Pair, Tgts, Outc, Msg}
 use Rattle.rfc8990.specs.Cddl.{Value}
 
--- house limit: how many bytes a message has at most
+-- house limit (rules 2.1): how many bytes a message has at most
 abbrev pub mostBytes : ℕ
 mostBytes = 2048
 
--- house limit: how many bytes an objective's name has at most
+-- house limit (rules 2.2): how many bytes an objective's name has at most
 abbrev pub mostName : ℕ
 mostName = 64
 
@@ -71,7 +71,7 @@ namesOf (Msg.synch session obj) = obj .name ∷ []
 namesOf (Msg.flood session initiator ttl ps) = map pairName ps
 namesOf (Msg.invalid session item) = []
 
--- a message's named texts, in its order: objectives' names, domain names, URIs and reasons
+-- a message's named texts (rules 2.8), in its order: objectives' names, domain names, URIs and reasons
 unfoldable pub textsOf : Msg Value → List (List ℕ)
 textsOf Msg.noop = []
 textsOf (Msg.discovery session initiator obj) = obj .name ∷ []

@@ -1,4 +1,5 @@
--- The rows of the table of refusals, in the order of the tests, said of the bytes alone: which refusal is due.
+-- The rows of the table of refusals (rules 3.1), in the order of the tests (rules 3.2), said of the bytes alone: which
+-- refusal is due.
 use Prim.Native.Nat.{ℕ, _<_, _≤_}
 use mathlib.Core.List.{List}
 use mathlib.Core.Logic.{_⊎_, _≢_}

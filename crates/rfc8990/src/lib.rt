@@ -1,1 +1,1 @@
-// What RFC 8990 and the rules say of messages; it has no code of its own.
+// What RFC 8990 and rules 1 to 4 say of messages; it has no code of its own.

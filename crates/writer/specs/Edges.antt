@@ -1,4 +1,4 @@
--- The rules' "Bytes at the edges": the addresses, the name and the messages of the starred cases.
+-- Bytes at the edges (rules 12): the addresses, the name and the messages of the starred cases.
 use Prim.Native.Nat.{ℕ}
 use mathlib.Core.List.{List, [], _∷_, _++_}
 

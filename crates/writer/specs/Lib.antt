@@ -1,4 +1,4 @@
--- `Write`: what the writer answers. `Edges`: the rules' messages at the edges.
+-- `Write`: what the writer answers. `Edges`: the messages of rules 12. `Lower`: a message that is relayed.
 pub mod Write
 pub mod Edges
 pub mod Lower

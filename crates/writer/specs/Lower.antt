@@ -1,4 +1,5 @@
--- A message that is relayed: a Discovery's objective's count, or that of a Flood's first objective, is one lower.
+-- A message that is relayed (rules 9.7): a Discovery's objective's count, or that of a Flood's first objective, is one
+-- lower.
 use Prim.Native.Nat.{ℕ, _-_}
 use mathlib.Core.List.{List, [], _∷_}
 use mathlib.Core.Path.{_≡_}

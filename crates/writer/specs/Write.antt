@@ -1,5 +1,5 @@
--- What the writer answers: 18, then 19, then the encoding at the front of the output; the bytes after it, and on a
--- refusal all of them, are as they were.
+-- What the writer answers (rules 5): 18, then 19, then the encoding at the front of the output; the bytes after it, and
+-- on a refusal all of them, are as they were.
 use Prim.Native.Nat.{ℕ, _-_}
 use mathlib.Core.Bool.{Bool, true, false}
 use mathlib.Core.List.{List, [], _∷_, _++_}

@@ -62,7 +62,7 @@ fn paired(pair: &Pair, after: usize) -> PairAnswer {
 mod tests {
     use super::*;
 
-    /// 01's Flood.
+    /// The Flood of rules 12.6.
     const FLOOD: &[u8] = b"\x85\x09\x07\x44\xC0\x00\x02\x01\x19\x03\xE8\x82\x83\x63EX1\x04\x02\x80";
 
     #[test]

@@ -1,7 +1,7 @@
 use super::*;
 use crate::message::{locator_at, pair_at, read};
 
-/// 01's Discovery and Flood.
+/// The Discovery of rules 12.2 and the Flood of rules 12.6.
 const DISCOVERY: &[u8] = b"\x84\x01\x07\x44\xC0\x00\x02\x01\x83\x63EX1\x01\x02";
 const FLOOD: &[u8] = b"\x85\x09\x07\x44\xC0\x00\x02\x01\x19\x03\xE8\x82\x83\x63EX1\x04\x02\x80";
 

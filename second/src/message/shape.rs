@@ -1,4 +1,4 @@
-//! The shapes of messages and options (RFC 8990, section 4; 01, "Messages").
+//! The shapes of messages and options (RFC 8990, section 4; rules 1).
 
 use super::item::Item;
 use super::{Locator, Message, Objective, Outcome, Pair, Span, Target};

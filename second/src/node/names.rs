@@ -1,4 +1,4 @@
-//! A node's own names: a CBOR array of texts (01, refusal 16).
+//! A node's own names: a CBOR array of texts (refusal 16, rules 8.4).
 
 use crate::cbor::is_utf8;
 use crate::message::{one_item, MOST_OF_A_NAME};

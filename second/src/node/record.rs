@@ -1,4 +1,4 @@
-//! The node's record (01, "Record and relay table").
+//! The node's record (rules 6).
 
 use super::{BAD_LINK, BAD_RECORD};
 

@@ -1,4 +1,4 @@
-//! The relay table (01, "Record and relay table"): 64 rows of four numbers.
+//! The relay table (rules 7): 64 rows of four numbers.
 
 use crate::cbor::big_endian;
 

@@ -6,7 +6,7 @@ const ANSWER: &[u8] = b"\x85\x02\x07\x44\xC0\x00\x02\x01\x19\xEA\x60\x84\x18\x67
     \x20\x01\x0D\xB8\x00\x00\x00\x00\x00\x00\x00\x00\x00\x00\x00\x01\x06\x19\x1B\x69";
 const ADDRESS: [u8; 16] = *b"\x20\x01\x0D\xB8\0\0\0\0\0\0\0\0\0\0\0\x01";
 
-/// 01's record, with another count and mask.
+/// The record of rules 12.5, with another count and mask.
 fn asked(count: u64, mask: u64) -> Fresh {
     Fresh {
         address: ADDRESS,
@@ -25,7 +25,7 @@ struct Node {
 }
 
 impl Node {
-    /// 01's node: 3 interfaces, all up.
+    /// The node of rules 12.3: 3 interfaces, all up.
     fn fresh() -> Node {
         let (record, number) = Record::fresh(&asked(3, 7));
         assert_eq!(number, 0);

@@ -1,4 +1,4 @@
-//! Which verdict a message gets (01, "Verdicts").
+//! Which verdict a message gets (rules 9).
 
 use super::{Key, Table};
 use crate::message::{Message, Span};
@@ -17,7 +17,7 @@ pub enum Verdict {
 }
 
 impl Verdict {
-    /// Its number in the stored files: its place in 01's list, from 1.
+    /// Its number in the stored files: its place in rules 9.2 from 1, then NOOP and HAND.
     pub fn number(self) -> u8 {
         self as u8 + 1
     }

@@ -1,6 +1,6 @@
-//! The bytes that 01 writes out.
+//! The bytes that rules 12 writes out.
 
-/// 01, "Bytes at the edges": every byte string written there, and the copies it describes.
+/// Bytes at the edges (rules 12): every byte string written there, and the copies it describes.
 pub const AT_THE_EDGES: &[&str] = &[
     "",
     "81",

@@ -7,7 +7,7 @@ const FLOOD: &[u8] = b"\x85\x09\x07\x44\xC0\x00\x02\x01\x19\x03\xE8\x82\x83\x63E
 const ANSWER: &[u8] = b"\x85\x02\x07\x44\xC0\x00\x02\x01\x19\xEA\x60\x84\x18\x67\x50\
     \x20\x01\x0D\xB8\x00\x00\x00\x00\x00\x00\x00\x00\x00\x00\x00\x01\x06\x19\x1B\x69";
 
-/// The contents that 01's examples hold.
+/// The contents that the messages of rules 12 hold.
 const SOURCE: &[u8] = b"\xC0\x00\x02\x01EX1\
     \x20\x01\x0D\xB8\x00\x00\x00\x00\x00\x00\x00\x00\x00\x00\x00\x01";
 
@@ -20,7 +20,7 @@ fn block(numbers: &[(usize, u64)]) -> [u64; FIELDS] {
     fields
 }
 
-/// 01's Discovery, Flood and answer, each with its list.
+/// The Discovery, Flood and answer of rules 12.2, 12.6 and 12.5, each with its list.
 fn examples() -> [([u64; FIELDS], Vec<u64>, &'static [u8]); 3] {
     let start = |kind| [(KIND, kind), (SESSION, 7), (INITIATOR + 1, 4)];
     let objective = [
@@ -69,7 +69,7 @@ fn examples_are_written() {
     assert_eq!(wait, Ok(b"\x83\x07\x07\x19\x03\xE8".to_vec()));
 }
 
-/// Changes of one number that leave 01's answer without a message.
+/// Changes of one number that leave the answer of rules 12.5 without a message.
 #[test]
 fn refusals_come_before_short_outputs() {
     let [_, _, (fields, list, encoding)] = examples();

@@ -1,4 +1,4 @@
-//! The examples of RFC 8949 and of 01.
+//! The examples of RFC 8949 and of rules 12.
 
 use super::super::edges::AT_THE_EDGES;
 use super::super::unhex;

@@ -1,4 +1,4 @@
-//! The examples of 01 and of RFC 8990.
+//! The examples of rules 12 and of RFC 8990.
 
 use super::super::edges::AT_THE_EDGES;
 use super::super::unhex;

@@ -31,7 +31,7 @@ pub fn null() -> Term {
     raw("F6")
 }
 
-/// The objective of 01's example, without and with a value, and with another name.
+/// The objective of rules 12.2, without and with a value, and with another name.
 pub fn ex1() -> Term {
     named("EX1")
 }
@@ -99,7 +99,7 @@ pub fn nowhere() -> Term {
     array([])
 }
 
-/// A Discovery; in it and below, session 7 and an initiator of 4 bytes as in 01's examples.
+/// A Discovery; in it and below, session 7 and an initiator of 4 bytes as in rules 12.2.
 pub fn discovery(objective: Term) -> Term {
     array([number(1), number(7), bytes(4), objective])
 }
@@ -173,7 +173,7 @@ pub fn with_value(value: &Term) -> Vec<Term> {
     messages
 }
 
-/// The text in every place that 01 names.
+/// The text in every place of a named text (rules 2.8).
 pub fn with_text(text: &[u8]) -> Vec<Term> {
     let mut messages = vec![end(declined(text))];
     for holder in AROUND_OBJECTIVE {

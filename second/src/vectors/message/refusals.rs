@@ -1,4 +1,4 @@
-//! The rows of 01's table of refusals, alone and against each other.
+//! The rows of the table of refusals (rules 3.1), alone and against each other.
 
 use super::super::unhex;
 use super::parts::*;

@@ -220,7 +220,7 @@ fn long_messages() -> Talk {
     steps
 }
 
-/// RFC 8990, appendix A.5: its first Negotiate repeats the Request's count, which 01 refuses.
+/// RFC 8990, appendix A.5: its first Negotiate repeats the Request's count: 20 (rules 10.7).
 fn appendix_a() -> Talk {
     let mut talk = Talk::default();
     for (sender, kind, count) in [

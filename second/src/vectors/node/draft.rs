@@ -16,7 +16,7 @@ pub struct Draft {
 }
 
 impl Draft {
-    /// 01's Discovery.
+    /// The Discovery of rules 12.2.
     pub fn discovery() -> Draft {
         Draft {
             is_flood: false,
@@ -28,7 +28,7 @@ impl Draft {
         }
     }
 
-    /// 01's Flood.
+    /// The Flood of rules 12.6.
     pub fn flood() -> Draft {
         Draft {
             is_flood: true,

@@ -1,4 +1,4 @@
-//! 01, "Bytes at the edges", as stories.
+//! Bytes at the edges (rules 12), as stories.
 
 use super::super::edges::AT_THE_EDGES;
 use super::super::encode::AROUND;

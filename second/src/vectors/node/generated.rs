@@ -162,7 +162,7 @@ impl Teller<'_> {
         }
     }
 
-    /// None, 01's, another, and seldom damaged ones.
+    /// None, that of rules 12.5, another, and seldom damaged ones.
     fn names(&mut self) -> Vec<u8> {
         let names = *self
             .random

@@ -14,7 +14,7 @@ pub fn stories() -> Vec<Story> {
     vec![lists(), texts(), compared()]
 }
 
-/// Bytes that are no array of texts, or that rules 1 to 7 refuse.
+/// Bytes that are no array of texts, or that refusals 1 to 7 don't let pass (rules 8.4).
 const NO_NAMES: &[&str] = &[
     "",
     "81",
@@ -57,13 +57,13 @@ const NO_NAMES: &[&str] = &[
     "81 7B FFFFFFFFFFFFFFFF 60",
 ];
 
-/// A Noop and 01's Discovery with these names.
+/// A Noop and the Discovery of rules 12.2 with these names.
 fn with(story: &mut Story, names: &[u8]) {
     story.named(0, 0, names, b"\x81\x00");
     story.named(0, 0, names, &Draft::discovery().count(1).bytes());
 }
 
-/// A list of this name so many times, with 01's last.
+/// A list of this name so many times, with that of rules 12.5 last.
 fn list(count: usize, name: &[u8]) -> Term {
     let mut names = vec![text(name); count];
     names.extend([text("EX1")]);

@@ -9,10 +9,10 @@ use crate::node::{Answer, Fresh, Given, Record};
 /// The most bytes of an output.
 const MOST_OUTPUT: usize = 2_100;
 
-/// The address of 01's example.
+/// The address of rules 12.5.
 pub const ADDRESS: [u8; 16] = *b"\x20\x01\x0D\xB8\0\0\0\0\0\0\0\0\0\0\0\x01";
 
-/// No own names, and the one of 01's example.
+/// No own names, and the one of rules 12.5.
 pub const NO_NAMES: &[u8] = b"\x80";
 pub const EX1: &[u8] = b"\x81\x63EX1";
 
@@ -51,7 +51,7 @@ pub fn given(clock: u64, interface: u64, message: &[u8]) -> Given {
 }
 
 impl Story {
-    /// With 01's address, port and ttl.
+    /// With the address, port and ttl of rules 12.5.
     pub fn fresh(count: u64, mask: u64) -> Story {
         Story::at(ADDRESS, 7_017, 60_000, count, mask)
     }

@@ -14,7 +14,7 @@ pub struct Asked {
     port: u16,
 }
 
-/// 01's answer.
+/// The answer of rules 12.5.
 fn example() -> Asked {
     let mut address = [0; 16];
     address[..4].copy_from_slice(&[0x20, 0x01, 0x0D, 0xB8]);
@@ -79,7 +79,7 @@ impl Asked {
     }
 }
 
-/// 01's 35 bytes with every shorter output, and with longer ones.
+/// The 35 bytes of rules 12.5 with every shorter output, and with longer ones.
 pub fn bytes_at_the_edges() -> Vec<Case> {
     let lengths = (0..=37).chain([255, 256, 2_048, 2_100]);
     lengths.map(|out_len| example().within(out_len)).collect()

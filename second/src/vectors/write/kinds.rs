@@ -35,7 +35,7 @@ pub fn samples() -> Vec<Draft> {
     .collect()
 }
 
-/// 01, "Bytes at the edges": each message, exactly fitting and one byte short.
+/// Bytes at the edges (rules 12): each message, exactly fitting and one byte short.
 pub fn bytes_at_the_edges() -> Vec<Case> {
     let mut cases = Vec::new();
     for message in AT_THE_EDGES.iter().map(|encoded| unhex(encoded)) {

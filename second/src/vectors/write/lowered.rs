@@ -7,7 +7,7 @@ use super::{Case, MOST_OUTPUT};
 use crate::message::{read, Message, Objective, Span, MOST_BYTES};
 use crate::random::Random;
 
-/// Loop counts where the head shrinks or the rules change, and others.
+/// Loop counts where the head shrinks (rules 9.7) or the verdict changes (rules 9.2), and others.
 const COUNTS: [u8; 8] = [0, 1, 2, 23, 24, 25, 26, 255];
 
 /// Where the count that matters is said: a Flood's is its first objective's.
