@@ -9,6 +9,7 @@ use node::Verdict;
 use node::call;
 use node_state::Record;
 use node_state::RecordAnswer;
+use node_state::table::NUMBERS;
 
 // A node call's answer: the number of the refusal, 0 for none; the verdict's number (the header names them), whether
 // the message is handed up, the mask of the interfaces to send on, how many bytes to send, all 0 for a refusal; and the
@@ -39,14 +40,14 @@ pub fn call_into(
         (callOf clock interface (now (names .entry)) (now (message .entry)) (now (out .entry)))
         (now (answer .entry)) ⌝ }
 {
-    if bytes.len() != 2048 {
+    if bytes.len() != table::BYTES {
         let mut none = [0u64; 1];
         let called = call::node_call(node, &mut none, clock, interface, names, message, out);
         let a = answer_from(called);
         let refusal = a.refusal;
         return RecordAnswer { refusal, node };
     }
-    let mut numbers = [0u64; 256];
+    let mut numbers = [0u64; NUMBERS];
     table::load(bytes, &mut numbers);
     let called = call::node_call(node, &mut numbers, clock, interface, names, message, out);
     let a = answer_from(called);

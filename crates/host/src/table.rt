@@ -6,6 +6,10 @@ ghost use lib.Seq.{sets};
 ghost use Rattle.base.specs.BigEndian.{bigEndian, bytesOf};
 ghost use Rattle.node_state.specs.Table.{tableNumbers};
 ghost use Rattle.host.specs.Table.{tableBytes, loaded, saved};
+use node_state::table::NUMBERS;
+
+// How many bytes the table has: eight to a number.
+pub(crate) const BYTES: usize = 8 * NUMBERS;
 
 // The number that eight bytes spell. The two halves are added last: so it is compiled to one load of eight bytes.
 fn spelled_by(a: u8, b: u8, c: u8, d: u8, e: u8, f: u8, g: u8, h: u8) -> u64
@@ -43,7 +47,7 @@ pub(crate) fn load(bytes: &[u8], table: &mut [u64])
     ensures { λ r. ⌜ now (table .exit) ≡ loaded (now (bytes .entry)) ⌝ }
 {
     let mut i: usize = 0;
-    while i < 256 {
+    while i < NUMBERS {
         table[i] = number_at(bytes, i);
         table[i + 1] = number_at(bytes, i + 1);
         table[i + 2] = number_at(bytes, i + 2);
@@ -74,7 +78,7 @@ pub(crate) fn save(table: &[u64], bytes: &mut [u8])
     ensures { λ r. ⌜ now (bytes .exit) ≡ saved (now (table .entry)) ⌝ }
 {
     let mut i: usize = 0;
-    while i < 256 {
+    while i < NUMBERS {
         put_number(bytes, i, table[i]);
         put_number(bytes, i + 1, table[i + 1]);
         put_number(bytes, i + 2, table[i + 2]);

@@ -1,6 +1,6 @@
 -- The outcome of a node call by the way that its code takes.
 -- Assumes nothing.
-use mathlib.Core.Path.{_≡_, refl, sym, _∙_}
+use mathlib.Core.Path.{_≡_, refl, ap, _∙_}
 use mathlib.Core.Bool.{true, false, not, _&&_}
 use mathlib.Core.List.{List}
 use Prim.Native.Nat.{ℕ, _^_, _≤_, _<_}
@@ -25,16 +25,16 @@ use Rattle.writer.specs.declared.Written.{Written}
 use Rattle.node_state.specs.declared.Record.{Record}
 use Rattle.node.specs.declared.CallAnswer.{CallAnswer}
 use Rattle.node.specs.declared.Reply.the-variants.{Refused, Given}
-use Rattle.node.specs.declared.Verdict.{Verdict}
-use Rattle.node.specs.declared.Verdict.the-variants.{Own, Answer, Duplicate, Last, Nowhere, NoRow, Relay, Noop, Hand}
+use Rattle.node.specs.declared.Verdict.the-variants.{Own, Answer, Duplicate, Last, Nowhere, NoRow, Relay}
 use Rattle.node.specs.declared.role.Spread.{Spread}
 use Rattle.node_state.specs.declared.key.Key.{Key}
 use Rattle.node_state.specs.Record.{recordBad, arrivalBad, others, clocked, tallied}
 use Rattle.node_state.specs.Table.{whereSized, freed, lowestFree, filled, isKnown}
 use Rattle.node.specs.Role.{roleOf, keyIn}
 use Rattle.cbor.specs.Put.{written}
+use Rattle.writer.specs.Write.{writtenLength}
 use Rattle.writer.specs.Lower.{onward}
-use Rattle.node.specs.Call.{Call, callOf, After, afterOf, barred, bar, replies, refuse, quiet, response}
+use Rattle.node.specs.Call.{Call, After, afterOf, barred, bar, replies, refuse, quiet, response}
 use Rattle.node.specs.Call.{laterVerdict, verdictOn, answered, relayed, carriedOut, taken, received, nodeCall}
 use Rattle.node.specs.Passed.{Passed, Ready}
 use Rattle.node_state.proofs.Masks.{record-links, record-tally}
@@ -43,32 +43,11 @@ use Rattle.node_state.proofs.TableRows.{of-sized, of-other, length-free, table-
 -- ---- what was written
 
 pub sent-length : {answer : Written} {after : List ℕ} (w : Written) (after′ bytes out : List ℕ) → w ≡ answer → after′ ≡ after
-    → (answer ≡ Written.Length (length bytes)) × (after ≡ written bytes out) → (n : ℕ) → w ≡ Written.Length n
+    → (answer ≡ Written.Length (length bytes)) × (after ≡ written bytes out) → {n : ℕ} → n ≡ writtenLength w
     → (n ≡ length bytes) × (after′ ≡ written bytes out)
-sent-length w after′ bytes out is left given n e =
-    let same : Written.Length n ≡ Written.Length (length bytes) = sym e ∙ is ∙ given .0 in
-    (cc, left ∙ given .1)
-
-pub sent-never : {answer w : Written} (size n : ℕ) {A : Type 0} → w ≡ answer → answer ≡ Written.Length size → w ≡ Written.Refused n → A
-sent-never size n is given e =
-    let same : Written.Refused n ≡ Written.Length size = sym e ∙ is ∙ given in
-    absurd (let z : _≡_ {A = ℕ} 0 1 = cc in omega arith)
+sent-length w after′ bytes out is left given e = (e ∙ ap writtenLength (is ∙ given .0), left ∙ given .1)
 
 -- ---- a Discovery or a Flood
-
--- what a verdict does has nothing to do with the names
-pub names-apart : (r : Record) (t : List ℕ) (clock i : ℕ) (names names′ m o : List ℕ) (s : Spread) (v : Verdict)
-    → carriedOut r t (callOf clock i names m o) s v ≡ carriedOut r t (callOf clock i names′ m o) s v
-unfolding carriedOut quiet answered relayed
-names-apart r t clock i names names′ m o s Own = refl
-names-apart r t clock i names names′ m o s Answer = refl
-names-apart r t clock i names names′ m o s Duplicate = refl
-names-apart r t clock i names names′ m o s Last = refl
-names-apart r t clock i names names′ m o s Nowhere = refl
-names-apart r t clock i names names′ m o s NoRow = refl
-names-apart r t clock i names names′ m o s Relay = refl
-names-apart r t clock i names names′ m o s Noop = refl
-names-apart r t clock i names names′ m o s Hand = refl
 
 -- what filling gave, in a table of 256 numbers
 found-sized : (t : List ℕ) (k : Key) (clock : ℕ) {row : ℕ} {t′ : List ℕ} → length t ≡ 256

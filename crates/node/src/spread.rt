@@ -2,7 +2,8 @@
 ghost use mathlib.Core.Path.{_≡_};
 ghost use Prim.Native.Nat.{_≤_, _<_};
 ghost use lib.ListN.{length};
-ghost use mathlib.Core.List.{[]};
+ghost use mathlib.Core.List.{List};
+ghost use Prim.Native.Nat.{ℕ};
 ghost use lib.Count.{ones};
 ghost use mathlib.Core.Bool.{not, _&&_, false};
 ghost use Prim.Native.Nat.{_^_};
@@ -29,7 +30,6 @@ use node_state::Record;
 use node_state::key;
 use node_state::key::Key;
 use node_state::table;
-use writer::Written;
 
 // OWN, ANSWER, DUPLICATE, then the others.
 pub(crate) fn judge(
@@ -125,10 +125,7 @@ fn put_response(node: Record, message: &[u8], s: Spread, out: &mut [u8]) -> usiz
         node.port,
         out,
     );
-    match sent {
-        Written::Length(length) => length,
-        Written::Refused(_) => 0,
-    }
+    sent.len()
 }
 
 // The key of the row of s.
@@ -141,7 +138,7 @@ fn key_in(message: &[u8], s: Spread) -> Key
     key::key_of(s.flood, s.session, &message[at..to])
 }
 
-// LAST, NOWHERE, NOROW, RELAY.
+// LAST, NOWHERE, NOROW, RELAY: whatever the own names are.
 fn relay_or_end(
     node: Record,
     table: &mut [u64],
@@ -154,9 +151,9 @@ fn relay_or_end(
     requires ready { ⌜ Ready node (now table) interface (length (now out)) ⌝ }
     requires read { ⌜ RoleIn (now message) (Spreads s) ⌝ }
     requires key { ⌜ key ≡ keyIn (now message) s ⌝ }
-    ensures { λ r. ⌜ afterOf r (now (table .exit)) (now (out .exit)) ≡ carriedOut node (now (table .entry))
-        (callOf (node .clock) interface [] (now (message .entry)) (now (out .entry))) s (laterVerdict node
-        (now (table .entry)) (callOf (node .clock) interface [] (now (message .entry)) (now (out .entry))) s) ⌝ }
+    ensures { λ r. ⌜ ((names : List ℕ) → afterOf r (now (table .exit)) (now (out .exit)) ≡ carriedOut node (now (table .entry))
+        (callOf (node .clock) interface names (now (message .entry)) (now (out .entry))) s (laterVerdict node
+        (now (table .entry)) (callOf (node .clock) interface names (now (message .entry)) (now (out .entry))) s)) ⌝ }
 {
     if s.objective.count <= 1 {
         return crate::quiet(node, Verdict::Last, s.flood);
@@ -183,10 +180,7 @@ fn put_onward(message: &[u8], s: Spread, out: &mut [u8]) -> usize
 {
     let o = s.objective;
     let sent = writer::relay::lower(message, o.count_at, o.value.at, o.count, out);
-    match sent {
-        Written::Length(length) => length,
-        Written::Refused(_) => 0,
-    }
+    sent.len()
 }
 
 // RELAY: the copies, which are the ones in the mask, are tallied.

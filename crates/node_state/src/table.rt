@@ -9,6 +9,9 @@ ghost use Rattle.node_state.specs.Table.{tableBad, freed, lowestFree, fi
 use crate::Record;
 use crate::key::Key;
 
+// How many numbers the table has: four to a row.
+pub const NUMBERS: usize = 4 * Record::ROWS;
+
 // 15: not 256 numbers, or a row that is neither free nor used.
 pub fn is_bad(table: &[u64], clock: u64) -> bool
     ensures { λ r. ⌜ r ≡ tableBad clock (now (table .entry)) ⌝ }

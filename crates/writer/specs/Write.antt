@@ -18,6 +18,11 @@ use Rattle.rfc8990.specs.Encoding.{encodeMsg}
 use Rattle.description.specs.Meaning.{msgOf}
 use Rattle.description.specs.Judge.{okDescribed}
 
+-- how many bytes were written: none by a refusal
+abbrev pub writtenLength : Written → ℕ
+writtenLength (Written.Refused number) = 0
+writtenLength (Written.Length n) = n
+
 -- bytes handed over: 19 where the output is shorter than they are
 unfoldable pub handAnswer : List ℕ → List ℕ → Written
 handAnswer bs out = pick (ltb (length out) (length bs)) (Written.Refused 19) (Written.Length (length bs))

@@ -7,7 +7,7 @@ ghost use lib.ListN.{length};
 ghost use lib.Dec.{ltb};
 ghost use Rattle.base.specs.Pick.{pick};
 ghost use Rattle.rfc8990.specs.Limits.{mostBytes};
-ghost use Rattle.writer.specs.Write.{accepted, accepts, writeAnswer, writeOut, passAnswer, passOut};
+ghost use Rattle.writer.specs.Write.{accepted, accepts, writeAnswer, writeOut, passAnswer, passOut, writtenLength};
 use cbor::put;
 use description::Description;
 use description::judge;
@@ -21,6 +21,18 @@ pub mod relay;
 pub enum Written {
     Refused(u8),
     Length(usize),
+}
+
+impl Written {
+    // How many bytes were written: none by a refusal.
+    pub fn len(self) -> usize
+        ensures { λ r. ⌜ r ≡ writtenLength self ⌝ }
+    {
+        match self {
+            Written::Refused(_) => 0,
+            Written::Length(n) => n,
+        }
+    }
 }
 
 // The message of a description: 18 if no accepted message has it, then 19 if the output is too short.

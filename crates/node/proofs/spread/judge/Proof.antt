@@ -1,11 +1,10 @@
 -- `node::spread::judge` meets its contract.
 -- Assumes nothing.
 use mathlib.Core.Path.{sym, _∙_, ap}
-use mathlib.Core.List.{[]}
 use native.Mathlib.Omega.{arith}
 use Rattle.node.specs.Call.{callOf, laterVerdict}
 use Rattle.node.proofs.Spreads.{role-spreading}
-use Rattle.node.proofs.Outcomes.{own-outcome, answer-outcome, duplicate-outcome, later-outcome, names-apart}
+use Rattle.node.proofs.Outcomes.{own-outcome, answer-outcome, duplicate-outcome, later-outcome}
 use Rattle.node_state.specs.Table.{isKnown}
 use Rattle.node_state.proofs.Masks.{up-below}
 use Rattle.node_state.proofs.TableRows.{of-sized}
@@ -104,9 +103,7 @@ returns-4 c =
     ∙ sym (of-sized _ _ _ (c10 .before .before .before .before .before .before .before .before .before .pre .0 .sized))
     ∙ sym (c .before .before .before .before .before .before .before .before .knows .ensures)
     ∙ c .before .before .before .before .before .before .before .if3 .left)
-    (c .before .before .before .before .relay-or-end .ensures ∙ names-apart (args .node) (args .table .now)
-    (args .node .clock) (args .interface) [] (args .names .now) (args .message .now) (args .out .now) (args .s)
-    (laterVerdict (args .node) (args .table .now) (callOf (args .node .clock) (args .interface) [] (args .message .now) (args .out .now)) (args .s)))
+    (c .before .before .before .before .relay-or-end .ensures (args .names .now))
 
 pub judge-spec : {M : Type 1} → statement M
 judge-spec =

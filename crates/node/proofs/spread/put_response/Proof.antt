@@ -6,12 +6,13 @@ use Prim.Native.Nat.{ℕ}
 use Rattle.writer.specs.Write.{answerAnswer, answerOut}
 use Rattle.node.specs.Call.{response}
 use Rattle.node.proofs.Sends.{held-sized, part-held, response-given}
-use Rattle.node.proofs.Outcomes.{sent-length, sent-never}
+use Rattle.node.proofs.Outcomes.{sent-length}
 use borrow.Author.Needs.{needs}
 use Rattle.node.proofs.spread.put_response.Statement.{statement}
 use Rattle.node.proofs.spread.put_response.Tie as tie
 use Rattle.node.proofs.spread.put_response.Reads as reads
 use Rattle.node.proofs.spread.put_response.Lts as lts
+use Rattle.writer.proofs.Written.len.Reads as len-reads
 use Rattle.writer.proofs.answer.answer.Reads as answer-reads
 
 add-to : tie.Need-add-to
@@ -29,11 +30,8 @@ part-answer-end c = search needs
 answer-requires : tie.Need-answer-requires
 answer-requires c κs = search needs
 
-enum-known-sent : tie.Need-enum-known-sent
-enum-known-sent c = search needs
-
-enum-told : tie.Need-enum-told
-enum-told c = search needs
+len-requires : tie.Need-len-requires
+len-requires c κs = search needs
 
 same-length : tie.Need-same-length
 same-length c = search needs
@@ -41,30 +39,18 @@ same-length c = search needs
 returns : tie.Need-returns
 unfolding response
 returns c =
-    let args = c .before .before .before .before .before .before .before .before .before .before .before .before .before .args in
-    sent-length _ _ (response (args .node) (args .message .now) (args .s)) (args .out .now) (c .before .before .before .before .before .answer .ensures .0
+    let args = c .before .before .before .before .before .before .before .before .before .before .before .args in
+    sent-length _ _ (response (args .node) (args .message .now) (args .s)) (args .out .now)
+    (c .before .before .before .answer .ensures .0
     ∙ ap (λ (z : List ℕ). answerAnswer (args .s .session) z (args .node .ttl) (args .node .address) (args .node .port) (args .out .now))
     (part-held (args .message .now) (args .s .initiator)))
-    (c .before .before .before .before .before .answer .ensures .1
+    (c .before .before .before .answer .ensures .1
     ∙ ap (λ (z : List ℕ). answerOut (args .s .session) z (args .node .ttl) (args .node .address) (args .node .port) (args .out .now))
     (part-held (args .message .now) (args .s .initiator)))
     (response-given (args .node) (args .message .now) (args .out .now) (args .s) (search needs)
-    (held-sized (c .before .before .before .before .before .before .before .before .before .before .before .before .before .pre .1))
-    (c .before .before .before .before .before .before .before .before .before .before .before .before .before .pre .0)) _ (c .before .sent .given .1)
-
-same-length-2 : tie.Need-same-length-2
-same-length-2 c = search needs
-
-returns-2 : tie.Need-returns-2
-unfolding response
-returns-2 c =
-    let args = c .before .before .before .before .before .before .before .before .before .before .before .before .args in
-    sent-never _ _ (c .before .before .before .before .answer .ensures .0
-    ∙ ap (λ (z : List ℕ). answerAnswer (args .s .session) z (args .node .ttl) (args .node .address) (args .node .port) (args .out .now))
-    (part-held (args .message .now) (args .s .initiator)))
-    (response-given (args .node) (args .message .now) (args .out .now) (args .s) (search needs)
-    (held-sized (c .before .before .before .before .before .before .before .before .before .before .before .before .pre .1))
-    (c .before .before .before .before .before .before .before .before .before .before .before .before .pre .0) .0) (c .enum-told .given .1)
+    (held-sized (c .before .before .before .before .before .before .before .before .before .before .before .pre .1))
+    (c .before .before .before .before .before .before .before .before .before .before .before .pre .0))
+    (c .len .ensures)
 
 pub put-response-spec : {M : Type 1} → statement M
 put-response-spec =
@@ -75,9 +61,6 @@ put-response-spec =
     part-answer-start
     part-answer-end
     answer-requires
-    enum-known-sent
-    enum-told
+    len-requires
     same-length
-    returns
-    same-length-2
-    returns-2)
+    returns)

@@ -1,7 +1,6 @@
 -- `node::spread::relay_or_end` meets its contract.
 -- Assumes nothing.
 use mathlib.Core.Path.{sym, _∙_}
-use mathlib.Core.List.{[]}
 use native.Mathlib.Omega.{arith}
 use Rattle.node_state.specs.Record.{others}
 use Rattle.node.specs.Call.{callOf}
@@ -22,8 +21,8 @@ quiet-requires c κs = search needs
 
 returns : tie.Need-returns
 returns c =
-    let args = c .before .before .before .before .before .before .args in
-    last-outcome (args .node) (args .table .now) (callOf (args .node .clock) (args .interface) [] (args .message .now) (args .out .now)) (args .s) _
+    λ names. let args = c .before .before .before .before .before .before .args in
+    last-outcome (args .node) (args .table .now) (callOf (args .node .clock) (args .interface) names (args .message .now) (args .out .now)) (args .s) _
     (c .quiet .ensures) (omega (arith, c .before .if1 .taken))
 
 others-requires : tie.Need-others-requires
@@ -35,8 +34,8 @@ quiet-requires-2 c κs = search needs
 returns-2 : tie.Need-returns-2
 unfolding others
 returns-2 c =
-    let args = c .before .before .before .before .before .before .before .before .args in
-    nowhere-outcome (args .node) (args .table .now) (callOf (args .node .clock) (args .interface) [] (args .message .now) (args .out .now)) (args .s)
+    λ names. let args = c .before .before .before .before .before .before .before .before .args in
+    nowhere-outcome (args .node) (args .table .now) (callOf (args .node .clock) (args .interface) names (args .message .now) (args .out .now)) (args .s)
     (c .before .before .before .if1 .left) _ (c .quiet2 .ensures) (sym (c .before .before .others .ensures) ∙ c .before .if2 .taken)
 
 fill-lowest-requires : tie.Need-fill-lowest-requires
@@ -51,9 +50,9 @@ same-length c = search needs
 returns-3 : tie.Need-returns-3
 unfolding others
 returns-3 c =
-    let c6 = c .before .before .before .before .before .before in
+    λ names. let c6 = c .before .before .before .before .before .before in
     let args = c6 .before .before .before .before .before .before .before .args in
-    norow-outcome (args .node) (args .table .now) (callOf (args .node .clock) (args .interface) [] (args .message .now) (args .out .now)) (args .s)
+    norow-outcome (args .node) (args .table .now) (callOf (args .node .clock) (args .interface) names (args .message .now) (args .out .now)) (args .s)
     (c6 .before .before .if1 .left) (λ e. c6 .if2 .left (c6 .before .others .ensures ∙ e)) _ _ _ (c .before .before .before .before .fill-lowest .ensures)
     (c6 .before .before .before .before .before .before .before .pre .0 .sized) _ (c .quiet3 .ensures) (c .before .if3 .taken)
 
@@ -72,10 +71,10 @@ same-length-3 c = search needs
 returns-4 : tie.Need-returns-4
 unfolding others
 returns-4 c =
-    let c3 = c .before .before .before in
+    λ names. let c3 = c .before .before .before in
     let c11 = c3 .before .before .before .before .before .before .before .before in
     let args = c11 .before .before .before .before .before .before .args in
-    relay-outcome (args .node) (args .table .now) (callOf (args .node .clock) (args .interface) [] (args .message .now) (args .out .now)) (args .s)
+    relay-outcome (args .node) (args .table .now) (callOf (args .node .clock) (args .interface) names (args .message .now) (args .out .now)) (args .s)
     (c11 .before .if1 .left) (λ e. c3 .before .before .before .before .before .before .before .if2 .left (c11 .others .ensures ∙ e)) _ _ _
     (c3 .before .before .before .before .before .fill-lowest .ensures) (c11 .before .before .before .before .before .before .pre .1 .1) _ _
     (rw (← (c11 .others .ensures), ← (c3 .put-onward .ensures .0)) (c .relayed .ensures)) (c3 .put-onward .ensures .1) (c3 .before .before .if3 .left)
