@@ -36,6 +36,10 @@
 extern "C" {
 #endif
 
+/* The release: as text, and as 10,000 times the major number, 100 times the minor one and the patch. */
+#define GRASP_VERSION "0.1.0"
+#define GRASP_VERSION_NUMBER 100
+
 /* The numbers of the refusals. */
 enum grasp_refusal {
     GRASP_ACCEPTED = 0,

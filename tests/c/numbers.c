@@ -7,7 +7,7 @@
 #define IS(name, number)                                                                                     \
     { "GRASP_" #name, GRASP_##name, number }
 
-/* Every name with its number, as in the rules and RFC 8990; `run` looks that none is missing. */
+/* Every name with its number, as in docs/RULES.md and RFC 8990; `run` looks that none is missing. */
 static const struct {
     const char *name;
     uint64_t is, wanted;

@@ -1,4 +1,4 @@
-// The verdicts on a Discovery or a Flood, in the order of the rules, and what each sends.
+// The verdicts on a Discovery or a Flood, in their order (rules 9.2, 9.3), and what each sends (rules 9.6).
 ghost use mathlib.Core.Path.{_≡_};
 ghost use Prim.Native.Nat.{_≤_, _<_};
 ghost use lib.ListN.{length};
@@ -151,7 +151,8 @@ fn relay_or_end(
     requires ready { ⌜ Ready node (now table) interface (length (now out)) ⌝ }
     requires read { ⌜ RoleIn (now message) (Spreads s) ⌝ }
     requires key { ⌜ key ≡ keyIn (now message) s ⌝ }
-    ensures { λ r. ⌜ ((names : List ℕ) → afterOf r (now (table .exit)) (now (out .exit)) ≡ carriedOut node (now (table .entry))
+    ensures { λ r.
+        ⌜ ((names : List ℕ) → afterOf r (now (table .exit)) (now (out .exit)) ≡ carriedOut node (now (table .entry))
         (callOf (node .clock) interface names (now (message .entry)) (now (out .entry))) s (laterVerdict node
         (now (table .entry)) (callOf (node .clock) interface names (now (message .entry)) (now (out .entry))) s)) ⌝ }
 {

@@ -49,6 +49,8 @@ neither : {n : ℕ} → (n ≡ 1) ⊎ (n ≡ 9) → (n ≡ 1 → ⊥) → (n ≡
 neither (inl e) f g = f e
 neither (inr e) f g = g e
 
+-- for readers
+
 -- The objective whose count a relay lowers, by the fields of what was read.
 pub lowers-by : (m : Message) (o : Objective) → (kindOf m ≡ 1) ⊎ (kindOf m ≡ 9) → objectiveOf m ≡ Extra.With o → Lowers m o
 unfolding objectiveOf
