@@ -96,7 +96,7 @@ enum { GRASP_MESSAGE_BYTES = 2048 };
 /*
  * More stack than any call was seen to use on x86-64. tests/c/stack.c paints a
  * stack, calls each function where it goes deepest, and looks how far down the
- * paint is gone: a node call uses most, 4,512 bytes. No function recurses, whatever
+ * paint is gone: a node call uses most, under 4,600 bytes. No function recurses, whatever
  * the message's nesting.
  */
 enum { GRASP_STACK_BYTES = 8192 };

@@ -16,9 +16,9 @@ pub mod Tally
 pub mod Links
 pub mod Settings
 -- For the proof of demand 3: what is read of a relay; the ways a call can go; the interfaces in a mask.
-mod Told
+pub mod Told
 pub mod Calls
-mod Copies
+pub mod Copies
 -- For the others: the tests of a node call and of rows, held against the conditions of rules 7 and 9; texts that stand
 -- one after the other; the array and the frame around own names.
 mod Ways
