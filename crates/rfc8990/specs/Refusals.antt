@@ -19,6 +19,10 @@ pub record Fits (s : List ℕ) : Type 0 where
   pub some : length s ≢ 0
   pub most : length s ≤ mostBytes
 
+-- an array whose first item is the unsigned number n
+pub data LedBy (n : ℕ) : Item → Type 0 where
+  led : {w v : ℕ} {xs : Items} → LedBy n (Item.array w (Items.more (uint v n) xs))
+
 -- an array whose first item is an unsigned number that is no kind
 pub data UnknownKind : Item → Type 0 where
   unknown : {w v n : ℕ} {xs : Items} → 9 < n → n ≢ 99 → UnknownKind (Item.array w (Items.more (uint v n) xs))

@@ -1,11 +1,12 @@
 -- For readers: `Read`, accepted bytes are the writer's encoding of their message; `Relay`, a message with its count one
 -- lower; `Write`, what is written is read back, and exactly where 18 and 19 are answered; `Answer`, the same of a
--- node's answer; `Again`, what was read, described and written again; `Room`, how long a list has room for the rows of
--- every message.
+-- node's answer; `Leaves`, what is refused leaves the output; `Again`, what was read, described and written again;
+-- `Room`, how long a list has room for the rows of every message.
 pub mod Read
 pub mod Relay
 pub mod Write
 pub mod Answer
+pub mod Leaves
 pub mod Again
 pub mod Room
 -- For callers' proofs: items that are messages, encoded; where a message's items stand; messages that are encoded alike
