@@ -2,6 +2,8 @@
 pub mod Locator
 pub mod Objective
 pub mod Pair
+-- For readers: what an answer holds.
+pub mod Held
 -- For the laws of `reader`: what one item is answered, of all kinds; that it is one message only, described in one way.
 pub mod Shaped
 pub mod Once
@@ -22,7 +24,7 @@ pub mod Locators
 pub mod Noted
 -- `Bridge`: tokens and items that stand in the bytes. `Pieces`: items by the token that was read. `Sizes`: items passed
 -- over. `Texts`: places of bad texts and long names. `One`: an item is one locator, objective or pair at most.
--- `Levels`: how many levels a locator has.
+-- `Levels`: how many levels a locator has, and pairs.
 pub mod Bridge
 pub mod Pieces
 pub mod Sizes

@@ -18,9 +18,11 @@ use Rattle.reader.specs.declared.Reading.{Reading}
 use Rattle.message.specs.Examined.{judgedShape}
 use Rattle.reader.specs.Read.{readPlaced, placeless, readOf}
 use Rattle.message_laws.specs.Describes.{Describes}
+use Rattle.message_laws.specs.Holds.{MessageHolds}
 use Rattle.rfc8990.specs.Accepted.{IsMessage, Accepted}
 use Rattle.message_laws.proofs.Once.{message-one}
 use Rattle.message_laws.proofs.Described.{described-once}
+use Rattle.message_laws.proofs.Held.{described-holds}
 use Rattle.message_laws.proofs.Whole.{stands, one-bytes, only-one}
 use Rattle.reader.proofs.Placed.{message-shape, Answer, answer}
 
@@ -74,3 +76,8 @@ read-exactly s m b = (
       let (m′, q) = accepted-exactly s b .1 a in
       q ∙ ap Reading.Read (described-once (accepted-described s m′ q a) d),
 )
+
+-- And what is read holds that message's contents: the bytes at each of its spans are the initiator, the name, the
+-- reason, or the encoding of the value or item, and so for each locator and pair that is read of its list in turn.
+pub accepted-holds : (s : List ℕ) (m : Message) → readOf s ≡ Reading.Read m → (a : Accepted s) → MessageHolds s m (a .message .msg)
+accepted-holds s m q a = described-holds (a .message) (accepted-described s m q a)

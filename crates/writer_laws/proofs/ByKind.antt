@@ -8,10 +8,10 @@ use native.Mathlib.Omega.{arith}
 use lib.Dec.{lit<}
 use lib.ListN.{length, take}
 use Rattle.cbor.specs.Item.{mostLevels, leftUnder}
-use Rattle.cbor.specs.Tree.{Item, Items, headBytes, count, encode, depth, depths}
+use Rattle.cbor.specs.Tree.{Item, headBytes, count, encode, depth, depths}
 use Rattle.rfc8990.specs.Message.{Loc, Obj, Pair, Tgts, Outc, Msg, valuedObj, valuedPair, valued}
-use Rattle.rfc8990.specs.Cddl.{uint, text, array, LocatorItems, ObjectiveItem, Value, PairItem, PairItems, OutcItem, MessageItem}
-use Rattle.message_laws.proofs.Levels.{locator-deep}
+use Rattle.rfc8990.specs.Cddl.{uint, text, array, LocatorItems, Value, PairItems, OutcItem, MessageItem}
+use Rattle.message_laws.proofs.Levels.{pairs-deep}
 use Rattle.message.specs.declared.Series.{Series}
 use Rattle.message.specs.declared.Targets.{Targets}
 use Rattle.message.specs.declared.Extra.{Extra}
@@ -30,25 +30,6 @@ use Rattle.writer_laws.proofs.Filled.{joined, lent, told-rows}
 use Rattle.writer_laws.proofs.Spans.{string-cuts, value-cuts, end-cuts, objective-gives}
 use Rattle.writer_laws.proofs.Locators.{locator-row-shift, Locators, locators-rows}
 use Rattle.writer_laws.proofs.Pairs.{rowAt, row-shift, pairOf, InOrder, Pairs, pairs-rows}
-
--- ---- how many levels the items of pairs have: as many as any others of the same pairs
--- an objective's are those of its value
-objective-deep : {x y : Item} {obj : Obj Value} → ObjectiveItem x obj → ObjectiveItem y obj → depth x ≡ depth y
-unfolding depth
-objective-deep (ObjectiveItem.bare _ _) (ObjectiveItem.bare _ _) = refl
-objective-deep (ObjectiveItem.valued _ _) (ObjectiveItem.valued _ _) = refl
-
--- a pair's
-pair-deep : {x y : Item} {p : Pair Value} → PairItem x p → PairItem y p → depth x ≡ depth y
-unfolding depth
-pair-deep (PairItem.untagged o) (PairItem.untagged o′) = rw (objective-deep o o′)
-pair-deep (PairItem.tagged o l) (PairItem.tagged o′ l′) = rw (objective-deep o o′, locator-deep l, locator-deep l′)
-
--- those of all
-pairs-deep : {xs ys : Items} {ps : List (Pair Value)} → PairItems xs ps → PairItems ys ps → depths xs ≡ depths ys
-unfolding depth
-pairs-deep PairItems.empty PairItems.empty = refl
-pairs-deep (PairItems.more i is) (PairItems.more j js) = rw (pair-deep i j, pairs-deep is js)
 
 module _ (s : List ℕ) where
   -- a list of locators

@@ -14,8 +14,9 @@ use Rattle.options.specs.declared.objective.Objective.{Objective}
 use Rattle.options.specs.Text.{spanOf, held}
 use Rattle.rfc8990.specs.Message.{Obj, valuedObj}
 use Rattle.rfc8990.specs.Cddl.{Value}
-use Rattle.message_laws.specs.Stands.{Stands, ValueIs, ObjectiveIs}
-use Rattle.message_laws.proofs.Bridge.{text-token, stands-within}
+use Rattle.message_laws.specs.Stands.{Stands, Before, ValueIs, ObjectiveIs}
+use Rattle.message_laws.proofs.Bridge.{stands-within}
+use Rattle.message_laws.proofs.Held.{string-holds}
 use Rattle.description.specs.Meaning.{objectiveRowOf, objOf}
 use Rattle.forms.specs.Describe.{givenOf}
 use Rattle.writer_laws.proofs.Once.{objective-ext}
@@ -29,12 +30,8 @@ pub record Cuts (s : List ℕ) (span : Span) (bs : List ℕ) : Type 0 where
 
 -- the content of a string that stands before e
 pub string-cuts : {s : List ℕ} {p e w : ℕ} {t : Bool} {bs : List ℕ} {span : Span} → Stands s p e (Item.string t w bs)
-    → span ≡ spanOf (e - length bs) (length bs) → Cuts s span bs
-string-cuts {s} {e = e} {bs = bs} {span} a q =
-    let string = text-token a in
-    let place : e - length bs ≡ string .body = omega (arith, string .end) in
-    subst (λ (i : Span). Cuts s i bs) (sym q)
-    (record { inside = inr (omega (arith, string .end, stands-within a)); is = ap (λ (k : ℕ). take (length bs) (drop k s)) place ∙ string .content })
+    → Before e bs span → Cuts s span bs
+string-cuts a q = let h = string-holds a q in record { inside = inr (h .within); is = h .is }
 
 -- an item, or none
 pub value-cuts : {s : List ℕ} {span : Span} {v : Value} → ValueIs s span v → Cuts s span (valueBytes v)
