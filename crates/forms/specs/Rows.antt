@@ -94,6 +94,12 @@ rowsIn (M.Synch session o) = Rows.Nothing
 rowsIn (M.Flood session initiator ttl first pairs) = Rows.Pairs pairs
 rowsIn (M.Invalid session item) = Rows.Nothing
 
+-- how many numbers so many rows are: five to a locator, twelve to a pair
+unfoldable pub numbersIn : Rows → ℕ
+numbersIn Rows.Nothing = 0
+numbersIn (Rows.Locators series) = locatorRow * series .many
+numbersIn (Rows.Pairs series) = pairRow * series .many
+
 -- how many numbers so many rows are, or one more than the list has
 unfoldable pub endBy : List ℕ → Rows → ℕ
 endBy list Rows.Nothing = 0
