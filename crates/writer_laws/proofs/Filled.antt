@@ -49,14 +49,14 @@ pub data Chain {X : Type 0} (size : ℕ) (next : ℕ → ℕ) (row : ℕ → ℕ
 
 module _ {X : Type 0} {size : ℕ} {next : ℕ → ℕ} {row : ℕ → ℕ → List ℕ → List ℕ} {Told : List ℕ → X → Type 0} where
   -- all rows have so many numbers
-  joined-length : {at : ℕ} {rows : List (List ℕ)} {xs : List X} → Chain size next row Told at rows xs → length (joined rows) ≡ size * length rows
+  pub joined-length : {at : ℕ} {rows : List (List ℕ)} {xs : List X} → Chain size next row Told at rows xs → length (joined rows) ≡ size * length rows
   unfolding joined
   joined-length Chain.end = sym (mul-zero size)
   joined-length (Chain.step {ns = ns} {rows = rows} len stored told goes more) =
       length-append ns (joined rows) ∙ omega (arith, joined-length more, len, mul-suc size (length rows))
 
   -- as many as there are elements
-  rows-many : {at : ℕ} {rows : List (List ℕ)} {xs : List X} → Chain size next row Told at rows xs → length rows ≡ length xs
+  pub rows-many : {at : ℕ} {rows : List (List ℕ)} {xs : List X} → Chain size next row Told at rows xs → length rows ≡ length xs
   rows-many Chain.end = refl
   rows-many (Chain.step len stored told goes more) = ap suc (rows-many more)
 

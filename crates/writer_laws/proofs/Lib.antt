@@ -10,10 +10,13 @@ pub mod Leaves
 pub mod Again
 pub mod Room
 -- For callers' proofs: items that are messages, encoded; where a message's items stand; messages that are encoded alike
--- are the same.
+-- are the same; rows filled one after the other, and those of locators and of pairs.
 pub mod Encodes
 pub mod Places
 pub mod Once
+pub mod Filled
+pub mod Locators
+pub mod Pairs
 -- For the proofs of this crate: pairs read at another place, a count's head replaced in a part and in a message, where
 -- the count stands; what the judge passes.
 mod Moved
@@ -24,9 +27,6 @@ mod Script
 mod Within
 mod Judged
 mod Drafts
--- Rows filled one after the other; spans of what stands in a message; the rows of locators and of pairs; the kinds.
-mod Filled
+-- Spans of what stands in a message; the kinds.
 mod Spans
-mod Locators
-mod Pairs
 mod ByKind

@@ -28,7 +28,7 @@ use Rattle.writer_laws.proofs.Spans.{string-cuts}
 
 -- ---- a row
 -- a locator's numbers are so many
-locator-five : (l : Locator) → length (locatorNumbers l) ≡ locatorRow
+pub locator-five : (l : Locator) → length (locatorNumbers l) ≡ locatorRow
 unfolding locatorNumbers
 locator-five (L.V6 at protocol port) = refl
 locator-five (L.V4 at protocol port) = refl

@@ -48,7 +48,7 @@ tag-five (Tag.At (L.Domain name protocol port)) = refl
 tag-five (Tag.At (L.Uri uri protocol port)) = refl
 
 -- a pair's row has so many numbers
-pair-twelve : (o : Objective) (tag : Tag) → length (R.pairCells o tag) ≡ pairRow
+pub pair-twelve : (o : Objective) (tag : Tag) → length (R.pairCells o tag) ≡ pairRow
 unfolding R.pairCells pairNumbers
 pair-twelve o tag = refl
 
