@@ -1,4 +1,5 @@
--- What an answer that describes a message holds: the bytes at its spans are the message's contents.
+-- What an answer that describes a message holds: the bytes at its spans are the message's contents. For readers: each
+-- statement at the end stands alone.
 -- Assumes nothing.
 use mathlib.Core.Path.{_≡_, sym, ap, _∙_, subst}
 use mathlib.Core.Bool.{Bool}
@@ -8,16 +9,21 @@ use Prim.Native.Nat.{ℕ, _+_, _-_, _≤_}
 use native.Mathlib.Omega.{arith}
 use lib.ListN.{length, take, drop}
 use lib.Seq.{take-at}
+use Rattle.base.specs.BigEndian.{Bytes}
 use Rattle.cbor.specs.Item.{leftUnder}
 use Rattle.cbor.specs.Tree.{Item, Items, encode, depth, depths}
 use Rattle.options.specs.declared.Span.{Span}
 use Rattle.options.specs.declared.Outcome.{Outcome}
 use Rattle.options.specs.declared.locator.Locator.{Locator}
 use Rattle.options.specs.declared.objective.Objective.{Objective}
+use Rattle.options.specs.declared.locator.LocatorRead.{LocatorRead}
 use Rattle.options.specs.declared.pair.Tag.{Tag}
+use Rattle.options.specs.declared.pair.PairRead.{PairRead}
+use Rattle.options.specs.Locator.{locatorAt}
+use Rattle.options.specs.Pair.{pairAt}
 use Rattle.options.specs.Text.{spanOf, held}
 use Rattle.rfc8990.specs.Message.{Loc, Obj, Pair, Tgts, Outc, Msg}
-use Rattle.rfc8990.specs.Cddl.{LocatorItems, PairItems, OutcItem, MessageItem, Value}
+use Rattle.rfc8990.specs.Cddl.{LocatorItem, LocatorItems, PairItem, PairItems, OutcItem, MessageItem, Value}
 use Rattle.rfc8990.specs.Accepted.{IsMessage}
 use Rattle.message.specs.declared.Series.{Series}
 use Rattle.message.specs.declared.Targets.{Targets}
@@ -28,8 +34,8 @@ use Rattle.message_laws.specs.Describes.{InitiatorIs, SeriesIs, TargetsI
 use Rattle.message_laws.specs.Holds.{SpanHolds, ValueHolds, LocatorHolds, ObjectiveHolds, TagHolds, PairHolds}
 use Rattle.message_laws.specs.Holds.{InTurn, LocatorReads, PairReads, SeriesHolds, TargetsHold, ExtraHolds, OutcomeHolds, MessageHolds}
 use Rattle.message_laws.proofs.Bridge.{split, only, stands-within, text-token, array-token}
-use Rattle.message_laws.proofs.Locator.{locator-read}
-use Rattle.message_laws.proofs.Pair.{pair-read}
+use Rattle.message_laws.proofs.Locator.{locator-sound, locator-read}
+use Rattle.message_laws.proofs.Pair.{pair-sound, pair-read}
 use Rattle.message_laws.proofs.Levels.{pairs-deep}
 use Rattle.message_laws.proofs.Described.{locators-count, pairs-count}
 use Rattle.message_laws.proofs.Whole.{stands}
@@ -186,3 +192,17 @@ kind-holds (Describes.invalid k n v end) i d st = MessageHolds.invalid (value-ho
 -- An answer that describes the message of the bytes holds its contents.
 pub described-holds : {s : List ℕ} {m : Message} (i : IsMessage s) → Describes s m (i .msg) → MessageHolds s m (i .msg)
 described-holds i d = kind-holds d (i .is) (i .one .shallow) (stands (i .one))
+
+-- A locator that is read at a place of any bytes is an item that stands there, and holds that locator's address or text.
+pub locator-read-holds : (s : List ℕ) (at : ℕ) {l : Locator} {size bad : ℕ} → Bytes s → locatorAt s at ≡ LocatorRead.Got l size bad
+    → (x : Item) × (loc : Loc) × SpanHolds s (spanOf at size) (encode x) × LocatorItem x loc × LocatorHolds s l loc
+locator-read-holds s at {l} {size} {bad} b q =
+    let i = locator-sound s at l size bad b q in
+    (i .item, i .loc, item-holds (i .stands), i .is, locator-holds (i .described))
+
+-- And so is a pair, with its objective's name and value, and with its locator if it has one.
+pub pair-read-holds : (s : List ℕ) (at : ℕ) {o : Objective} {t : Tag} {size bad long : ℕ} → Bytes s → pairAt s at ≡ PairRead.Got o t size bad long
+    → (x : Item) × (pair : Pair Value) × SpanHolds s (spanOf at size) (encode x) × PairItem x pair × PairHolds s o t pair
+pair-read-holds s at {o} {t} {size} {bad} {long} b q =
+    let i = pair-sound s at o t size bad long b q in
+    (i .item, i .pair, item-holds (i .stands), i .is, pair-holds (i .described))
