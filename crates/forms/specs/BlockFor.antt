@@ -11,10 +11,12 @@ use Rattle.base.specs.Pick.{pick}
 use Rattle.options.specs.declared.Span.{Span}
 use Rattle.options.specs.declared.Outcome.{Outcome}
 use Rattle.options.specs.Text.{spanOf}
+use Rattle.message.specs.declared.Extra.{Extra}
 use Rattle.description.specs.declared.GivenObjective.{GivenObjective}
 use Rattle.description.specs.declared.GivenExtra.{GivenExtra}
 use Rattle.description.specs.declared.Description.{Description}
 use Rattle.description.specs.declared.Description.the-variants as D
+use Rattle.forms.specs.declared.rows.Rows.{Rows}
 
 -- ---- the places, from 0 to 18
 -- 0 to 4: kind, session, place and length of the initiator, ttl or waiting time
@@ -113,3 +115,15 @@ unplaced f = set (set f 10 0) 14 0
 -- and of a Flood (9), whose objectives stand in the rows, without its first objective (5 to 12)
 unfoldable pub cleared : List ℕ → List ℕ
 cleared f = pick (eqb (getD f 0 0) 9) (sets (unplaced f) 5 (replicate 8 0)) (unplaced f)
+
+-- 5 to 12, as the reader fills them: the message's objective, with the place of its count's head
+abbrev pub objectiveRead : Extra → List ℕ
+objectiveRead Extra.Without = 0 ∷ 0 ∷ 0 ∷ 0 ∷ 0 ∷ 0 ∷ 0 ∷ 0 ∷ []
+objectiveRead (Extra.With o) =
+    1 ∷ o .name .at ∷ o .name .len ∷ o .flags ∷ o .count ∷ o .«count_at» ∷ o .value .at ∷ o .value .len ∷ []
+
+-- 14, as the reader fills it: where the first locator or pair stands
+abbrev pub firstAt : Rows → ℕ
+firstAt Rows.Nothing = 0
+firstAt (Rows.Locators series) = series .at
+firstAt (Rows.Pairs series) = series .at

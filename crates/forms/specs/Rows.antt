@@ -95,10 +95,10 @@ rowsIn (M.Flood session initiator ttl first pairs) = Rows.Pairs pairs
 rowsIn (M.Invalid session item) = Rows.Nothing
 
 -- how many numbers so many rows are: five to a locator, twelve to a pair
-unfoldable pub numbersIn : Rows → ℕ
-numbersIn Rows.Nothing = 0
-numbersIn (Rows.Locators series) = locatorRow * series .many
-numbersIn (Rows.Pairs series) = pairRow * series .many
+unfoldable pub rowNumbers : Rows → ℕ
+rowNumbers Rows.Nothing = 0
+rowNumbers (Rows.Locators series) = locatorRow * series .many
+rowNumbers (Rows.Pairs series) = pairRow * series .many
 
 -- how many numbers so many rows are, or one more than the list has
 unfoldable pub endBy : List ℕ → Rows → ℕ

@@ -209,8 +209,8 @@ module _ (s : List ℕ) where
 
   -- so what a host gathers by a block that tells of the list is what is lent
   gathered : (f list locator pair : List ℕ) (rows : Rows) → Listed f rows → RowsHold rows → R.endBy list rows ≤ length list
-      → (rowsGathered s f locator pair ≡ take (R.endBy list rows) (R.filledBy s list rows)) × (length (rowsGathered s f locator pair) ≡ R.numbersIn rows)
-  unfolding rowsGathered pick R.endBy R.filledBy R.numbersIn
+      → (rowsGathered s f locator pair ≡ take (R.endBy list rows) (R.filledBy s list rows)) × (length (rowsGathered s f locator pair) ≡ R.rowNumbers rows)
+  unfolding rowsGathered pick R.endBy R.filledBy R.rowNumbers
   gathered f list locator pair Rows.Nothing sort h room = rw (eq-eqb (getD f 13 0) 0 sort) (refl, refl)
   gathered f list locator pair (Rows.Locators series) (some, sort, at, many) (ls, h) room =
       rw (ne-eqb (getD f 13 0) 0 some, ne-eqb (getD f 13 0) 3 sort, at, many) (series-gathered (h .many) (locators-gathered (h .each)) list room locator)
@@ -247,7 +247,7 @@ read-block s fields m q = ap (λ (r : Reading). G.blockFrom r fields) q
 -- The block of a message that was read, with the reader's places cleared, is taken as that message's description, beside
 -- a list of its rows.
 pub read-taken : (s : List ℕ) (m : Message) → Bytes s → readOf s ≡ Reading.Read m
-    → describedBy (cleared (B.blockOf m)) (R.numbersIn (R.rowsIn m)) ≡ As (descriptionOf m)
+    → describedBy (cleared (B.blockOf m)) (R.rowNumbers (R.rowsIn m)) ≡ As (descriptionOf m)
 read-taken s m b q =
     let a = accepted-exactly s b .0 (m, q) in
     cleared-described m (message-fits (accepted-holds s m q a) (a .message .is))
