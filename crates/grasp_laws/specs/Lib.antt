@@ -1,0 +1,5 @@
+-- Demand 3 for C: `HostCalls`, a list of calls on one node; `HostSteps`, a list of negotiation steps; `HostDemand`, the
+-- demand as one statement.
+pub mod HostCalls
+pub mod HostSteps
+pub mod HostDemand
