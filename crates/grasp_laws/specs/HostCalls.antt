@@ -49,9 +49,11 @@ asNumbers address =
 
 -- ---- the list
 
--- what C calls, with all arguments but the record and the table; a node call has the answer's old numbers beside it
+-- what C calls, with all arguments but the record and the table
 pub data HostEvent : Type 0 where
+  -- a setting of links
   sets : ℕ → HostEvent
+  -- a node call on the kept table, with the answer's old numbers
   calls : Call → List ℕ → HostEvent
   -- a node call that is lent other bytes in the table's place
   strays : List ℕ → Call → List ℕ → HostEvent
