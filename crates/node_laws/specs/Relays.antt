@@ -113,7 +113,7 @@ pub record Few (interfaces : ℕ) (chosen : List Seen) : Type 0 where
   pub relays : length chosen ≤ 64
   pub copies : copiesOf chosen ≤ 64 * (interfaces - 1)
 
--- of how many interfaces a node has, the relays of a list in their order, and what its record has tallied after the list
+-- of how many interfaces a node has, the relays of a list in their order, and what is tallied after the list
 pub record Demanded (interfaces : ℕ) (relays : List Seen) (total : ℕ) : Type 0 where
   pub apart : EachPair Apart relays
   pub each : Every (GoesOut interfaces) relays
