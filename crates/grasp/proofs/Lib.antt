@@ -1,5 +1,3 @@
--- For readers: `HandedBack`, what a call hands back is what the next call takes.
-pub mod HandedBack
 -- `Calls`: the node call over a record of numbers. `InPlace`: what the proofs by hand of the functions that change a
 -- record in place share.
 mod Calls

@@ -1,7 +1,8 @@
 // The node call, for C.
 ghost use mathlib.Core.Path.{_≡_};
 ghost use Rattle.node.specs.Call.{callOf};
-ghost use Rattle.grasp.specs.Call.{hostOf, hostCall};
+ghost use Rattle.host.specs.Call.{leftOf};
+ghost use Rattle.grasp.specs.Call.{hostCall};
 use host::call;
 use host::records;
 
@@ -20,7 +21,7 @@ pub extern "C" fn grasp_node_call(
     out: &mut [u8],
     answer: &mut [u64; 4],
 ) -> u8
-    ensures { λ r. ⌜ hostOf r (now (numbers .exit)) (now (bytes .exit)) (now (out .exit)) (now (answer .exit))
+    ensures { λ r. ⌜ leftOf r (now (numbers .exit)) (now (bytes .exit)) (now (out .exit)) (now (answer .exit))
         ≡ hostCall (now (address .entry)) (now (numbers .entry)) (now (bytes .entry))
         (callOf clock interface (now (names .entry)) (now (message .entry)) (now (out .entry)))
         (now (answer .entry)) ⌝ }

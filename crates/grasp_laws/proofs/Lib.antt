@@ -1,2 +1,8 @@
--- For readers: what was read in C and is written in C.
+-- For readers: `InC`, demand 3 for what C keeps and sees; `NotOurs`, a negotiation step on numbers that are no state, or
+-- by no side; `Again`, what was read in C and is written in C.
+pub mod InC
+pub mod NotOurs
 pub mod Again
+-- For their proofs: what C keeps and sees of a list of calls, and of a list of steps, held against the node's lists.
+mod Keeping
+mod Stepping

@@ -2,13 +2,12 @@
 -- Assumes nothing.
 use Prim.Native.Nat.{ℕ, zero, suc, _+_, _*_, _^_, _<_}
 use mathlib.Core.Path.{_≡_, refl, _∙_}
-use mathlib.Core.Bool.{Bool, true, false, true≢false}
+use mathlib.Core.Bool.{Bool, true, false}
 use mathlib.Core.List.{List, [], _∷_}
 use native.Mathlib.Omega.{arith}
 use lib.Count.{ones}
-use lib.Dec.{leb}
 use lib.ListN.{length, getD, set, drop, length-set}
-use borrow.Author.Tests.{leb-false, ltb-false}
+use borrow.Author.Tests.{ltb-false}
 use Rattle.base.specs.BigEndian.{Bytes, bigEndian}
 use Rattle.base.specs.Lists.{Every}
 use Rattle.base.proofs.Picks.{pick-case, both}
@@ -20,7 +19,7 @@ use Rattle.reader.specs.Read.{readOf}
 use Rattle.node_state.specs.declared.Record.{Record}
 use Rattle.node_state.specs.declared.RecordAnswer.{RecordAnswer}
 use Rattle.node_state.specs.declared.key.Key.{Key}
-use Rattle.node_state.specs.Record.{linksBad, recordBad, blank, clocked, tallied, others}
+use Rattle.node_state.specs.Record.{blank, clocked, tallied, others}
 use Rattle.node_state.specs.Table.{tableNumbers, putRow, freeRows, freed, lowestFree}
 use Rattle.node_state.specs.Key.{noKey, keyOf}
 use Rattle.node_state.proofs.Keys.{tag-range}
@@ -30,7 +29,6 @@ use Rattle.node.specs.declared.role.Spread.{Spread}
 use Rattle.node.specs.declared.role.Role.{Role}
 use Rattle.node.specs.Role.{roleOf, RoleIn, keyIn}
 use Rattle.node.specs.Call.{Call, After, refuse, quiet, verdictOn, answered, relayed, carriedOut, taken, received, nodeCall}
-use Rattle.host.specs.Records.{nodeOf}
 use Rattle.host.specs.Table.{numbersIn, loaded}
 use Rattle.host.specs.States.{stateOf}
 use Rattle.host.specs.Widths.{RecordFits, TableFits, StateFits}
@@ -144,46 +142,13 @@ pub counted-fits : {r : Record} (clock tally : ℕ) → RecordFits r
     → RecordFits (record { address = r .address; port = r .port; ttl = r .ttl; interfaces = r .interfaces; links = r .links; clock = clock; tally = tally })
 counted-fits clock tally f = record { port = f .port; ttl = f .ttl; interfaces = f .interfaces; links = f .links }
 
-pub node-fits : (address f : List ℕ) → RecordFits (nodeOf address f)
-unfolding nodeOf
-node-fits address f =
-    pick-case RecordFits _ (λ _. blank-fits)
-    (λ port. pick-case RecordFits _ (λ _. blank-fits)
-    (λ ttl. pick-case RecordFits _ (λ _. blank-fits)
-    (λ interfaces. pick-case RecordFits (leb (2 ^ 8) (getD f 3 0)) {y = said} (λ _. blank-fits)
-    (λ links. record { port = leb-false _ _ port; ttl = leb-false _ _ ttl; interfaces = leb-false _ _ interfaces; links = leb-false _ _ links }))))
-  where
-    said : Record
-    said =
-        record {
-          address = address;
-          port = getD f 0 0;
-          ttl = getD f 1 0;
-          interfaces = getD f 2 0;
-          links = getD f 3 0;
-          clock = getD f 4 0;
-          tally = getD f 5 0;
-        }
-
--- a record that isn't refused has the address that it was given
-pub node-address : (address f : List ℕ) → recordBad (nodeOf address f) ≡ false → nodeOf address f .address ≡ address
-unfolding nodeOf recordBad linksBad
-node-address address f = both Addressed _ none (both Addressed _ none (both Addressed _ none (both Addressed _ none (λ _. refl))))
-  where
-    Addressed : Record → Type 0
-    Addressed r = recordBad r ≡ false → r .address ≡ address
-
-    none : Addressed blank
-    none e = absurd (true≢false e)
-
-pub state-fits : (f : List ℕ) (side : ℕ) → StateFits (stateOf f side)
+pub state-fits : (f : List ℕ) → StateFits (stateOf f)
 unfolding stateOf
-state-fits f side =
-    both StateFits _ tt
-    (pick-case StateFits _ (λ _. tt)
+state-fits f =
+    pick-case StateFits _ (λ _. tt)
     (λ session. pick-case StateFits _ (λ _. tt)
     (λ count. both StateFits _ tt (both StateFits _ tt
-    (both StateFits _ (omega (arith, ltb-false mostNumber (getD f 1 0) session), omega (arith, ltb-false 255 (getD f 2 0) count)) tt)))))
+    (both StateFits _ (omega (arith, ltb-false mostNumber (getD f 1 0) session), omega (arith, ltb-false 255 (getD f 2 0) count)) tt))))
 
 numbers-wide : (n : ℕ) (b : List ℕ) → Bytes b → Wide (numbersIn n b)
 unfolding numbersIn

@@ -1,18 +1,18 @@
 -- What a call hands back to C is what the next call takes: no number is lost between them. For readers: each statement
 -- at the end stands alone.
 -- Assumes nothing.
-use Prim.Native.Nat.{ℕ, _^_, _≤_, _<_}
-use mathlib.Core.Path.{_≡_, refl, sym, ap, _∙_, subst}
-use mathlib.Core.List.{List}
+use Prim.Native.Nat.{ℕ, _*_, _^_, _≤_, _<_}
+use mathlib.Core.Path.{_≡_, refl, sym, ap, _∙_}
+use mathlib.Core.List.{List, [], _∷_}
 use native.Mathlib.Nat.{le-trans}
 use native.Mathlib.Omega.{arith}
 use lib.Pow.{pow-mono}
-use lib.Dec.{leb, eqb}
+use lib.Dec.{leb, eqb, lit≤}
 use lib.ListN.{length, drop}
-use borrow.Author.Tests.{lt-leb, le-ltb, leb-false, eqb-true, eqb-false}
+use borrow.Author.Tests.{lt-leb, le-ltb, leb-false, ne-eqb, eqb-true, eqb-false}
 use Rattle.base.specs.Pick.{pick}
 use Rattle.base.specs.BigEndian.{Bytes}
-use Rattle.base.proofs.Picks.{pick-case}
+use Rattle.base.proofs.Picks.{pick-case, both}
 use Rattle.base.proofs.Parts.{bytes-drop, bytes-take}
 use Rattle.options.specs.Text.{held}
 use Rattle.message.specs.Opening.{mostNumber}
@@ -29,23 +29,24 @@ use Rattle.negotiation.specs.Allowed.{Allowed}
 use Rattle.negotiation.proofs.Accepted.{moved-exactly, session-most, count-most}
 use Rattle.node_state.specs.declared.Record.{Record}
 use Rattle.node_state.specs.declared.RecordAnswer.{RecordAnswer}
-use Rattle.node_state.specs.Record.{linksBad, recordBad, keeps, fresh, linked, setLinks, clocked, tallied}
-use Rattle.node_state.specs.Table.{freed}
+use Rattle.node_state.specs.Record.{linksBad, recordBad, fresh, linked, setLinks, clocked, tallied}
+use Rattle.node_state.specs.Table.{tableBad, freed}
+use Rattle.node_state.proofs.TableRows.{table-sized}
 use Rattle.node_state.proofs.Masks.{links-fit, fit-small, record-links}
 use Rattle.node.specs.declared.Reply.{Reply}
 use Rattle.node.specs.declared.Reply.the-variants.{Refused, Given}
 use Rattle.node.specs.declared.CallAnswer.{CallAnswer}
 use Rattle.node.specs.Role.{keyIn}
-use Rattle.node.specs.Call.{Call, After, nodeCall}
+use Rattle.node.specs.Call.{Call, After, barred, bar, refuse, nodeCall}
 use Rattle.node.proofs.Spreads.{role-spreading}
 use Rattle.host.specs.Records.{nodeOf, nodeNumbers, numbersAfter}
-use Rattle.host.specs.Table.{tableBytes, loaded}
+use Rattle.host.specs.Table.{tableBytes, saved}
 use Rattle.host.specs.States.{sideOf, stateOf, stateNumbers}
-use Rattle.host.specs.Call.{answerFrom, replyNumbers, Left, callLeft}
+use Rattle.host.specs.Call.{answerFrom, replyNumbers, tableIn, Left, leftOf, callLeft}
 use Rattle.host.specs.Widths.{RecordFits, TableFits, StateFits}
-use Rattle.host.proofs.Numbers.{saved-loads}
-use Rattle.host.proofs.Calls.{call-still, call-passed, table-in}
-use Rattle.host.proofs.Fits.{put-fits, free-fits, key-fits, call-leaves, blank-fits, KeptFits, counted-fits, node-fits, node-address, loaded-fits}
+use Rattle.host.proofs.Numbers.{length-saved, saved-loads}
+use Rattle.host.proofs.Calls.{call-still, table-in}
+use Rattle.host.proofs.Fits.{put-fits, free-fits, key-fits, call-leaves, blank-fits, KeptFits, counted-fits}
 
 -- the record of an answer
 answer-node : (b : CallAnswer) → answerFrom b .node ≡ b .node
@@ -55,6 +56,22 @@ answer-node b = go (b .reply) (b .node)
     go : (x : Reply) (r : Record) → replyNumbers x r .node ≡ r
     go (Refused number) r = refl
     go (Given v up mask len) r = refl
+
+-- bytes that were saved hold their table
+pub saved-in : (t : List ℕ) → TableFits t → tableIn (saved t) ≡ t
+saved-in t fits = table-in (saved t) (length-saved t ∙ ap (λ (n : ℕ). 8 * n) (fits .sized)) ∙ saved-loads t fits
+
+-- a list that is no table bars a call, by 12 to 15
+other-barred : (r : Record) (c : Call) → (12 ≤ bar r (0 ∷ []) c) × (bar r (0 ∷ []) c ≤ 15)
+unfolding barred
+other-barred r c =
+    both Bars _ (lit≤ tt, lit≤ tt)
+    (both Bars _ (lit≤ tt, lit≤ tt)
+    (both Bars _ (lit≤ tt, lit≤ tt)
+    (pick-case Bars (tableBad (c .clock) (0 ∷ [])) (λ _. (lit≤ tt, lit≤ tt)) (λ good. absurd (omega (arith, table-sized (c .clock) (0 ∷ []) good))))))
+  where
+    Bars : ℕ → Type 0
+    Bars n = (12 ≤ n) × (n ≤ 15)
 
 -- a node call leaves the address
 call-address : (r : Record) (t : List ℕ) (c : Call) → nodeCall r t c .called .node .address ≡ r .address
@@ -74,14 +91,13 @@ record-back r f =
       lt-leb (2 ^ 8) (r .links) (f .links),
     ) refl
 
--- A state's numbers say that state, for a step by either side.
-pub state-back : (s : State) (side : ℕ) → side ≤ 1 → StateFits s → stateOf (stateNumbers s) side ≡ s
+-- A state's numbers say that state.
+pub state-back : (s : State) → StateFits s → stateOf (stateNumbers s) ≡ s
 unfolding stateOf stateNumbers sideOf pick
-state-back Fresh side l f = rw (le-ltb 1 side l) refl
-state-back (Open session count Us) side l f = rw (le-ltb 1 side l, le-ltb mostNumber session (omega (arith, f .0)), le-ltb 255 count (omega (arith, f .1))) refl
-state-back (Open session count Them) side l f =
-    rw (le-ltb 1 side l, le-ltb mostNumber session (omega (arith, f .0)), le-ltb 255 count (omega (arith, f .1))) refl
-state-back Closed side l f = rw (le-ltb 1 side l) refl
+state-back Fresh f = refl
+state-back (Open session count Us) f = rw (le-ltb mostNumber session (omega (arith, f .0)), le-ltb 255 count (omega (arith, f .1))) refl
+state-back (Open session count Them) f = rw (le-ltb mostNumber session (omega (arith, f .0)), le-ltb 255 count (omega (arith, f .1))) refl
+state-back Closed f = refl
 
 -- The record that a fresh one, a setting of links and a node call give fits.
 pub fresh-record-fits : (address : List ℕ) (port ttl interfaces mask : ℕ) → port < 2 ^ 16 → ttl < 2 ^ 32
@@ -128,54 +144,53 @@ step-fits s message sender next fits moved = let (m, read, allowed) = moved-exac
     go read (Allowed.wait n some) f = f
     go read (Allowed.end n some) f = tt
 
--- The numbers that are put are those of the record that is kept.
-pub kept-back : (address f : List ℕ) (k : RecordAnswer) → (k .refusal ≡ 0 → RecordFits (k .node) × (k .node .address ≡ address))
-    → ((k .refusal ≡ 0 → ⊥) → k .node ≡ nodeOf address f)
-    → nodeOf address (numbersAfter k f) ≡ k .node
+-- A record's numbers with an answer put over them are those of the answer's record.
+pub put-back : (r : Record) (k : RecordAnswer) → ((k .refusal ≡ 0 → ⊥) → k .node ≡ r) → numbersAfter k (nodeNumbers r) ≡ nodeNumbers (k .node)
 unfolding numbersAfter
-kept-back address f k given refused =
-    pick-case (λ (l : List ℕ). nodeOf address l ≡ k .node) (eqb (k .refusal) 0)
-    (λ e. let (fits, same) = given (eqb-true (k .refusal) 0 e) in rw (← same) (record-back (k .node) fits)) (λ e. sym (refused (eqb-false (k .refusal) 0 e)))
+put-back r k refused =
+    pick-case (λ (l : List ℕ). l ≡ nodeNumbers (k .node)) (eqb (k .refusal) 0) (λ _. refl) (λ e. sym (ap nodeNumbers (refused (eqb-false (k .refusal) 0 e))))
 
--- A node call leaves what the node call on the table that its bytes hold leaves: the number of the refusal and the
--- record.
-pub left-back : (r : Record) (bytes : List ℕ) (c : Call) (answer : List ℕ) → length bytes ≡ tableBytes
-    → (callLeft r bytes c answer .refusal ≡ answerFrom (nodeCall r (loaded bytes) c .called) .refusal)
-    × (callLeft r bytes c answer .node ≡ nodeCall r (loaded bytes) c .called .node)
+-- A node call on the bytes of a table leaves what the node call on the table leaves: the number of the refusal, the
+-- record, and the table's bytes.
+pub left-back : (r : Record) (t : List ℕ) (c : Call) (answer : List ℕ) → TableFits t
+    → (callLeft r (saved t) c answer .refusal ≡ answerFrom (nodeCall r t c .called) .refusal)
+    × (callLeft r (saved t) c answer .node ≡ nodeCall r t c .called .node)
+    × (callLeft r (saved t) c answer .table ≡ saved (nodeCall r t c .table))
 unfolding callLeft
-left-back r bytes c answer sized =
-    rw (table-in bytes sized)
-    (pick-case (λ (k : Left). (k .refusal ≡ answerFrom (n .called) .refusal) × (k .node ≡ n .called .node)) (eqb (answerFrom (n .called) .refusal) 0)
-    (λ e. (sym (eqb-true (answerFrom (n .called) .refusal) 0 e), answer-node (n .called)))
-    (λ e. (refl, sym (call-still r (loaded bytes) c (eqb-false (answerFrom (n .called) .refusal) 0 e) .0))))
+left-back r t c answer fits =
+    rw (saved-in t fits)
+    (pick-case (λ (k : Left Record). (k .refusal ≡ answerFrom (n .called) .refusal) × (k .node ≡ n .called .node) × (k .table ≡ saved (n .table)))
+    (eqb (answerFrom (n .called) .refusal) 0)
+    (λ e. (sym (eqb-true (answerFrom (n .called) .refusal) 0 e), answer-node (n .called), refl))
+    (λ e. let still = call-still r t c (eqb-false (answerFrom (n .called) .refusal) 0 e) in (refl, sym (still .0), ap saved (sym (still .1)))))
   where
     n : After
-    n = nodeCall r (loaded bytes) c
+    n = nodeCall r t c
 
--- The bytes that it leaves hold the table that the node call leaves.
-pub table-back : (r : Record) (bytes : List ℕ) (c : Call) (answer : List ℕ) → length bytes ≡ tableBytes → Bytes bytes → c .clock < 2 ^ 64 → Bytes (c .message)
-    → loaded (callLeft r bytes c answer .table) ≡ nodeCall r (loaded bytes) c .table
+-- A node call that is refused leaves the record, whatever bytes it is lent for the table.
+pub left-still : (r : Record) (bytes : List ℕ) (c : Call) (answer : List ℕ) → (callLeft r bytes c answer .refusal ≡ 0 → ⊥)
+    → callLeft r bytes c answer .node ≡ r
 unfolding callLeft
-table-back r bytes c answer sized are clock message =
-    rw (table-in bytes sized)
-    (pick-case (λ (k : Left). loaded (k .table) ≡ n .table) (eqb (answerFrom (n .called) .refusal) 0)
-    (λ e. saved-loads (n .table) (call-table-fits r (loaded bytes) c clock message (loaded-fits bytes are)))
-    (λ e. sym (call-still r (loaded bytes) c (eqb-false (answerFrom (n .called) .refusal) 0 e) .1)))
-  where
-    n : After
-    n = nodeCall r (loaded bytes) c
+left-still r bytes c answer = both (λ (k : Left Record). (k .refusal ≡ 0 → ⊥) → k .node ≡ r) _ (λ ne. absurd (ne refl)) (λ _. refl)
 
--- Where the record is kept as numbers, the numbers that a node call leaves say the record that the node call leaves.
-pub numbers-back : (address f bytes : List ℕ) (c : Call) (answer : List ℕ) → length bytes ≡ tableBytes
-    → nodeOf address (numbersAfter (keeps (callLeft (nodeOf address f) bytes c answer .refusal) (callLeft (nodeOf address f) bytes c answer .node)) f)
-    ≡ nodeCall (nodeOf address f) (loaded bytes) c .called .node
-numbers-back address f bytes c answer sized =
-    let r = nodeOf address f in
-    let t = loaded bytes in
-    let (number, same) = left-back r bytes c answer sized in
-    kept-back address f (keeps (callLeft r bytes c answer .refusal) (callLeft r bytes c answer .node))
-    (λ e. (
-      subst RecordFits (sym same) (call-record-fits r t c (node-fits address f)),
-      ap (λ (x : Record). x .address) same ∙ call-address r t c ∙ node-address address f (call-passed r t c (sym number ∙ e) .good),
-    ))
-    (λ ne. same ∙ call-still r t c (λ e. ne (number ∙ e)) .0) ∙ same
+-- The record that a node call leaves fits where the one before it did, and has its address.
+pub left-fits : (r : Record) (bytes : List ℕ) (c : Call) (answer : List ℕ) → RecordFits r
+    → RecordFits (callLeft r bytes c answer .node) × (callLeft r bytes c answer .node .address ≡ r .address)
+unfolding callLeft
+left-fits r bytes c answer fits =
+    let n = nodeCall r (tableIn bytes) c in
+    both (λ (k : Left Record). RecordFits (k .node) × (k .node .address ≡ r .address)) _
+    (rw (answer-node (n .called)) (call-record-fits r (tableIn bytes) c fits, call-address r (tableIn bytes) c)) (fits, refl)
+
+-- A node call that is lent bytes of another length for the table is refused, by 12 to 15, and leaves all as it was.
+pub other-back : (r : Record) (bytes : List ℕ) (c : Call) (answer : List ℕ) → (length bytes ≡ tableBytes → ⊥)
+    → (number : ℕ) × (12 ≤ number) × (number ≤ 15) × (callLeft r bytes c answer ≡ leftOf number r bytes (c .output) answer)
+unfolding callLeft tableIn pick nodeCall answerFrom replyNumbers refuse
+other-back r bytes c answer other =
+    let (least, most) = other-barred r c in
+    let some : bar r (0 ∷ []) c ≡ 0 → ⊥ = λ e. omega arith in (
+      bar r (0 ∷ []) c,
+      least,
+      most,
+      rw (ne-eqb (length bytes) tableBytes other, ne-eqb (bar r (0 ∷ []) c) 0 some, ne-eqb (bar r (0 ∷ []) c) 0 some) refl,
+    )

@@ -65,7 +65,7 @@ sets-out : (l : List ℕ) (i : ℕ) (vs : List ℕ) → length l ≤ i → sets 
 sets-out l i [] h = refl
 sets-out l i (v ∷ vs) h = ap (λ (m : List ℕ). sets m (suc i) vs) (set-out l i v h) ∙ sets-out l (suc i) vs (omega arith)
 
-length-saved : (t : List ℕ) → length (saved t) ≡ 8 * length t
+pub length-saved : (t : List ℕ) → length (saved t) ≡ 8 * length t
 unfolding saved flatMap
 length-saved [] = refl
 length-saved (x ∷ t) = length-append (bytesOf 8 x) (saved t) ∙ omega (arith, length-bytes 8 x, length-saved t)

@@ -51,21 +51,22 @@ tableIn bytes = pick (eqb (length bytes) tableBytes) (loaded bytes) (0 ∷ [])
 unfoldable pub answerNumbers : A.CallNumbers → List ℕ
 answerNumbers a = a .verdict ∷ a .«handed_up» ∷ a .mask ∷ a .length ∷ []
 
--- what a call leaves: the number of the refusal, the record, the table, the output, and the answer
-pub record Left : Type 0 where
+-- what a call leaves: the number of the refusal, the record in a form that a host keeps it in, the table, the output,
+-- and the answer
+pub record Left (R : Type 0) : Type 0 where
   pub refusal : ℕ
-  pub node : Record
+  pub node : R
   pub table : List ℕ
   pub output : List ℕ
   pub answer : List ℕ
 
 -- what is left, part by part
-abbrev pub leftOf : ℕ → Record → List ℕ → List ℕ → List ℕ → Left
+abbrev pub leftOf : {R : Type 0} → ℕ → R → List ℕ → List ℕ → List ℕ → Left R
 leftOf refusal node table output answer =
     record { refusal = refusal; node = node; table = table; output = output; answer = answer }
 
 -- a refusal leaves all as it was
-unfoldable pub callLeft : Record → List ℕ → Call → List ℕ → Left
+unfoldable pub callLeft : Record → List ℕ → Call → List ℕ → Left Record
 callLeft r bytes c answer =
     let after = nodeCall r (tableIn bytes) c in
     let a = answerFrom (after .called) in

@@ -20,16 +20,15 @@ abbrev pub sideNumber : Side → ℕ
 sideNumber Us = 0
 sideNumber Them = 1
 
--- what the numbers say for a step by this side; a side, session, count, turn or phase that isn't one of ours closes the
--- state, so that every message is refused, by 20 where not by 1 to 11
-unfoldable pub stateOf : List ℕ → ℕ → State
-stateOf f side =
-    pick (ltb 1 side) Closed
-    (pick (ltb mostNumber (getD f 1 0)) Closed
+-- what the numbers say; a session, count, turn or phase that isn't one of ours closes the state, so that every message
+-- is refused, by 20 where not by 1 to 11
+unfoldable pub stateOf : List ℕ → State
+stateOf f =
+    pick (ltb mostNumber (getD f 1 0)) Closed
     (pick (ltb 255 (getD f 2 0)) Closed
     (pick (ltb 1 (getD f 3 0)) Closed
     (pick (eqb (getD f 0 0) 0) Fresh
-    (pick (eqb (getD f 0 0) 1) (Open (getD f 1 0) (getD f 2 0) (sideOf (getD f 3 0))) Closed)))))
+    (pick (eqb (getD f 0 0) 1) (Open (getD f 1 0) (getD f 2 0) (sideOf (getD f 3 0))) Closed))))
 
 -- a fresh state and a closed one have no other numbers than 0
 unfoldable pub stateNumbers : State → List ℕ

@@ -4,18 +4,15 @@ ghost use Rattle.host.specs.States.{sideOf, sideNumber, stateOf, stateNu
 use negotiation::Side;
 use negotiation::State;
 
-// What the numbers say for a step by this side. A number that isn't one of ours closes the state: a closed one refuses
-// every message, by the message's own number or by 20.
-pub fn state_of(numbers: &[u64; 4], side: u64) -> State
-    ensures { λ r. ⌜ r ≡ stateOf (now (numbers .entry)) side ⌝ }
+// What the numbers say. A number that isn't one of ours closes the state: a closed one refuses every message, by the
+// message's own number or by 20.
+pub fn state_of(numbers: &[u64; 4]) -> State
+    ensures { λ r. ⌜ r ≡ stateOf (now (numbers .entry)) ⌝ }
 {
     let phase = numbers[0];
     let session = numbers[1];
     let count = numbers[2];
     let turn = numbers[3];
-    if 1 < side {
-        return State::Closed;
-    }
     if 4_294_967_295 < session {
         return State::Closed;
     }

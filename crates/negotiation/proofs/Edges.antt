@@ -21,7 +21,7 @@ use Rattle.negotiation.specs.declared.Stepped.{Stepped}
 use Rattle.negotiation.specs.declared.Stepped.the-variants.{Refused, Moved}
 use Rattle.negotiation.specs.declared.Side.{Side}
 use Rattle.negotiation.specs.Step.{moveOf, freshStep, lowerStep, turnStep, stateStep, readingStep, step}
-use Rattle.negotiation.specs.Turns.{Sent, StepTaken, after, stepsOf, isKind, tookNegotiate, negotiated}
+use Rattle.negotiation.specs.Turns.{Sent, StepTaken, after, stepsOf, isMoved, acceptedOf, isKind, negotiated}
 
 -- session 7: kind 3 or 5 with the objective "EX1", flags 1 and a count; an End with accept; a Wait of 1,000 ms
 abbrev pub exchange : ℕ → ℕ → List ℕ
@@ -56,10 +56,10 @@ pub session :
     ≡ Refused 20 ∷ Refused 20 ∷ Moved (Open 7 3 Them) ∷ Refused 20 ∷ Refused 20 ∷ Moved (Open 7 2 Us)
     ∷ Refused 20 ∷ Refused 20 ∷ Moved (Open 7 1 Them) ∷ Moved (Open 7 1 Them) ∷ Refused 20 ∷ Refused 20 ∷ Moved Closed
     ∷ Refused 20 ∷ Refused 1 ∷ [])
-    × (negotiated (stepsOf Fresh messages) ≡ 2)
+    × (negotiated (acceptedOf (stepsOf Fresh messages)) ≡ 2)
     × (step (Open 7 0 Us) ending Us ≡ Refused 20)
 unfolding pick bigEndian widthOf leastOf initialOf argOf judged headFrom headBy headOf headAt opens stepOf stepFrom stepAt itemsOf next run enough firstItem
     nothingAt tokenOf tokenFrom tokenAt itemsIn upTo tailsOf leastTail greatestTail goesOn isUtf8 badText longName objectiveFrom objectiveIn objectiveNamed
     exchangeOf exchanged exchangeAt waitAt optionAt endAt byKind judgedShape examined framed readPlaced placeless readOf moveOf freshStep lowerStep turnStep
-    stateStep readingStep step after stepsOf isKind tookNegotiate negotiated
+    stateStep readingStep step after stepsOf isMoved acceptedOf isKind negotiated
 session = (refl, refl, refl)

@@ -1,7 +1,7 @@
 -- A list of steps on one negotiation state (rules 13.9), and the last sentence of demand 3 about it (rules 13.3.5).
 use mathlib.Core.Path.{_≡_}
 use mathlib.Core.List.{List, [], _∷_}
-use mathlib.Core.Bool.{Bool, false}
+use mathlib.Core.Bool.{Bool, true, false}
 use Prim.Native.Nat.{ℕ, suc, _+_, _≤_}
 use lib.Dec.{eqb}
 use Rattle.base.specs.Pick.{pick}
@@ -40,35 +40,39 @@ stepsOf state (m ∷ ms) =
     let answer = step state (m .bytes) (m .sender) in
     record { bytes = m .bytes; answer = answer } ∷ stepsOf (after state answer) ms
 
+-- whether a step is accepted
+unfoldable pub isMoved : Stepped → Bool
+isMoved (Refused number) = false
+isMoved (Moved next) = true
+
+-- the messages that are accepted, in their order
+unfoldable pub acceptedOf : List StepTaken → List (List ℕ)
+acceptedOf [] = []
+acceptedOf (x ∷ xs) = pick (isMoved (x .answer)) (x .bytes ∷ acceptedOf xs) (acceptedOf xs)
+
 -- whether a message was read, and of this kind
 unfoldable pub isKind : ℕ → Reading → Bool
 isKind kind (Reading.Refused number) = false
 isKind kind (Reading.Read m) = eqb (kindOf m) kind
 
--- whether a Negotiate (kind 5) was accepted
-unfoldable pub tookNegotiate : List ℕ → Stepped → Bool
-tookNegotiate bytes (Refused number) = false
-tookNegotiate bytes (Moved next) = isKind 5 (readOf bytes)
-
--- how many Negotiates are accepted
-unfoldable pub negotiated : List StepTaken → ℕ
+-- how many of these messages are Negotiates (kind 5)
+unfoldable pub negotiated : List (List ℕ) → ℕ
 negotiated [] = 0
-negotiated (x ∷ xs) = pick (tookNegotiate (x .bytes) (x .answer)) (suc (negotiated xs)) (negotiated xs)
+negotiated (bytes ∷ rest) = pick (isKind 5 (readOf bytes)) (suc (negotiated rest)) (negotiated rest)
 
--- a step opened the state at a count: a Request (kind 3) with that count was accepted
-pub record Opens (x : StepTaken) (count : ℕ) : Type 0 where
+-- an accepted message opened the state at a count: it is a Request (kind 3) with that count
+pub record Opens (bytes : List ℕ) (count : ℕ) : Type 0 where
   pub m : Message
-  pub read : readOf (x .bytes) ≡ Reading.Read m
+  pub read : readOf bytes ≡ Reading.Read m
   pub request : kindOf m ≡ 3
   pub counts : HasCount m count
-  pub next : State
-  pub accepted : x .answer ≡ Moved next
 
--- where a step opened the state at count c, at most c - 1 Negotiates are accepted; where none did, none is accepted
-pub record BoundedIn (steps : List StepTaken) : Type 0 where
-  pub opened : Every (λ x. (c : ℕ) → Opens x c → negotiated steps + 1 ≤ c) steps
-  pub unopened : Every (λ x. (c : ℕ) → Opens x c → ⊥) steps → negotiated steps ≡ 0
+-- of the messages that one state accepts: where one opened it at count c, at most c - 1 are Negotiates; where none did,
+-- none is
+pub record BoundedIn (accepted : List (List ℕ)) : Type 0 where
+  pub opened : Every (λ bytes. (c : ℕ) → Opens bytes c → negotiated accepted + 1 ≤ c) accepted
+  pub unopened : Every (λ bytes. (c : ℕ) → Opens bytes c → ⊥) accepted → negotiated accepted ≡ 0
 
 -- Demand 3 for one negotiation state, fresh at first: its last sentence.
 abbrev pub Bounded : List Sent → Type 0
-Bounded messages = BoundedIn (stepsOf Fresh messages)
+Bounded messages = BoundedIn (acceptedOf (stepsOf Fresh messages))

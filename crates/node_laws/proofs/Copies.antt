@@ -17,7 +17,7 @@ use Rattle.base.specs.Lists.{Every, Distinct}
 use Rattle.base.specs.Bits.{hasBit}
 use Rattle.base.proofs.Picks.{pick-case}
 use Rattle.base.proofs.Lists.{every-imp}
-use Rattle.node_laws.specs.History.{interfacesIn}
+use Rattle.node_laws.specs.Relays.{interfacesIn}
 
 -- each is below n and up
 pub interfaces-up : (n mask : ℕ) → Every (λ i. (i < n) × (hasBit mask i ≡ true)) (interfacesIn n mask)

@@ -16,7 +16,7 @@ use Rattle.node.specs.declared.role.Spread.{Spread}
 use Rattle.node.specs.declared.role.Role.{Role}
 use Rattle.node.specs.Role.{RoleIn}
 use Rattle.writer.specs.Lower.{onward}
-use Rattle.node_laws.specs.History.{Told, numberIn, toldReading, told}
+use Rattle.node_laws.specs.Relays.{Told, numberIn, toldReading, told}
 use Rattle.node.proofs.Spreads.{SpreadBy, spread-by, role-spreading}
 
 -- what is told of it

@@ -4,7 +4,7 @@
 use mathlib.Core.Path.{_≡_, refl, sym, ap, _∙_, subst}
 use mathlib.Core.Logic.{_≢_, inr}
 use mathlib.Core.Bool.{Bool, true, false}
-use mathlib.Core.List.{List, [], _∷_, map}
+use mathlib.Core.List.{List, [], _∷_, map, Sublistᴰ, Sublistᴰ·slnil, Sublistᴰ·cons, Sublistᴰ·cons-cons}
 use Prim.Native.Nat.{ℕ, _+_, _-_, _*_, _^_, _≤_, _<_, zero-le}
 use native.Mathlib.Nat.{le-trans, mul-le-mul-right}
 use native.Mathlib.Omega.{arith}
@@ -30,8 +30,8 @@ use Rattle.node.specs.Role.{keyIn}
 use Rattle.writer.specs.Lower.{onward}
 use Rattle.node.specs.Call.{Call, After, relayed, nodeCall}
 use Rattle.node.specs.Passed.{Passed}
-use Rattle.node_laws.specs.History.{Event, call, links, Step, steps, finally, isRelay, saysRelay, maskOf, lengthOf, Told, told, relaysOf, given, sent}
-use Rattle.node_laws.specs.History.{clockOf, arrivedOn, interfacesIn, copies, copiesOf, SameKey, apartBy, Apart, GoesOut, Near, Few, WholeList}
+use Rattle.node_laws.specs.Relays.{Told, told, interfacesIn, Seen, copiesOf, SameKey, apartBy, Apart, GoesOut, Near, Few}
+use Rattle.node_laws.specs.History.{Event, call, links, Step, steps, finally, isRelay, saysRelay, maskOf, lengthOf, seen, relaysOf, WholeList}
 use Rattle.node_laws.specs.Demand.{Demand3}
 use Rattle.node_state.proofs.Masks.{record-links, up-below, taken-down, others-fewer}
 use Rattle.node_state.proofs.TableRows.{put-holds, length-free, life-least, table-sized}
@@ -44,19 +44,33 @@ use Rattle.node_laws.proofs.Calls.{Relays, View, stayed, ended, went, v
 
 -- ---- what holds of the relays
 
+-- the calls that are answered RELAY
+relaying : List Step → List Step
+relaying [] = []
+relaying (x ∷ xs) = pick (saysRelay (x .after .called .reply)) (x ∷ relaying xs) (relaying xs)
+
+seen-relays : (xs : List Step) → relaysOf xs ≡ map seen (relaying xs)
+unfolding relaysOf relaying pick
+seen-relays [] = refl
+seen-relays (x ∷ xs) = by (saysRelay (x .after .called .reply)) (seen-relays xs)
+  where
+    by : (b : Bool) → relaysOf xs ≡ map seen (relaying xs) → pick b (seen x ∷ relaysOf xs) (relaysOf xs) ≡ map seen (pick b (x ∷ relaying xs) (relaying xs))
+    by true e = ap (λ (l : List Seen). seen x ∷ l) e
+    by false e = e
+
 -- the row that a relay filled
 rowOf : Step → ℕ
 rowOf x = lowestFree (freed (x .call .clock) (x .table))
 
 record Behind (x y : Step) : Type 0 where
-  apart : Apart x y
-  rows : rowOf x ≡ rowOf y → clockOf x + 60000 ≤ clockOf y
+  apart : Apart (seen x) (seen y)
+  rows : rowOf x ≡ rowOf y → x .call .clock + 60000 ≤ y .call .clock
 
 -- of one relay
 record Sound (interfaces : ℕ) (x : Step) : Type 0 where
-  out : GoesOut interfaces x
+  out : GoesOut interfaces (seen x)
   row : rowOf x < 64
-  some-left : length (copies x) + 1 ≤ interfaces
+  some-left : length (seen x .copies) + 1 ≤ interfaces
 
 -- what is known of a call that was answered RELAY
 record Known (x : Step) (s : Spread) : Type 0 where
@@ -77,8 +91,7 @@ kind-life true = refl
 kind-life false = refl
 
 module _ (x : Step) (s : Spread) (k : Known x s) where
-  known-given : given x ≡ spread-told (x .call .message) s
-  unfolding given
+  known-given : seen x .given ≡ spread-told (x .call .message) s
   known-given = told-spread (x .call .message) s (k .facts .role)
 
   -- how long its row lives
@@ -86,11 +99,11 @@ module _ (x : Step) (s : Spread) (k : Known x s) where
   unfolding keyIn
   row-life = key-life (s .flood) (s .session) (held (x .call .message) (s .initiator)) (role-spreading (x .call .message) s (k .facts .role) .session)
 
-  known-apart : apartBy (given x .kind) ≡ rowLife (keyIn (x .call .message) s .first)
+  known-apart : apartBy (seen x .given .kind) ≡ rowLife (keyIn (x .call .message) s .first)
   known-apart = ap (λ (g : Told). apartBy (g .kind)) known-given ∙ kind-life (s .flood) ∙ sym row-life
 
 -- one kind, session and initiator are one key
-same-key : (x y : Step) (s s′ : Spread) → Known x s → Known y s′ → SameKey x y → keyIn (x .call .message) s ≡ keyIn (y .call .message) s′
+same-key : (x y : Step) (s s′ : Spread) → Known x s → Known y s′ → SameKey (seen x) (seen y) → keyIn (x .call .message) s ≡ keyIn (y .call .message) s′
 unfolding keyIn
 same-key x y s s′ kx ky same =
     let gx = known-given x s kx in
@@ -105,7 +118,7 @@ same-key x y s s′ kx ky same =
 -- ---- a relay and those after it
 
 abbrev There : Step → Spread → ℕ → List ℕ → Type 0
-There x s now t = StillThere (keyIn (x .call .message) s) (rowOf x) (clockOf x) now t
+There x s now t = StillThere (keyIn (x .call .message) s) (rowOf x) (x .call .clock) now t
 
 -- a row that was filled before a call, after it
 there-on : (x : Step) (s : Spread) (r : Record) (t : List ℕ) (c : Call) (b : After) → View r t c b → There x s (r .clock) t
@@ -113,25 +126,25 @@ there-on : (x : Step) (s : Spread) (r : Record) (t : List ℕ) (c : Call) (b : A
 unfolding clocked relayed tallied
 there-on x s r t c b (stayed nb tb e) there = rw (nb, tb) there
 there-on x s r t c b (ended p nb tb e) there =
-    rw (nb, tb) (freed-there (keyIn (x .call .message) s) (rowOf x) (clockOf x) (r .clock) (c .clock) t (p .later) there)
+    rw (nb, tb) (freed-there (keyIn (x .call .message) s) (rowOf x) (x .call .clock) (r .clock) (c .clock) t (p .later) there)
 there-on x s r t c b (went s′ f e) there =
     rw e
-    (put-there (keyIn (x .call .message) s) (rowOf x) (clockOf x) (keyIn (c .message) s′) (c .clock) (freed (c .clock) t) (row-used x s) (f .room)
-    (freed-there (keyIn (x .call .message) s) (rowOf x) (clockOf x) (r .clock) (c .clock) t (f .passes .later) there))
+    (put-there (keyIn (x .call .message) s) (rowOf x) (x .call .clock) (keyIn (c .message) s′) (c .clock) (freed (c .clock) t) (row-used x s) (f .room)
+    (freed-there (keyIn (x .call .message) s) (rowOf x) (x .call .clock) (r .clock) (c .clock) t (f .passes .later) there))
 
 known-behind : (x y : Step) (s s′ : Spread) → Known x s → Known y s′ → There x s (y .call .clock) (freed (y .call .clock) (y .table)) → Behind x y
-unfolding rowOf clockOf
+unfolding rowOf
 known-behind x y s s′ k ky there =
     let key = keyIn (x .call .message) s in
     let t = freed (y .call .clock) (y .table) in
     record {
       apart = record {
-        later = there-past key (rowOf x) (clockOf x) (clockOf y) (y .table) (ky .facts .passes .table) there;
+        later = there-past key (rowOf x) (x .call .clock) (y .call .clock) (y .table) (ky .facts .passes .table) there;
         one-key = λ same.
             let new : isKnown key t ≡ false = rw (same-key x y s s′ k ky same) (ky .facts .new) in
-            rw (known-apart x s k) (one-key key (rowOf x) (clockOf x) (clockOf y) t (k .facts .room) there new);
+            rw (known-apart x s k) (one-key key (rowOf x) (x .call .clock) (y .call .clock) t (k .facts .room) there new);
       };
-      rows = λ e. omega (arith, life-least (key .first), one-row key (rowOf x) (clockOf x) (clockOf y) t (row-used x s) (ky .facts .room) there e);
+      rows = λ e. omega (arith, life-least (key .first), one-row key (rowOf x) (x .call .clock) (y .call .clock) t (row-used x s) (ky .facts .room) there e);
     }
 
 says-relay : (r : Record) (t : List ℕ) (c : Call) (s : Spread) (b : After) → b ≡ relayed (clocked r (c .clock)) (freed (c .clock) t) c s
@@ -148,16 +161,16 @@ listed r t c b P rest (ended p nb tb e) f g = rw e f
 listed r t c b P rest (went s k e) f g = rw (says-relay r t c s b e) (g s (record { facts = k; is = e }))
 
 future : (x : Step) (s : Spread) → Known x s → (es : List Event) → (r : Record) (t : List ℕ) → There x s (r .clock) t
-    → Every (Behind x) (relaysOf (steps r t es))
-unfolding steps relaysOf rowOf clockOf
+    → Every (Behind x) (relaying (steps r t es))
+unfolding steps relaying rowOf
 future x s k [] r t there = tt
 future x s k (call c ∷ es) r t there =
     let b = nodeCall r t c in
     let rest = future x s k es (b .called .node) (b .table) (there-on x s r t c b (view r t c) there) in
-    listed r t c b (Every (Behind x)) (relaysOf (steps (b .called .node) (b .table) es)) (view r t c) rest
+    listed r t c b (Every (Behind x)) (relaying (steps (b .called .node) (b .table) es)) (view r t c) rest
     (λ s′ k′. (
       known-behind x (stepOf r t c b) s s′ k k′
-          (freed-there (keyIn (x .call .message) s) (rowOf x) (clockOf x) (r .clock) (c .clock) t (k′ .facts .passes .later) there),
+          (freed-there (keyIn (x .call .message) s) (rowOf x) (x .call .clock) (r .clock) (c .clock) t (k′ .facts .passes .later) there),
       rest,
     ))
 future x s k (links mask ∷ es) r t there = future x s k es (setLinks r mask .node) t (rw (links-keep r mask .clock) there)
@@ -165,19 +178,19 @@ future x s k (links mask ∷ es) r t there = future x s k es (setLinks r mask .n
 -- a relay's own row, just filled
 own-row : (r : Record) (t : List ℕ) (c : Call) (b : After) (s : Spread) → Known (stepOf r t c b) s
     → There (stepOf r t c b) s (b .called .node .clock) (b .table)
-unfolding rowOf clockOf relayed clocked tallied freed
+unfolding rowOf relayed clocked tallied freed
 own-row r t c b s k =
     let e = k .is in
     rw e (inr (put-holds (freed (c .clock) t) (lowestFree (freed (c .clock) t)) (keyIn (c .message) s) (c .clock)
     (length-free (c .clock) t 64 ∙ table-sized (c .clock) t (k .facts .passes .table)) (k .facts .room)))
 
-pairs : (es : List Event) → (r : Record) (t : List ℕ) → EachPair Behind (relaysOf (steps r t es))
-unfolding steps relaysOf
+pairs : (es : List Event) → (r : Record) (t : List ℕ) → EachPair Behind (relaying (steps r t es))
+unfolding steps relaying
 pairs [] r t = tt
 pairs (call c ∷ es) r t =
     let b = nodeCall r t c in
     let rest = pairs es (b .called .node) (b .table) in
-    listed r t c b (EachPair Behind) (relaysOf (steps (b .called .node) (b .table) es)) (view r t c) rest
+    listed r t c b (EachPair Behind) (relaying (steps (b .called .node) (b .table) es)) (view r t c) rest
     (λ s k. (future (stepOf r t c b) s k es (b .called .node) (b .table) (own-row r t c b s k), rest))
 pairs (links mask ∷ es) r t = pairs es (setLinks r mask .node) t
 
@@ -195,8 +208,8 @@ outgoing x = x .node .links - 2 ^ x .call .interface
 
 -- one that was answered RELAY, whatever its message's elements are
 went-copies : (x : Step) (s : Spread) → x .after ≡ relayed (clocked (x .node) (x .call .clock)) (freed (x .call .clock) (x .table)) (x .call) s
-    → copies x ≡ interfacesIn 8 (outgoing x)
-unfolding copies maskOf relayed others clocked outgoing
+    → seen x .copies ≡ interfacesIn 8 (outgoing x)
+unfolding maskOf relayed others clocked outgoing
 went-copies x s is = ap (λ (z : After). interfacesIn 8 (maskOf (z .called .reply))) is
 
 -- the copies of a call that passed its checks
@@ -224,14 +237,14 @@ module _ (x : Step) (passes : Passed (x .node) (x .table) (x .call .clock) (x .c
   copies-many = length-interfaces 8 (outgoing x) (le-trans small-mask (pow-mono (record-links (x .node) (passes .good) .most)))
 
   went-tally : (s : Spread) → x .after ≡ relayed (clocked (x .node) (x .call .clock)) (freed (x .call .clock) (x .table)) (x .call) s
-      → x .after .called .node .tally ≡ x .node .tally + length (copies x)
+      → x .after .called .node .tally ≡ x .node .tally + length (seen x .copies)
   unfolding relayed tallied clocked others outgoing
   went-tally s is =
       ap (λ (z : After). z .called .node .tally) is ∙ ap (λ (z : ℕ). x .node .tally + z) (sym copies-many ∙ ap length (sym (went-copies x s is)))
 
 module _ (x : Step) (s : Spread) (k : Known x s) where
-  known-sent : sent x .count ≡ s .objective .count - 1
-  unfolding sent lengthOf relayed
+  known-sent : seen x .sent .count ≡ s .objective .count - 1
+  unfolding lengthOf relayed
   known-sent =
       let bytes = onward (x .call .message) (s .objective) in
       ap (λ (z : After). told (take (lengthOf (z .called .reply)) (z .output)) .count) (k .is)
@@ -239,7 +252,7 @@ module _ (x : Step) (s : Spread) (k : Known x s) where
       ∙ onward-count (x .call .message) s (k .facts .role)
 
   known-sound : Sound (x .node .interfaces) x
-  unfolding arrivedOn rowOf others outgoing
+  unfolding rowOf others outgoing
   known-sound =
       let same = went-copies x s (k .is) in
       record {
@@ -254,20 +267,20 @@ module _ (x : Step) (s : Spread) (k : Known x s) where
         some-left = rw (same, copies-many x (k .facts .passes)) (omega (arith, others-fewer (x .node) (x .call .interface) (k .facts .passes .good)));
       }
 
-sound : (n : ℕ) (es : List Event) → (r : Record) (t : List ℕ) → r .interfaces ≡ n → Every (Sound n) (relaysOf (steps r t es))
-unfolding steps relaysOf
+sound : (n : ℕ) (es : List Event) → (r : Record) (t : List ℕ) → r .interfaces ≡ n → Every (Sound n) (relaying (steps r t es))
+unfolding steps relaying
 sound n [] r t e = tt
 sound n (call c ∷ es) r t e =
     let b = nodeCall r t c in
     let rest = sound n es (b .called .node) (b .table) (interfaces-on r t c b (view r t c) ∙ e) in
-    listed r t c b (Every (Sound n)) (relaysOf (steps (b .called .node) (b .table) es)) (view r t c) rest
+    listed r t c b (Every (Sound n)) (relaying (steps (b .called .node) (b .table) es)) (view r t c) rest
     (λ s k. (subst (λ (z : ℕ). Sound z (stepOf r t c b)) e (known-sound (stepOf r t c b) s k), rest))
 sound n (links mask ∷ es) r t e = sound n es (setLinks r mask .node) t (links-keep r mask .interfaces ∙ e)
 
 -- ---- the tally
 
-tally-on : (r : Record) (t : List ℕ) (c : Call) (b : After) (rest : List Step) → View r t c b
-    → b .called .node .tally + copiesOf rest ≡ r .tally + copiesOf (pick (saysRelay (b .called .reply)) (stepOf r t c b ∷ rest) rest)
+tally-on : (r : Record) (t : List ℕ) (c : Call) (b : After) (rest : List Seen) → View r t c b
+    → b .called .node .tally + copiesOf rest ≡ r .tally + copiesOf (pick (saysRelay (b .called .reply)) (seen (stepOf r t c b) ∷ rest) rest)
 unfolding pick clocked copiesOf
 tally-on r t c b rest (stayed nb tb e) = rw (e, nb) refl
 tally-on r t c b rest (ended p nb tb e) = rw (e, nb) refl
@@ -284,14 +297,14 @@ total (links mask ∷ es) r t =
 
 -- ---- relays that are near one another
 
-other-rows : (x : Step) (l : List Step) → Every (Behind x) l → Every (Near x) l → Every (λ i. rowOf x ≢ i) (map rowOf l)
+other-rows : (x : Step) (l : List Step) → Every (Behind x) l → Every (Near (seen x)) (map seen l) → Every (λ i. rowOf x ≢ i) (map rowOf l)
 other-rows x [] h near = tt
 other-rows x (y ∷ ys) h near = (
   λ e. let far = h .0 .rows e in let close = near .0 in omega arith,
   other-rows x ys (h .1) (near .1),
 )
 
-distinct-rows : (l : List Step) → EachPair Behind l → EachPair Near l → Distinct (map rowOf l)
+distinct-rows : (l : List Step) → EachPair Behind l → EachPair Near (map seen l) → Distinct (map rowOf l)
 distinct-rows [] h near = tt
 distinct-rows (x ∷ xs) h near = (other-rows x xs (h .0) (near .0), distinct-rows xs (h .1) (near .1))
 
@@ -299,7 +312,7 @@ rows-below : (n : ℕ) (l : List Step) → Every (Sound n) l → Every (λ i. i 
 rows-below n [] h = tt
 rows-below n (x ∷ xs) h = (h .0 .row, rows-below n xs (h .1))
 
-copies-few : (n : ℕ) (l : List Step) → Every (Sound n) l → copiesOf l ≤ length l * (n - 1)
+copies-few : (n : ℕ) (l : List Step) → Every (Sound n) l → copiesOf (map seen l) ≤ length l * (n - 1)
 unfolding copiesOf
 copies-few n [] h = zero-le
 copies-few n (x ∷ xs) h =
@@ -308,14 +321,28 @@ copies-few n (x ∷ xs) h =
     let sum : length (x ∷ xs) * (n - 1) ≡ (n - 1) + length xs * (n - 1) = omega arith in
     omega arith
 
-few-of : (n : ℕ) (l : List Step) → Every (Sound n) l → EachPair Behind l → EachPair Near l → Few n l
+few-of : (n : ℕ) (l : List Step) → Every (Sound n) l → EachPair Behind l → EachPair Near (map seen l) → Few n (map seen l)
 few-of n l h p near =
     let most : length l ≤ 64 = rw (length-map l rowOf) at (pigeonhole 64 (map rowOf l) (distinct-rows l p near) (rows-below n l h)) in
-    record { relays = most; copies = le-trans (copies-few n l h) (mul-le-mul-right (n - 1) most) }
+    record { relays = rw (length-map l seen) most; copies = le-trans (copies-few n l h) (mul-le-mul-right (n - 1) most) }
 
-every-pair : {A : Type 0} (R S : A → A → Type 0) → ((x y : A) → R x y → S x y) → (l : List A) → EachPair R l → EachPair S l
-every-pair R S f [] h = tt
-every-pair R S f (x ∷ xs) h = (every-imp (R x) (S x) (f x) xs (h .0), every-pair R S f xs (h .1))
+-- what holds of what is seen of each, and of each two
+every-seen : (P : Seen → Type 0) (l : List Step) → Every (λ x. P (seen x)) l → Every P (map seen l)
+every-seen P [] h = tt
+every-seen P (x ∷ xs) h = (h .0, every-seen P xs (h .1))
+
+pairs-seen : (l : List Step) → EachPair Behind l → EachPair Apart (map seen l)
+pairs-seen [] h = tt
+pairs-seen (x ∷ xs) h =
+    (every-seen (Apart (seen x)) xs (every-imp (Behind x) (λ y. Apart (seen x) (seen y)) (λ y b. b .apart) xs (h .0)), pairs-seen xs (h .1))
+
+-- those that are chosen of what is seen are what is seen of some that are chosen
+chosen-seen : (P : List Seen → Type 0) {chosen : List Seen} (l : List Step) → Sublistᴰ chosen (map seen l)
+    → ((xs : List Step) → Sublistᴰ xs l → P (map seen xs)) → P chosen
+chosen-seen P [] Sublistᴰ·slnil f = f [] Sublistᴰ·slnil
+chosen-seen P (x ∷ xs) (Sublistᴰ·cons s) f = chosen-seen P xs s (λ ys t. f ys (Sublistᴰ·cons t))
+chosen-seen P (x ∷ xs) (Sublistᴰ·cons-cons {l₁ = l₁} e s) f =
+    subst (λ (z : Seen). P (z ∷ l₁)) (sym e) (chosen-seen (λ l. P (seen x ∷ l)) xs s (λ ys t. f (x ∷ ys) (Sublistᴰ·cons-cons refl t)))
 
 -- a fresh record has tallied nothing
 fresh-tally : (address : List ℕ) (port ttl interfaces mask : ℕ) → fresh address port ttl interfaces mask .node .tally ≡ 0
@@ -327,12 +354,16 @@ fresh-tally address port ttl interfaces mask = both (λ (k : RecordAnswer). k .n
 -- Demand 3 for one list, from any table and a record that has tallied nothing.
 pub whole : (r : Record) (t : List ℕ) (events : List Event) → r .tally ≡ 0 → WholeList r t events
 whole r t events none =
+    let l = relaying (steps r t events) in
+    let same = seen-relays (steps r t events) in
     let p = pairs events r t in
     let h = sound (r .interfaces) events r t refl in
     record {
-      apart = every-pair Behind Apart (λ x y b. b .apart) (relaysOf (steps r t events)) p;
-      each = every-imp (Sound (r .interfaces)) (GoesOut (r .interfaces)) (λ x b. b .out) (relaysOf (steps r t events)) h;
-      few = λ chosen sub near. few-of (r .interfaces) chosen (every-chosen (Sound (r .interfaces)) sub h) (pairs-chosen Behind sub p) near;
+      apart = rw same (pairs-seen l p);
+      each = rw same (every-seen (GoesOut (r .interfaces)) l (every-imp (Sound (r .interfaces)) (λ x. GoesOut (r .interfaces) (seen x)) (λ x b. b .out) l h));
+      few = λ chosen sub.
+          chosen-seen (λ c. EachPair Near c → Few (r .interfaces) c) l (rw same at sub)
+          (λ xs s. few-of (r .interfaces) xs (every-chosen (Sound (r .interfaces)) s h) (pairs-chosen Behind s p));
       tally = total events r t ∙ ap (λ (z : ℕ). z + copiesOf (relaysOf (steps r t events))) none ∙ omega arith;
     }
 

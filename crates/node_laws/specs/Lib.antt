@@ -1,4 +1,6 @@
--- Demand 3: `History`, a list of calls and link settings; `Demand`, the demand as one statement.
+-- Demand 3: `Relays`, what is seen of relays, and the sentences about them; `History`, a list of calls and link
+-- settings; `Demand`, the demand as one statement.
+pub mod Relays
 pub mod History
 pub mod Demand
 -- The node call: `RelayRows`, free, used, live and dead rows; `OwnNames`, the bytes that are to be accepted as own

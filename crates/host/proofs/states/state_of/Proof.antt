@@ -40,49 +40,37 @@ returns-4 c = rw (
   le-ltb _ _ (c .before .before .before .if1 .left),
   le-ltb _ _ (c .before .before .if2 .left),
   le-ltb _ _ (c .before .if3 .left),
-  lt-ltb _ _ (c .if4 .taken),
+  eq-eqb _ _ (c .if4 .taken),
 )
 
-returns-5 : tie.Need-returns-5
-unfolding stateOf pick
-returns-5 c = rw (
-  le-ltb _ _ (c .before .before .before .before .if1 .left),
-  le-ltb _ _ (c .before .before .before .if2 .left),
-  le-ltb _ _ (c .before .before .if3 .left),
-  le-ltb _ _ (c .before .if4 .left),
-  eq-eqb _ _ (c .if5 .taken),
-)
+cast-t16 : tie.Need-cast-t16
+cast-t16 c = search needs
 
 cast-t17 : tie.Need-cast-t17
 cast-t17 c = search needs
 
-cast-t18 : tie.Need-cast-t18
-cast-t18 c = search needs
-
 side-of-requires : tie.Need-side-of-requires
 side-of-requires c κs = search needs
+
+returns-5 : tie.Need-returns-5
+unfolding stateOf pick
+returns-5 c = rw (
+  le-ltb _ _ (c .before .before .before .before .before .if1 .left),
+  le-ltb _ _ (c .before .before .before .before .if2 .left),
+  le-ltb _ _ (c .before .before .before .if3 .left),
+  ne-eqb _ _ (c .before .before .if4 .left),
+  eq-eqb _ _ (c .before .if5 .taken),
+  ← c .side-of .ensures,
+)
 
 returns-6 : tie.Need-returns-6
 unfolding stateOf pick
 returns-6 c = rw (
-  le-ltb _ _ (c .before .before .before .before .before .before .if1 .left),
-  le-ltb _ _ (c .before .before .before .before .before .if2 .left),
-  le-ltb _ _ (c .before .before .before .before .if3 .left),
-  le-ltb _ _ (c .before .before .before .if4 .left),
-  ne-eqb _ _ (c .before .before .if5 .left),
-  eq-eqb _ _ (c .before .if6 .taken),
-  ← c .side-of .ensures,
-)
-
-returns-7 : tie.Need-returns-7
-unfolding stateOf pick
-returns-7 c = rw (
-  le-ltb _ _ (c .before .before .before .before .before .if1 .left),
-  le-ltb _ _ (c .before .before .before .before .if2 .left),
-  le-ltb _ _ (c .before .before .before .if3 .left),
-  le-ltb _ _ (c .before .before .if4 .left),
-  ne-eqb _ _ (c .before .if5 .left),
-  ne-eqb _ _ (c .if6 .left),
+  le-ltb _ _ (c .before .before .before .before .if1 .left),
+  le-ltb _ _ (c .before .before .before .if2 .left),
+  le-ltb _ _ (c .before .before .if3 .left),
+  ne-eqb _ _ (c .before .if4 .left),
+  ne-eqb _ _ (c .if5 .left),
 )
 
 pub state-of-spec : {M : Type 1} → statement M
@@ -97,9 +85,8 @@ state-of-spec =
     returns-2
     returns-3
     returns-4
-    returns-5
+    cast-t16
     cast-t17
-    cast-t18
     side-of-requires
-    returns-6
-    returns-7)
+    returns-5
+    returns-6)
