@@ -17,10 +17,12 @@ enum { RAILS = 3, MOST_COPIES = 1000, MOST_UNDERWAY = 8 };
 /* A rail's two interfaces: to the next rail and to the one before. */
 enum { NEXT = 0, PREVIOUS = 1, INTERFACES = 2, ALL_UP = 3 };
 
-/* What a rail keeps: its record and its relay table. */
+/* What a rail keeps: its record, its relay table and the names that it answers to. */
 struct rail {
     struct grasp_record record;
     uint8_t table[GRASP_TABLE_BYTES];
+    uint8_t names[GRASP_MAX_NAMES_BYTES];
+    size_t names_len;
 };
 
 /* A copy under way: when and where it arrives. */
@@ -28,7 +30,7 @@ struct copy {
     uint64_t due;
     size_t rail;
     uint64_t interface;
-    uint8_t bytes[GRASP_MESSAGE_BYTES];
+    uint8_t bytes[GRASP_MAX_MESSAGE_BYTES];
     size_t len;
 };
 
@@ -42,8 +44,8 @@ struct ring {
 /* How long a copy takes from each rail to the next, and back, in ms. */
 static const uint64_t delay[RAILS] = {1, 1, 5};
 
-/* The rails offer no objective of their own: an empty CBOR array. */
-static const uint8_t own_names[] = {0x80};
+/* Every rail offers its lamp and its supply. */
+static const char *const own_names[] = {"LAMP", "SUPPLY"};
 
 /* Sends a copy on each interface of the mask. */
 static void send_copies(struct ring *ring, uint64_t now, size_t from, uint64_t mask, const uint8_t *bytes,
@@ -78,8 +80,8 @@ static struct copy next_arrival(struct ring *ring) {
 
 /* Tells which objective a message announces. */
 static void hear(const uint8_t *bytes, size_t len) {
-    uint64_t fields[GRASP_FIELDS];
-    if (grasp_read(bytes, len, fields) == GRASP_ACCEPTED) {
+    uint64_t fields[GRASP_MESSAGE_FIELDS];
+    if (grasp_read(bytes, len, fields) == GRASP_OK) {
         struct grasp_span name = grasp_message_name(bytes, len, fields);
         printf("  heard %.*s", (int)name.len, (const char *)name.at);
     }
@@ -88,12 +90,12 @@ static void hear(const uint8_t *bytes, size_t len) {
 /* What a rail does with a copy: it asks its node, sends where the node says, and hears what is handed up. */
 static void relay(struct ring *ring, const struct copy *copy) {
     struct rail *rail = &ring->rails[copy->rail];
-    uint8_t out[GRASP_MESSAGE_BYTES];
+    uint8_t out[GRASP_MAX_MESSAGE_BYTES];
     uint64_t answer[GRASP_ANSWER_FIELDS];
     uint8_t refusal =
         grasp_record_call(&rail->record, rail->table, sizeof rail->table, copy->due, copy->interface,
-                          own_names, sizeof own_names, copy->bytes, copy->len, out, sizeof out, answer);
-    if (refusal != GRASP_ACCEPTED) {
+                          rail->names, rail->names_len, copy->bytes, copy->len, out, sizeof out, answer);
+    if (refusal != GRASP_OK) {
         printf("refused: %s\n", grasp_refusal_text(refusal));
         return;
     }
@@ -112,31 +114,40 @@ static void forward(struct ring *ring, const struct copy *copy) {
                 copy->len);
 }
 
+/* A fresh rail: its record, a table of zeros and its names. */
+static struct rail fresh_rail(size_t number) {
+    const uint8_t address[GRASP_ADDRESS_BYTES] = {0x20, 0x01, 0x0D, 0xB8, [15] = (uint8_t)(number + 1)};
+    struct rail rail = {.record = GRASP_RECORD_INIT};
+    uint8_t refusal = grasp_record_fresh(&rail.record, address, 7017, 60000, INTERFACES, ALL_UP);
+    if (refusal != GRASP_OK)
+        printf("rail %zu: %s\n", number, grasp_refusal_text(refusal));
+    rail.names_len =
+        grasp_own_names(own_names, sizeof own_names / sizeof *own_names, rail.names, sizeof rail.names);
+    return rail;
+}
+
 /* Puts three fresh rails in the ring, with nothing under way. */
 static void begin(struct ring *ring) {
-    memset(ring, 0, sizeof *ring);
-    for (size_t i = 0; i < RAILS; i++) {
-        const uint8_t address[GRASP_ADDRESS_BYTES] = {0x20, 0x01, 0x0D, 0xB8, [15] = (uint8_t)(i + 1)};
-        if (grasp_record_fresh(&ring->rails[i].record, address, 7017, 60000, INTERFACES, ALL_UP) !=
-            GRASP_ACCEPTED)
-            printf("rail %zu: bad record\n", i);
-    }
+    for (size_t i = 0; i < RAILS; i++)
+        ring->rails[i] = fresh_rail(i);
+    ring->copies_underway = 0;
+    ring->copies_sent = 0;
 }
 
 /* Rail A announces its lamp, 4,000 K, on both links, with a loop count of 6. */
 static void flood(struct ring *ring) {
     static const uint8_t name[] = {'L', 'A', 'M', 'P'}, value[] = {0x19, 0x0F, 0xA0};
-    uint8_t source[GRASP_ADDRESS_BYTES + sizeof name + sizeof value], out[GRASP_MESSAGE_BYTES];
-    uint64_t fields[GRASP_FIELDS] = {0}, pair[GRASP_PAIR_FIELDS] = {0}, length;
+    uint8_t source[GRASP_ADDRESS_BYTES + sizeof name + sizeof value], out[GRASP_MAX_MESSAGE_BYTES];
+    uint64_t fields[GRASP_MESSAGE_FIELDS] = {0}, pair[GRASP_PAIR_FIELDS] = {0}, length;
     memcpy(source, ring->rails[0].record.address, GRASP_ADDRESS_BYTES);
     memcpy(source + GRASP_ADDRESS_BYTES, name, sizeof name);
     memcpy(source + GRASP_ADDRESS_BYTES + sizeof name, value, sizeof value);
-    fields[GRASP_KIND] = GRASP_FLOOD;
-    fields[GRASP_SESSION] = 7;
-    fields[GRASP_INITIATOR_LEN] = GRASP_ADDRESS_BYTES;
-    fields[GRASP_TTL] = 60000;
-    fields[GRASP_LIST] = GRASP_LIST_PAIRS;
-    fields[GRASP_LIST_MANY] = 1;
+    fields[GRASP_MESSAGE_KIND] = GRASP_KIND_FLOOD;
+    fields[GRASP_MESSAGE_SESSION] = 7;
+    fields[GRASP_MESSAGE_INITIATOR_LEN] = GRASP_ADDRESS_BYTES;
+    fields[GRASP_MESSAGE_TTL] = 60000;
+    fields[GRASP_MESSAGE_LIST] = GRASP_LIST_PAIRS;
+    fields[GRASP_MESSAGE_LIST_MANY] = 1;
     pair[GRASP_PAIR_NAME_AT] = GRASP_ADDRESS_BYTES;
     pair[GRASP_PAIR_NAME_LEN] = sizeof name;
     pair[GRASP_PAIR_FLAGS] = GRASP_FLAG_SYNCHRONIZATION;
@@ -144,7 +155,7 @@ static void flood(struct ring *ring) {
     pair[GRASP_PAIR_VALUE_AT] = GRASP_ADDRESS_BYTES + sizeof name;
     pair[GRASP_PAIR_VALUE_LEN] = sizeof value;
     if (grasp_write(source, sizeof source, pair, GRASP_PAIR_FIELDS, fields, out, sizeof out, &length) ==
-        GRASP_ACCEPTED)
+        GRASP_OK)
         send_copies(ring, 0, 0, ALL_UP, out, (size_t)length);
 }
 

@@ -36,23 +36,23 @@ static inline const char *grasp_refusal_text(uint8_t refusal) {
 
 static inline const char *grasp_verdict_text(uint64_t verdict) {
     switch (verdict) {
-    case GRASP_OWN:
+    case GRASP_VERDICT_OWN:
         return "OWN";
-    case GRASP_ANSWER:
+    case GRASP_VERDICT_ANSWER:
         return "ANSWER";
-    case GRASP_DUPLICATE:
+    case GRASP_VERDICT_DUPLICATE:
         return "DUPLICATE";
-    case GRASP_LAST:
+    case GRASP_VERDICT_LAST:
         return "LAST";
-    case GRASP_NOWHERE:
+    case GRASP_VERDICT_NOWHERE:
         return "NOWHERE";
-    case GRASP_NO_ROW:
+    case GRASP_VERDICT_NOROW:
         return "NOROW";
-    case GRASP_RELAY:
+    case GRASP_VERDICT_RELAY:
         return "RELAY";
-    case GRASP_NOTHING:
+    case GRASP_VERDICT_NOOP:
         return "NOOP";
-    case GRASP_HAND:
+    case GRASP_VERDICT_HAND:
         return "HAND";
     default:
         return "unknown verdict";
@@ -61,27 +61,27 @@ static inline const char *grasp_verdict_text(uint64_t verdict) {
 
 static inline const char *grasp_kind_text(uint64_t kind) {
     switch (kind) {
-    case GRASP_NOOP:
+    case GRASP_KIND_NOOP:
         return "Noop";
-    case GRASP_DISCOVERY:
+    case GRASP_KIND_DISCOVERY:
         return "Discovery";
-    case GRASP_RESPONSE:
+    case GRASP_KIND_RESPONSE:
         return "Response";
-    case GRASP_REQUEST_NEGOTIATION:
+    case GRASP_KIND_REQUEST_NEGOTIATION:
         return "Request negotiation";
-    case GRASP_REQUEST_SYNCHRONIZATION:
+    case GRASP_KIND_REQUEST_SYNCHRONIZATION:
         return "Request synchronization";
-    case GRASP_NEGOTIATE:
+    case GRASP_KIND_NEGOTIATE:
         return "Negotiate";
-    case GRASP_END:
+    case GRASP_KIND_END:
         return "End";
-    case GRASP_WAIT:
+    case GRASP_KIND_WAIT:
         return "Wait";
-    case GRASP_SYNCH:
+    case GRASP_KIND_SYNCH:
         return "Synch";
-    case GRASP_FLOOD:
+    case GRASP_KIND_FLOOD:
         return "Flood";
-    case GRASP_INVALID:
+    case GRASP_KIND_INVALID:
         return "Invalid";
     default:
         return "unknown kind";

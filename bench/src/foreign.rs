@@ -5,7 +5,7 @@ use std::mem::MaybeUninit;
 use std::time::Duration;
 
 use archive::{grasp_locator, grasp_node_call, grasp_pair, grasp_read, grasp_write};
-use archive::{ANSWER_FIELDS, ANSWER_VERDICT, RECORD_FIELDS};
+use archive::{ANSWER_FIELDS, ANSWER_VERDICT, NUMBER_FIELDS};
 use second::block::layout::{FIELDS, LIST, LIST_AT, LIST_MANY, LOCATOR_FIELDS, PAIRS, PAIR_FIELDS};
 use second::message::MOST_BYTES;
 
@@ -121,7 +121,7 @@ pub fn write(
 /// What a host keeps of a node, and the buffers that it lends.
 pub struct Host {
     pub address: [u8; 16],
-    pub numbers: [u64; RECORD_FIELDS],
+    pub numbers: [u64; NUMBER_FIELDS],
     pub table: Vec<u8>,
     pub out: [u8; MOST_BYTES],
 }

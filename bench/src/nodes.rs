@@ -2,7 +2,7 @@
 
 use std::hint::black_box;
 
-use archive::{RECORD_INTERFACES, TABLE_BYTES};
+use archive::{NUMBER_INTERFACES, TABLE_BYTES};
 use second::message::MOST_BYTES;
 use second::node::{self, Fresh, Given, Record, Verdict, NUMBERS, OF_A_ROW};
 use second::vectors::in_bytes;
@@ -84,7 +84,7 @@ impl Case<'_> {
 pub fn stages(rows: usize) -> Vec<Calls<'static>> {
     let stage = |table: bool, interfaces: u64, message: &'static [u8], wanted: Result<u8, u8>| {
         let mut host = host(&self::table(rows));
-        host.numbers[RECORD_INTERFACES] = interfaces;
+        host.numbers[NUMBER_INTERFACES] = interfaces;
         if !table {
             host.table.clear();
         }

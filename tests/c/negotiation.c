@@ -31,41 +31,41 @@ static const char request[] = "83 03 07 83 61 41 02 03", negotiate_3[] = "83 05 
 /* They ask; the turn passes with each Negotiate, stays with a Wait, and the End closes for good. */
 static void test_talk(void) {
     uint64_t state[GRASP_STATE_FIELDS] = {0};
-    EXPECT_NUMBER(step(state, request, GRASP_THEY), 0);
-    EXPECT(is_state(state, GRASP_OPEN, 7, 3, GRASP_WE));
-    EXPECT_NUMBER(step(state, negotiate_2, GRASP_THEY), GRASP_NOT_ALLOWED);
-    EXPECT_NUMBER(step(state, negotiate_3, GRASP_WE), GRASP_NOT_ALLOWED);
-    EXPECT_NUMBER(step(state, negotiate_1, GRASP_WE), GRASP_NOT_ALLOWED);
-    EXPECT_NUMBER(step(state, "83 05 08 83 61 41 02 02", GRASP_WE), GRASP_NOT_ALLOWED);
-    EXPECT_NUMBER(step(state, wait, GRASP_WE), 0);
-    EXPECT(is_state(state, GRASP_OPEN, 7, 3, GRASP_WE));
-    EXPECT_NUMBER(step(state, negotiate_2, GRASP_WE), 0);
-    EXPECT(is_state(state, GRASP_OPEN, 7, 2, GRASP_THEY));
-    EXPECT_NUMBER(step(state, negotiate_1, GRASP_THEY), 0);
-    EXPECT(is_state(state, GRASP_OPEN, 7, 1, GRASP_WE));
-    EXPECT_NUMBER(step(state, negotiate_0, GRASP_WE), GRASP_NOT_ALLOWED);
-    EXPECT_NUMBER(step(state, request, GRASP_WE), GRASP_NOT_ALLOWED);
-    EXPECT_NUMBER(step(state, "81 00", GRASP_WE), GRASP_NOT_ALLOWED);
-    EXPECT_NUMBER(step(state, "81 00 00", GRASP_WE), GRASP_BYTES_AFTER);
-    EXPECT_NUMBER(step(state, "", GRASP_WE), GRASP_BAD_SIZE);
-    EXPECT_NUMBER(step(state, end, GRASP_THEY), GRASP_NOT_ALLOWED);
-    EXPECT_NUMBER(step(state, end, GRASP_WE), 0);
-    EXPECT(is_state(state, GRASP_CLOSED, 0, 0, 0));
-    EXPECT_NUMBER(step(state, request, GRASP_THEY), GRASP_NOT_ALLOWED);
+    EXPECT_NUMBER(step(state, request, GRASP_SIDE_THEY), 0);
+    EXPECT(is_state(state, GRASP_PHASE_OPEN, 7, 3, GRASP_SIDE_WE));
+    EXPECT_NUMBER(step(state, negotiate_2, GRASP_SIDE_THEY), GRASP_REFUSAL_NOT_ALLOWED);
+    EXPECT_NUMBER(step(state, negotiate_3, GRASP_SIDE_WE), GRASP_REFUSAL_NOT_ALLOWED);
+    EXPECT_NUMBER(step(state, negotiate_1, GRASP_SIDE_WE), GRASP_REFUSAL_NOT_ALLOWED);
+    EXPECT_NUMBER(step(state, "83 05 08 83 61 41 02 02", GRASP_SIDE_WE), GRASP_REFUSAL_NOT_ALLOWED);
+    EXPECT_NUMBER(step(state, wait, GRASP_SIDE_WE), 0);
+    EXPECT(is_state(state, GRASP_PHASE_OPEN, 7, 3, GRASP_SIDE_WE));
+    EXPECT_NUMBER(step(state, negotiate_2, GRASP_SIDE_WE), 0);
+    EXPECT(is_state(state, GRASP_PHASE_OPEN, 7, 2, GRASP_SIDE_THEY));
+    EXPECT_NUMBER(step(state, negotiate_1, GRASP_SIDE_THEY), 0);
+    EXPECT(is_state(state, GRASP_PHASE_OPEN, 7, 1, GRASP_SIDE_WE));
+    EXPECT_NUMBER(step(state, negotiate_0, GRASP_SIDE_WE), GRASP_REFUSAL_NOT_ALLOWED);
+    EXPECT_NUMBER(step(state, request, GRASP_SIDE_WE), GRASP_REFUSAL_NOT_ALLOWED);
+    EXPECT_NUMBER(step(state, "81 00", GRASP_SIDE_WE), GRASP_REFUSAL_NOT_ALLOWED);
+    EXPECT_NUMBER(step(state, "81 00 00", GRASP_SIDE_WE), GRASP_REFUSAL_BYTES_AFTER);
+    EXPECT_NUMBER(step(state, "", GRASP_SIDE_WE), GRASP_REFUSAL_BAD_SIZE);
+    EXPECT_NUMBER(step(state, end, GRASP_SIDE_THEY), GRASP_REFUSAL_NOT_ALLOWED);
+    EXPECT_NUMBER(step(state, end, GRASP_SIDE_WE), 0);
+    EXPECT(is_state(state, GRASP_PHASE_CLOSED, 0, 0, 0));
+    EXPECT_NUMBER(step(state, request, GRASP_SIDE_THEY), GRASP_REFUSAL_NOT_ALLOWED);
 }
 
 /* What opens a fresh state. */
 static void test_fresh(void) {
     uint64_t state[GRASP_STATE_FIELDS] = {0};
-    EXPECT_NUMBER(step(state, "83 03 07 83 61 41 02 00", GRASP_WE), GRASP_NOT_ALLOWED);
-    EXPECT_NUMBER(step(state, "83 04 07 83 61 41 02 03", GRASP_WE), GRASP_NOT_ALLOWED);
-    EXPECT_NUMBER(step(state, negotiate_2, GRASP_WE), GRASP_NOT_ALLOWED);
-    EXPECT_NUMBER(step(state, wait, GRASP_THEY), GRASP_NOT_ALLOWED);
-    EXPECT_NUMBER(step(state, end, GRASP_THEY), GRASP_NOT_ALLOWED);
-    EXPECT_NUMBER(step(state, request, 2), GRASP_NOT_ALLOWED);
-    EXPECT_NUMBER(step(state, request, UINT64_MAX), GRASP_NOT_ALLOWED);
-    EXPECT_NUMBER(step(state, "83 03 1A FFFFFFFF 83 61 41 02 18 FF", GRASP_WE), 0);
-    EXPECT(is_state(state, GRASP_OPEN, UINT32_MAX, 255, GRASP_THEY));
+    EXPECT_NUMBER(step(state, "83 03 07 83 61 41 02 00", GRASP_SIDE_WE), GRASP_REFUSAL_NOT_ALLOWED);
+    EXPECT_NUMBER(step(state, "83 04 07 83 61 41 02 03", GRASP_SIDE_WE), GRASP_REFUSAL_NOT_ALLOWED);
+    EXPECT_NUMBER(step(state, negotiate_2, GRASP_SIDE_WE), GRASP_REFUSAL_NOT_ALLOWED);
+    EXPECT_NUMBER(step(state, wait, GRASP_SIDE_THEY), GRASP_REFUSAL_NOT_ALLOWED);
+    EXPECT_NUMBER(step(state, end, GRASP_SIDE_THEY), GRASP_REFUSAL_NOT_ALLOWED);
+    EXPECT_NUMBER(step(state, request, 2), GRASP_REFUSAL_NOT_ALLOWED);
+    EXPECT_NUMBER(step(state, request, UINT64_MAX), GRASP_REFUSAL_NOT_ALLOWED);
+    EXPECT_NUMBER(step(state, "83 03 1A FFFFFFFF 83 61 41 02 18 FF", GRASP_SIDE_WE), 0);
+    EXPECT(is_state(state, GRASP_PHASE_OPEN, UINT32_MAX, 255, GRASP_SIDE_THEY));
 }
 
 /* A state with a number that isn't one of ours refuses every message, by its own number or by 20. */
@@ -73,22 +73,22 @@ static void test_no_state(void) {
     static const uint64_t states[][GRASP_STATE_FIELDS] = {
         {UINT64_MAX, UINT64_MAX, UINT64_MAX, UINT64_MAX},
         {3, 7, 3, 0},
-        {GRASP_OPEN, (uint64_t)1 << 32 | 7, 3, 0},
-        {GRASP_OPEN, 7, 256 + 3, 0},
-        {GRASP_OPEN, 7, 3, 2},
-        {GRASP_OPEN, 7, 0, 0},
-        {GRASP_CLOSED, 7, 3, 0},
+        {GRASP_PHASE_OPEN, (uint64_t)1 << 32 | 7, 3, 0},
+        {GRASP_PHASE_OPEN, 7, 256 + 3, 0},
+        {GRASP_PHASE_OPEN, 7, 3, 2},
+        {GRASP_PHASE_OPEN, 7, 0, 0},
+        {GRASP_PHASE_CLOSED, 7, 3, 0},
     };
     static const char *const messages[] = {request, negotiate_2, wait, end};
     for (size_t i = 0; i < sizeof states / sizeof *states; i++) {
         uint64_t state[GRASP_STATE_FIELDS];
         memcpy(state, states[i], sizeof state);
         for (size_t j = 0; j < sizeof messages / sizeof *messages; j++) {
-            EXPECT_NUMBER(step(state, messages[j], GRASP_WE), GRASP_NOT_ALLOWED);
-            EXPECT_NUMBER(step(state, messages[j], GRASP_THEY), GRASP_NOT_ALLOWED);
+            EXPECT_NUMBER(step(state, messages[j], GRASP_SIDE_WE), GRASP_REFUSAL_NOT_ALLOWED);
+            EXPECT_NUMBER(step(state, messages[j], GRASP_SIDE_THEY), GRASP_REFUSAL_NOT_ALLOWED);
         }
-        EXPECT_NUMBER(step(state, "FF", GRASP_WE), GRASP_INDEFINITE);
-        EXPECT_NUMBER(step(state, "FF", UINT64_MAX), GRASP_INDEFINITE);
+        EXPECT_NUMBER(step(state, "FF", GRASP_SIDE_WE), GRASP_REFUSAL_INDEFINITE);
+        EXPECT_NUMBER(step(state, "FF", UINT64_MAX), GRASP_REFUSAL_INDEFINITE);
     }
 }
 

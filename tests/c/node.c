@@ -11,7 +11,7 @@ static const uint8_t own[GRASP_ADDRESS_BYTES] = {0x20, 0x01, 0x0D, 0xB8, 0, 0, 0
 /* What a host keeps, and what the last call wrote. */
 struct host {
     uint8_t address[GRASP_ADDRESS_BYTES], table[GRASP_TABLE_BYTES + 8];
-    uint64_t record[GRASP_RECORD_FIELDS], answer[GRASP_ANSWER_FIELDS];
+    uint64_t record[GRASP_NUMBER_FIELDS], answer[GRASP_ANSWER_FIELDS];
     size_t table_size;
     struct bytes out;
 };
@@ -24,14 +24,14 @@ struct call {
 };
 
 static struct call called(uint64_t clock, uint64_t interface, const char *names, const char *message) {
-    return (struct call){clock, interface, hex(names), hex(message), GRASP_MESSAGE_BYTES};
+    return (struct call){clock, interface, hex(names), hex(message), GRASP_MAX_MESSAGE_BYTES};
 }
 
 /* Whether the record has a struct. */
 static int has_struct(const struct host *host) {
     const uint64_t *record = host->record;
-    return record[GRASP_RECORD_PORT] <= UINT16_MAX && record[GRASP_RECORD_TTL] <= UINT32_MAX &&
-           record[GRASP_RECORD_INTERFACES] <= UINT8_MAX && record[GRASP_RECORD_LINKS] <= UINT8_MAX;
+    return record[GRASP_NUMBER_PORT] <= UINT16_MAX && record[GRASP_NUMBER_TTL] <= UINT32_MAX &&
+           record[GRASP_NUMBER_INTERFACES] <= UINT8_MAX && record[GRASP_NUMBER_LINKS] <= UINT8_MAX;
 }
 
 /* Lends the record in its form. */
@@ -43,12 +43,12 @@ static void *lend_record(const struct host *host) {
     EXPECT(has_struct(host));
     memset(&node, 0, sizeof node);
     memcpy(node.address, host->address, sizeof node.address);
-    node.port = (uint16_t)record[GRASP_RECORD_PORT];
-    node.ttl = (uint32_t)record[GRASP_RECORD_TTL];
-    node.interfaces = (uint8_t)record[GRASP_RECORD_INTERFACES];
-    node.links = (uint8_t)record[GRASP_RECORD_LINKS];
-    node.clock = record[GRASP_RECORD_CLOCK];
-    node.tally = record[GRASP_RECORD_TALLY];
+    node.port = (uint16_t)record[GRASP_NUMBER_PORT];
+    node.ttl = (uint32_t)record[GRASP_NUMBER_TTL];
+    node.interfaces = (uint8_t)record[GRASP_NUMBER_INTERFACES];
+    node.links = (uint8_t)record[GRASP_NUMBER_LINKS];
+    node.clock = record[GRASP_NUMBER_CLOCK];
+    node.tally = record[GRASP_NUMBER_TALLY];
     return lend(RECORD, &node, sizeof node);
 }
 
@@ -62,12 +62,12 @@ static void keep_record(struct host *host, const void *lent) {
     }
     memcpy(&node, lent, sizeof node);
     memcpy(host->address, node.address, sizeof node.address);
-    host->record[GRASP_RECORD_PORT] = node.port;
-    host->record[GRASP_RECORD_TTL] = node.ttl;
-    host->record[GRASP_RECORD_INTERFACES] = node.interfaces;
-    host->record[GRASP_RECORD_LINKS] = node.links;
-    host->record[GRASP_RECORD_CLOCK] = node.clock;
-    host->record[GRASP_RECORD_TALLY] = node.tally;
+    host->record[GRASP_NUMBER_PORT] = node.port;
+    host->record[GRASP_NUMBER_TTL] = node.ttl;
+    host->record[GRASP_NUMBER_INTERFACES] = node.interfaces;
+    host->record[GRASP_NUMBER_LINKS] = node.links;
+    host->record[GRASP_NUMBER_CLOCK] = node.clock;
+    host->record[GRASP_NUMBER_TALLY] = node.tally;
 }
 
 /* Whether a call left the record as it was. */
@@ -150,7 +150,7 @@ static void verdict(struct host *host, struct call call, uint64_t verdict, uint6
     EXPECT_NUMBER(host->answer[GRASP_ANSWER_HANDED_UP], handed_up);
     EXPECT_NUMBER(host->answer[GRASP_ANSWER_MASK], mask);
     EXPECT(are_same(bytes, host->out.at, host->out.len));
-    EXPECT_NUMBER(host->record[GRASP_RECORD_CLOCK], call.clock);
+    EXPECT_NUMBER(host->record[GRASP_NUMBER_CLOCK], call.clock);
 }
 
 /* A number of the table. */
@@ -169,48 +169,50 @@ static const char discovery[] = "84 01 07 44 C0000201 83 63 455831 01 02",
 
 static void test_discovery(void) {
     struct host host = node(3);
-    verdict(&host, called(5, 0, "80", discovery), GRASP_RELAY, 0, 6, relayed);
-    EXPECT_NUMBER(host.record[GRASP_RECORD_TALLY], 2);
+    verdict(&host, called(5, 0, "80", discovery), GRASP_VERDICT_RELAY, 0, 6, relayed);
+    EXPECT_NUMBER(host.record[GRASP_NUMBER_TALLY], 2);
     EXPECT_NUMBER(in_table(&host, 0, 0), ((uint64_t)1 << 32) + 7);
     EXPECT_NUMBER(in_table(&host, 0, 1), 0xC0000201);
     EXPECT_NUMBER(in_table(&host, 0, 2), 0);
     EXPECT_NUMBER(in_table(&host, 0, 3), 5);
-    verdict(&host, called(5, 0, "80", discovery), GRASP_DUPLICATE, 0, 0, "");
-    verdict(&host, called(60004, 2, "80", discovery), GRASP_DUPLICATE, 0, 0, "");
-    verdict(&host, called(60005, 2, "80", discovery), GRASP_RELAY, 0, 3, relayed);
-    EXPECT_NUMBER(host.record[GRASP_RECORD_TALLY], 4);
-    verdict(&host, called(60005, 1, "81 63 455831", discovery), GRASP_ANSWER, 0, 2,
+    verdict(&host, called(5, 0, "80", discovery), GRASP_VERDICT_DUPLICATE, 0, 0, "");
+    verdict(&host, called(60004, 2, "80", discovery), GRASP_VERDICT_DUPLICATE, 0, 0, "");
+    verdict(&host, called(60005, 2, "80", discovery), GRASP_VERDICT_RELAY, 0, 3, relayed);
+    EXPECT_NUMBER(host.record[GRASP_NUMBER_TALLY], 4);
+    verdict(&host, called(60005, 1, "81 63 455831", discovery), GRASP_VERDICT_ANSWER, 0, 2,
             "85 02 07 44 C0000201 19 EA60 84 18 67 50 20010DB8 00000000 00000000 00000001 06 19 1B69");
-    EXPECT_NUMBER(host.record[GRASP_RECORD_TALLY], 4);
-    verdict(&host, called(60005, 0, "80", "84 01 08 44 C0000201 83 63 455831 01 18 18"), GRASP_RELAY, 0, 6,
-            "84 01 08 44 C0000201 83 63 455831 01 17");
-    verdict(&host, called(60005, 0, "80", "84 01 09 44 C0000201 83 63 455831 01 01"), GRASP_LAST, 0, 0, "");
-    verdict(&host, called(60005, 0, "80", "84 01 09 44 C0000201 83 63 455831 01 00"), GRASP_LAST, 0, 0, "");
+    EXPECT_NUMBER(host.record[GRASP_NUMBER_TALLY], 4);
+    verdict(&host, called(60005, 0, "80", "84 01 08 44 C0000201 83 63 455831 01 18 18"), GRASP_VERDICT_RELAY,
+            0, 6, "84 01 08 44 C0000201 83 63 455831 01 17");
+    verdict(&host, called(60005, 0, "80", "84 01 09 44 C0000201 83 63 455831 01 01"), GRASP_VERDICT_LAST, 0,
+            0, "");
+    verdict(&host, called(60005, 0, "80", "84 01 09 44 C0000201 83 63 455831 01 00"), GRASP_VERDICT_LAST, 0,
+            0, "");
     verdict(&host,
             called(60005, 0, "80", "84 01 07 50 C0000201 00000000 00000000 00000000 83 63 455831 01 02"),
-            GRASP_RELAY, 0, 6, "84 01 07 50 C0000201 00000000 00000000 00000000 83 63 455831 01 01");
+            GRASP_VERDICT_RELAY, 0, 6, "84 01 07 50 C0000201 00000000 00000000 00000000 83 63 455831 01 01");
     verdict(&host,
             called(60005, 0, "81 63 455831",
                    "84 01 07 50 20010DB8 00000000 00000000 00000001 83 63 455831 01 02"),
-            GRASP_OWN, 0, 0, "");
+            GRASP_VERDICT_OWN, 0, 0, "");
 }
 
 static void test_flood(void) {
-    struct host host = node(8);
-    verdict(&host, called(0, 3, "81 63 455831", flood), GRASP_RELAY, 1, 0xF7, flooded);
-    EXPECT_NUMBER(host.record[GRASP_RECORD_TALLY], 7);
+    struct host host = node(GRASP_MAX_INTERFACES);
+    verdict(&host, called(0, 3, "81 63 455831", flood), GRASP_VERDICT_RELAY, 1, 0xF7, flooded);
+    EXPECT_NUMBER(host.record[GRASP_NUMBER_TALLY], 7);
     EXPECT_NUMBER(in_table(&host, 0, 0), ((uint64_t)3 << 32) + 7);
-    verdict(&host, called(119999, 7, "80", flood), GRASP_DUPLICATE, 0, 0, "");
-    verdict(&host, called(120000, 7, "80", flood), GRASP_RELAY, 1, 0x7F, flooded);
-    verdict(&host, called(120000, 7, "80", "85 09 08 44 C0000201 00 82 83 60 00 01 80"), GRASP_LAST, 1, 0,
-            "");
+    verdict(&host, called(119999, 7, "80", flood), GRASP_VERDICT_DUPLICATE, 0, 0, "");
+    verdict(&host, called(120000, 7, "80", flood), GRASP_VERDICT_RELAY, 1, 0x7F, flooded);
+    verdict(&host, called(120000, 7, "80", "85 09 08 44 C0000201 00 82 83 60 00 01 80"), GRASP_VERDICT_LAST,
+            1, 0, "");
     verdict(&host,
             called(120000, 7, "80", "85 09 08 50 20010DB8 00000000 00000000 00000001 00 82 83 60 00 02 80"),
-            GRASP_OWN, 0, 0, "");
+            GRASP_VERDICT_OWN, 0, 0, "");
     EXPECT_NUMBER(set_links(&host, 0x80), 0);
-    verdict(&host, called(120000, 7, "80", "85 09 08 44 C0000201 00 82 83 60 00 02 80"), GRASP_NOWHERE, 1, 0,
-            "");
-    EXPECT_NUMBER(host.record[GRASP_RECORD_TALLY], 14);
+    verdict(&host, called(120000, 7, "80", "85 09 08 44 C0000201 00 82 83 60 00 02 80"),
+            GRASP_VERDICT_NOWHERE, 1, 0, "");
+    EXPECT_NUMBER(host.record[GRASP_NUMBER_TALLY], 14);
 }
 
 /* A Noop is nothing, and every other kind is handed up; no clock is too late. */
@@ -227,9 +229,9 @@ static void test_other_kinds(void) {
     };
     struct host host = node(1);
     for (size_t i = 0; i < sizeof others / sizeof *others; i++)
-        verdict(&host, called(i, 0, "80", others[i]), GRASP_HAND, 1, 0, "");
-    verdict(&host, called(UINT64_MAX, 0, "80", "81 00"), GRASP_NOTHING, 0, 0, "");
-    verdict(&host, called(UINT64_MAX, 0, "80", discovery), GRASP_NOWHERE, 0, 0, "");
+        verdict(&host, called(i, 0, "80", others[i]), GRASP_VERDICT_HAND, 1, 0, "");
+    verdict(&host, called(UINT64_MAX, 0, "80", "81 00"), GRASP_VERDICT_NOOP, 0, 0, "");
+    verdict(&host, called(UINT64_MAX, 0, "80", discovery), GRASP_VERDICT_NOWHERE, 0, 0, "");
 }
 
 /* 64 rows that live leave no row; one that dies leaves one. */
@@ -239,44 +241,45 @@ static void test_full_table(void) {
         struct call call = called(session, 1, "80", "84 01 18 00 44 C0000201 83 60 00 02");
         call.message.at[3] = (uint8_t)(24 + session);
         EXPECT_NUMBER(take(&host, &call), 0);
-        EXPECT_NUMBER(host.answer[GRASP_ANSWER_VERDICT], session < 64 ? GRASP_RELAY : GRASP_NO_ROW);
+        EXPECT_NUMBER(host.answer[GRASP_ANSWER_VERDICT],
+                      session < 64 ? GRASP_VERDICT_RELAY : GRASP_VERDICT_NOROW);
     }
-    verdict(&host, called(59999, 1, "80", flood), GRASP_NO_ROW, 1, 0, "");
-    verdict(&host, called(60000, 1, "80", flood), GRASP_RELAY, 1, 1, flooded);
+    verdict(&host, called(59999, 1, "80", flood), GRASP_VERDICT_NOROW, 1, 0, "");
+    verdict(&host, called(60000, 1, "80", flood), GRASP_VERDICT_RELAY, 1, 1, flooded);
     EXPECT_NUMBER(in_table(&host, 0, 0), ((uint64_t)3 << 32) + 7);
-    EXPECT_NUMBER(host.record[GRASP_RECORD_TALLY], 65);
+    EXPECT_NUMBER(host.record[GRASP_NUMBER_TALLY], 65);
 }
 
 /* Everything is wrong at first; mended one by one, the refusals come in their order. */
 static void test_order(void) {
     struct host host = node(3);
     struct call call = called(9, 3, "", "");
-    host.record[GRASP_RECORD_TALLY] = ((uint64_t)1 << 63) + 1;
-    host.record[GRASP_RECORD_CLOCK] = 10;
+    host.record[GRASP_NUMBER_TALLY] = ((uint64_t)1 << 63) + 1;
+    host.record[GRASP_NUMBER_CLOCK] = 10;
     host.table[0] = 0xFF;
     host.table_size = GRASP_TABLE_BYTES - 1;
-    call.size = GRASP_MESSAGE_BYTES - 1;
-    EXPECT_NUMBER(take(&host, &call), GRASP_BAD_RECORD);
-    host.record[GRASP_RECORD_TALLY]--;
-    EXPECT_NUMBER(take(&host, &call), GRASP_BAD_LINK);
+    call.size = GRASP_MAX_MESSAGE_BYTES - 1;
+    EXPECT_NUMBER(take(&host, &call), GRASP_REFUSAL_BAD_RECORD);
+    host.record[GRASP_NUMBER_TALLY]--;
+    EXPECT_NUMBER(take(&host, &call), GRASP_REFUSAL_BAD_LINK);
     call.interface = 2;
-    EXPECT_NUMBER(take(&host, &call), GRASP_EARLY_CLOCK);
+    EXPECT_NUMBER(take(&host, &call), GRASP_REFUSAL_EARLY_CLOCK);
     call.clock = 10;
-    EXPECT_NUMBER(take(&host, &call), GRASP_BAD_TABLE);
+    EXPECT_NUMBER(take(&host, &call), GRASP_REFUSAL_BAD_TABLE);
     host.table_size = GRASP_TABLE_BYTES;
-    EXPECT_NUMBER(take(&host, &call), GRASP_BAD_TABLE);
+    EXPECT_NUMBER(take(&host, &call), GRASP_REFUSAL_BAD_TABLE);
     host.table[0] = 0;
-    EXPECT_NUMBER(take(&host, &call), GRASP_BAD_NAMES);
+    EXPECT_NUMBER(take(&host, &call), GRASP_REFUSAL_BAD_NAMES);
     call.names = hex("80");
-    EXPECT_NUMBER(take(&host, &call), GRASP_SMALL_OUTPUT);
+    EXPECT_NUMBER(take(&host, &call), GRASP_REFUSAL_CALL_OUTPUT);
     call.size = 0;
-    EXPECT_NUMBER(take(&host, &call), GRASP_SMALL_OUTPUT);
-    call.size = GRASP_MESSAGE_BYTES + 1;
-    EXPECT_NUMBER(take(&host, &call), GRASP_BAD_SIZE);
+    EXPECT_NUMBER(take(&host, &call), GRASP_REFUSAL_CALL_OUTPUT);
+    call.size = GRASP_MAX_MESSAGE_BYTES + 1;
+    EXPECT_NUMBER(take(&host, &call), GRASP_REFUSAL_BAD_SIZE);
     call.message = hex(discovery);
     EXPECT_NUMBER(take(&host, &call), 0);
-    EXPECT_NUMBER(host.record[GRASP_RECORD_TALLY], ((uint64_t)1 << 63) + 2);
-    EXPECT_NUMBER(take(&host, &call), GRASP_BAD_RECORD);
+    EXPECT_NUMBER(host.record[GRASP_NUMBER_TALLY], ((uint64_t)1 << 63) + 2);
+    EXPECT_NUMBER(take(&host, &call), GRASP_REFUSAL_BAD_RECORD);
 }
 
 /* Messages are refused by their own numbers, and all stays. */
@@ -284,15 +287,15 @@ static void test_bad_messages(void) {
     static const struct {
         const char *digits;
         uint8_t refusal;
-    } bad[] = {{"81", GRASP_CUT},
-               {"81 1C", GRASP_RESERVED},
-               {"FF", GRASP_INDEFINITE},
-               {"81 18 00", GRASP_LONG_HEAD},
-               {"8181818181818181 80", GRASP_TOO_DEEP},
-               {"81 00 00", GRASP_BYTES_AFTER},
-               {"81 0A", GRASP_UNKNOWN_KIND},
-               {"82 00 07", GRASP_BAD_SHAPE},
-               {"83 03 07 83 61 80 00 01", GRASP_BAD_TEXT}};
+    } bad[] = {{"81", GRASP_REFUSAL_CUT},
+               {"81 1C", GRASP_REFUSAL_RESERVED},
+               {"FF", GRASP_REFUSAL_INDEFINITE},
+               {"81 18 00", GRASP_REFUSAL_LONG_HEAD},
+               {"8181818181818181 80", GRASP_REFUSAL_TOO_DEEP},
+               {"81 00 00", GRASP_REFUSAL_BYTES_AFTER},
+               {"81 0A", GRASP_REFUSAL_UNKNOWN_KIND},
+               {"82 00 07", GRASP_REFUSAL_BAD_SHAPE},
+               {"83 03 07 83 61 80 00 01", GRASP_REFUSAL_BAD_TEXT}};
     struct host host = node(2);
     struct call call = called(0, 0, "80", flood);
     EXPECT_NUMBER(take(&host, &call), 0);
@@ -301,12 +304,12 @@ static void test_bad_messages(void) {
         EXPECT_NUMBER(take(&host, &call), bad[i].refusal);
     }
     call = called(0, 0, "80", "83 03 07 83 78 41");
-    append_byte(&call.message, 'x', 65);
+    append_byte(&call.message, 'x', GRASP_MAX_NAME_BYTES + 1);
     append(&call.message, hex("00 01"));
-    EXPECT_NUMBER(take(&host, &call), GRASP_LONG_NAME);
+    EXPECT_NUMBER(take(&host, &call), GRASP_REFUSAL_LONG_NAME);
     call.message.len = 0;
-    append_byte(&call.message, 0x80, 2049);
-    EXPECT_NUMBER(take(&host, &call), GRASP_BAD_SIZE);
+    append_byte(&call.message, 0x80, GRASP_MAX_MESSAGE_BYTES + 1);
+    EXPECT_NUMBER(take(&host, &call), GRASP_REFUSAL_BAD_SIZE);
 }
 
 /* Own names that are none, and the most that may be. */
@@ -318,25 +321,70 @@ static void test_names(void) {
     struct call call;
     for (size_t i = 0; i < sizeof bad / sizeof *bad; i++) {
         call = called(0, 0, bad[i], "81 00");
-        EXPECT_NUMBER(take(&host, &call), GRASP_BAD_NAMES);
+        EXPECT_NUMBER(take(&host, &call), GRASP_REFUSAL_BAD_NAMES);
     }
-    for (size_t names = 16; names <= 17; names++) {
+    for (size_t names = GRASP_MAX_NAMES; names <= GRASP_MAX_NAMES + 1; names++) {
         call = called(0, 0, "", "81 00");
         append_byte(&call.names, (uint8_t)(0x80 + names), 1);
         append_byte(&call.names, 0x60, names);
-        EXPECT_NUMBER(take(&host, &call), names == 16 ? GRASP_ACCEPTED : GRASP_BAD_NAMES);
+        EXPECT_NUMBER(take(&host, &call), names == GRASP_MAX_NAMES ? GRASP_OK : GRASP_REFUSAL_BAD_NAMES);
     }
-    for (size_t length = 64; length <= 65; length++) {
+    for (size_t length = GRASP_MAX_NAME_BYTES; length <= GRASP_MAX_NAME_BYTES + 1; length++) {
         call = called(0, 0, "81 78", "81 00");
         append_byte(&call.names, (uint8_t)length, 1);
         append_byte(&call.names, 'x', length);
-        EXPECT_NUMBER(take(&host, &call), length == 64 ? GRASP_ACCEPTED : GRASP_BAD_NAMES);
+        EXPECT_NUMBER(take(&host, &call),
+                      length == GRASP_MAX_NAME_BYTES ? GRASP_OK : GRASP_REFUSAL_BAD_NAMES);
     }
+}
+
+/* Builds own names, and looks that no byte but theirs is written; those that are built are taken. */
+static size_t build(const char *const *names, size_t many, size_t size, struct bytes *built) {
+    struct host host = node(2);
+    struct call call = called(0, 0, "", "81 00");
+    uint8_t *out = lend(OUT, NULL, size);
+    built->len = grasp_own_names(names, many, out, size);
+    EXPECT(built->len <= size && has_margins(OUT));
+    EXPECT(is_as_lent_from(OUT, built->len));
+    if (built->len > 0) {
+        memcpy(built->at, out, built->len);
+        call.names = *built;
+        EXPECT_NUMBER(take(&host, &call), 0);
+    }
+    return built->len;
+}
+
+/* Own names from texts: none, heads of one byte and of two, the most, and what is too much. */
+static void test_own_names(void) {
+    static const char *const some[] = {"", "EX1", "12345678901234567890123", "123456789012345678901234"};
+    char text[GRASP_MAX_NAME_BYTES + 2];
+    const char *most[GRASP_MAX_NAMES + 1];
+    struct bytes built, wanted = hex("84 60 63 455831 77");
+    append(&wanted, (struct bytes){"12345678901234567890123", 23});
+    append(&wanted, hex("78 18"));
+    append(&wanted, (struct bytes){"123456789012345678901234", 24});
+    EXPECT_NUMBER(build(NULL, 0, 1, &built), 1);
+    EXPECT(are_same(hex("80"), built.at, built.len));
+    EXPECT_NUMBER(build(NULL, 0, 0, &built), 0);
+    EXPECT_NUMBER(build(some, 4, wanted.len, &built), wanted.len);
+    EXPECT(are_same(wanted, built.at, built.len));
+    EXPECT_NUMBER(build(some, 4, wanted.len - 1, &built), 0);
+    memset(text, 'x', sizeof text);
+    for (size_t i = 0; i < sizeof most / sizeof *most; i++)
+        most[i] = text;
+    text[GRASP_MAX_NAME_BYTES] = '\0';
+    EXPECT_NUMBER(build(most, GRASP_MAX_NAMES, GRASP_MAX_NAMES_BYTES, &built), GRASP_MAX_NAMES_BYTES);
+    EXPECT_NUMBER(build(most, GRASP_MAX_NAMES, GRASP_MAX_NAMES_BYTES - 1, &built), 0);
+    EXPECT_NUMBER(build(most, GRASP_MAX_NAMES + 1, 2 * GRASP_MAX_NAMES_BYTES, &built), 0);
+    text[GRASP_MAX_NAME_BYTES] = 'x';
+    text[GRASP_MAX_NAME_BYTES + 1] = '\0';
+    EXPECT_NUMBER(build(most, 1, GRASP_MAX_NAMES_BYTES, &built), 0);
 }
 
 /* Tables that are none: lengths, and each way that a row isn't free or used. */
 static void test_tables(void) {
-    static const size_t sizes[] = {0, 1, 8, 2040, 2047, 2049, 2056};
+    static const size_t sizes[] = {
+        0, 1, 8, GRASP_TABLE_BYTES - 8, GRASP_TABLE_BYTES - 1, GRASP_TABLE_BYTES + 1, GRASP_TABLE_BYTES + 8};
     static const char *const bad[] = {
         "00000000 00000001 00000000 00000000", /* no tag */
         "00000005 00000001 00000000 00000000", /* a tag that isn't ours */
@@ -347,18 +395,18 @@ static void test_tables(void) {
     for (size_t i = 0; i < sizeof sizes / sizeof *sizes; i++) {
         struct host host = node(2);
         host.table_size = sizes[i];
-        EXPECT_NUMBER(take(&host, &call), GRASP_BAD_TABLE);
+        EXPECT_NUMBER(take(&host, &call), GRASP_REFUSAL_BAD_TABLE);
     }
     for (size_t i = 0; i < sizeof bad / sizeof *bad; i++) {
         struct host host = node(2);
         memcpy(host.table + 2016, hex(bad[i]).at, 16);
-        EXPECT_NUMBER(take(&host, &call), GRASP_BAD_TABLE);
+        EXPECT_NUMBER(take(&host, &call), GRASP_REFUSAL_BAD_TABLE);
     }
     {
         struct host host = node(2);
         memcpy(host.table, hex("00000001 00000001").at, 8);
         host.table[31] = 2; /* admitted after the clock */
-        EXPECT_NUMBER(take(&host, &call), GRASP_BAD_TABLE);
+        EXPECT_NUMBER(take(&host, &call), GRASP_REFUSAL_BAD_TABLE);
         host.table[31] = 1;
         EXPECT_NUMBER(take(&host, &call), 0);
     }
@@ -366,28 +414,29 @@ static void test_tables(void) {
 
 /* Interfaces and links that are none, also by bits that a narrower number would lose. */
 static void test_records(void) {
-    static const uint64_t counts[] = {0, 9, 256 + 2, ((uint64_t)1 << 32) + 2, UINT64_MAX};
+    static const uint64_t counts[] = {0, GRASP_MAX_INTERFACES + 1, 256 + 2, ((uint64_t)1 << 32) + 2,
+                                      UINT64_MAX};
     static const uint64_t masks[] = {4, 256 + 1, ((uint64_t)1 << 63) + 1, UINT64_MAX};
     const struct call call = called(1, 0, "80", "81 00");
     struct host host = node(2), bad;
     for (size_t i = 0; i < sizeof counts / sizeof *counts; i++) {
-        EXPECT_NUMBER(fresh(&host, counts[i], 0), GRASP_BAD_RECORD);
+        EXPECT_NUMBER(fresh(&host, counts[i], 0), GRASP_REFUSAL_BAD_RECORD);
         bad = host;
-        bad.record[GRASP_RECORD_INTERFACES] = counts[i];
+        bad.record[GRASP_NUMBER_INTERFACES] = counts[i];
         if (form == IN_PLACE && !has_struct(&bad))
             continue;
-        EXPECT_NUMBER(take(&bad, &call), GRASP_BAD_RECORD);
-        EXPECT_NUMBER(set_links(&bad, 0), GRASP_BAD_RECORD);
+        EXPECT_NUMBER(take(&bad, &call), GRASP_REFUSAL_BAD_RECORD);
+        EXPECT_NUMBER(set_links(&bad, 0), GRASP_REFUSAL_BAD_RECORD);
     }
     for (size_t i = 0; i < sizeof masks / sizeof *masks; i++) {
-        EXPECT_NUMBER(fresh(&host, 2, masks[i]), GRASP_BAD_RECORD);
-        EXPECT_NUMBER(set_links(&host, masks[i]), GRASP_BAD_LINK);
+        EXPECT_NUMBER(fresh(&host, 2, masks[i]), GRASP_REFUSAL_BAD_RECORD);
+        EXPECT_NUMBER(set_links(&host, masks[i]), GRASP_REFUSAL_BAD_LINK);
         bad = host;
-        bad.record[GRASP_RECORD_LINKS] = masks[i];
+        bad.record[GRASP_NUMBER_LINKS] = masks[i];
         if (form == IN_PLACE && !has_struct(&bad))
             continue;
-        EXPECT_NUMBER(take(&bad, &call), GRASP_BAD_RECORD);
-        EXPECT_NUMBER(set_links(&bad, 0), GRASP_BAD_RECORD);
+        EXPECT_NUMBER(take(&bad, &call), GRASP_REFUSAL_BAD_RECORD);
+        EXPECT_NUMBER(set_links(&bad, 0), GRASP_REFUSAL_BAD_RECORD);
     }
 }
 
@@ -395,37 +444,37 @@ static void test_records(void) {
 static void test_wide_numbers(void) {
     static const uint64_t widths[] = {16, 32, 8, 8};
     const struct call call = called(1, 0, "80", "81 00");
-    for (size_t field = GRASP_RECORD_PORT; field <= GRASP_RECORD_LINKS; field++) {
+    for (size_t field = GRASP_NUMBER_PORT; field <= GRASP_NUMBER_LINKS; field++) {
         struct host host = node(2);
         host.record[field] += (uint64_t)1 << widths[field];
-        EXPECT_NUMBER(take(&host, &call), GRASP_BAD_RECORD);
-        EXPECT_NUMBER(set_links(&host, 0), GRASP_BAD_RECORD);
+        EXPECT_NUMBER(take(&host, &call), GRASP_REFUSAL_BAD_RECORD);
+        EXPECT_NUMBER(set_links(&host, 0), GRASP_REFUSAL_BAD_RECORD);
     }
 }
 
 /* A record of all ones, interfaces that aren't there or down, and links that come and go. */
 static void test_links(void) {
-    static const uint64_t none[] = {2, 8, 64, 256, (uint64_t)1 << 32, UINT64_MAX};
+    static const uint64_t none[] = {2, GRASP_MAX_INTERFACES, 64, 256, (uint64_t)1 << 32, UINT64_MAX};
     const struct call good = called(1, 0, "80", "81 00");
     struct host host = node(2), bad = host;
     memset(bad.record, 0xFF, sizeof bad.record);
     if (form == IN_PLACE)
         memcpy(bad.record, (uint64_t[]){UINT16_MAX, UINT32_MAX, UINT8_MAX, UINT8_MAX},
                4 * sizeof *bad.record);
-    EXPECT_NUMBER(take(&bad, &good), GRASP_BAD_RECORD);
-    EXPECT_NUMBER(set_links(&bad, UINT64_MAX), GRASP_BAD_RECORD);
+    EXPECT_NUMBER(take(&bad, &good), GRASP_REFUSAL_BAD_RECORD);
+    EXPECT_NUMBER(set_links(&bad, UINT64_MAX), GRASP_REFUSAL_BAD_RECORD);
     for (size_t i = 0; i < sizeof none / sizeof *none; i++) {
         const struct call call = called(1, none[i], "80", "81 00");
-        EXPECT_NUMBER(take(&host, &call), GRASP_BAD_LINK);
+        EXPECT_NUMBER(take(&host, &call), GRASP_REFUSAL_BAD_LINK);
     }
     EXPECT_NUMBER(set_links(&host, 2), 0);
-    EXPECT_NUMBER(host.record[GRASP_RECORD_LINKS], 2);
-    EXPECT_NUMBER(take(&host, &good), GRASP_BAD_LINK);
+    EXPECT_NUMBER(host.record[GRASP_NUMBER_LINKS], 2);
+    EXPECT_NUMBER(take(&host, &good), GRASP_REFUSAL_BAD_LINK);
     EXPECT_NUMBER(set_links(&host, 0), 0);
     EXPECT_NUMBER(set_links(&host, 3), 0);
     EXPECT_NUMBER(take(&host, &good), 0);
-    EXPECT_NUMBER(host.record[GRASP_RECORD_PORT], 7017);
-    EXPECT_NUMBER(host.record[GRASP_RECORD_TTL], 60000);
+    EXPECT_NUMBER(host.record[GRASP_NUMBER_PORT], 7017);
+    EXPECT_NUMBER(host.record[GRASP_NUMBER_TTL], 60000);
 }
 
 void test_node(void) {
@@ -437,6 +486,7 @@ void test_node(void) {
         test_order();
         test_bad_messages();
         test_names();
+        test_own_names();
         test_tables();
         test_records();
         test_links();

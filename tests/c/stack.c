@@ -17,11 +17,11 @@ static ucontext_t back, there;
 /* What the calls are given and fill. */
 static const uint8_t address[GRASP_ADDRESS_BYTES] = {0x20, 0x01, 0x0D, 0xB8};
 static const uint8_t names[] = {0x81, 0x63, 'E', 'X', '2'};
-static uint8_t message[GRASP_MESSAGE_BYTES], table[GRASP_TABLE_BYTES], out[GRASP_MESSAGE_BYTES];
+static uint8_t message[GRASP_MAX_MESSAGE_BYTES], table[GRASP_TABLE_BYTES], out[GRASP_MAX_MESSAGE_BYTES];
 static size_t length;
-static uint64_t fields[GRASP_FIELDS], rows[400 * GRASP_PAIR_FIELDS], numbers[GRASP_RECORD_FIELDS],
+static uint64_t fields[GRASP_MESSAGE_FIELDS], rows[400 * GRASP_PAIR_FIELDS], numbers[GRASP_NUMBER_FIELDS],
     answer[GRASP_ANSWER_FIELDS], state[GRASP_STATE_FIELDS];
-static struct grasp_record node;
+static struct grasp_record node = GRASP_RECORD_INIT;
 static size_t listed;
 static uint8_t answered;
 
@@ -69,20 +69,18 @@ static void describe(void) {
     size_t at;
     flood();
     grasp_read(message, length, fields);
-    at = (size_t)fields[GRASP_LIST_AT];
-    for (listed = 0; listed < fields[GRASP_LIST_MANY]; listed++) {
+    at = (size_t)fields[GRASP_MESSAGE_LIST_AT];
+    for (listed = 0; listed < fields[GRASP_MESSAGE_LIST_MANY]; listed++) {
         at = grasp_pair(message, length, at, rows + listed * GRASP_PAIR_FIELDS);
-        rows[listed * GRASP_PAIR_FIELDS + GRASP_PAIR_COUNT_AT] = 0;
+        grasp_pair_to_write(rows + listed * GRASP_PAIR_FIELDS);
     }
-    for (int field = GRASP_HAS_OBJECTIVE; field <= GRASP_VALUE_LEN; field++)
-        fields[field] = 0;
-    fields[GRASP_LIST_AT] = 0;
+    grasp_message_to_write(fields);
 }
 
 static void fresh_node(void) {
     memset(table, 0, sizeof table);
-    grasp_fresh(address, 7017, 60000, 8, 0xFF, numbers);
-    grasp_record_fresh(&node, address, 7017, 60000, 8, 0xFF);
+    grasp_fresh(address, 7017, 60000, GRASP_MAX_INTERFACES, 0xFF, numbers);
+    grasp_record_fresh(&node, address, 7017, 60000, GRASP_MAX_INTERFACES, 0xFF);
 }
 
 static void flooded_node(void) {
@@ -106,7 +104,9 @@ static void write(void) {
         grasp_write(message, length, rows, listed * GRASP_PAIR_FIELDS, fields, out, sizeof out, answer);
 }
 
-static void record_fresh(void) { answered = grasp_record_fresh(&node, address, 7017, 60000, 8, 0xFF); }
+static void record_fresh(void) {
+    answered = grasp_record_fresh(&node, address, 7017, 60000, GRASP_MAX_INTERFACES, 0xFF);
+}
 
 static void record_set_links(void) { answered = grasp_record_set_links(&node, 0x7F); }
 
@@ -115,7 +115,7 @@ static void record_call(void) {
                                  sizeof out, answer);
 }
 
-static void begin(void) { answered = grasp_fresh(address, 7017, 60000, 8, 0xFF, numbers); }
+static void begin(void) { answered = grasp_fresh(address, 7017, 60000, GRASP_MAX_INTERFACES, 0xFF, numbers); }
 
 static void set_links(void) { answered = grasp_set_links(address, numbers, 0x7F); }
 
@@ -125,7 +125,9 @@ static void node_call(void) {
 }
 
 /* A Flood is read, which goes deepest, and then not allowed. */
-static void step(void) { answered = grasp_step(state, message, length, GRASP_THEY) != GRASP_NOT_ALLOWED; }
+static void step(void) {
+    answered = grasp_step(state, message, length, GRASP_SIDE_THEY) != GRASP_REFUSAL_NOT_ALLOWED;
+}
 
 static const struct {
     const char *name;

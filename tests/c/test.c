@@ -12,8 +12,10 @@
 
 enum { PAGE = 4096, AREA = 4 * PAGE, NUMBERS = 256 };
 
-/* Where lent memory touches the page that can't be touched. */
-static enum { AT_FRONT, AT_END, SIDES } side;
+/* Where lent memory touches the page that can't be touched; at last also what has no bytes is lent as NULL.
+ */
+static enum { AT_FRONT, AT_END, AT_END_OR_NULL, SIDES } side;
+static const char *const sides[SIDES] = {"at the front", "at the end", "at the end, or NULL"};
 
 static struct {
     uint8_t *area, *at;
@@ -27,7 +29,7 @@ void expect(int holds, const char *file, int line, const char *what) {
     if (holds)
         return;
     failures++;
-    printf("%s:%d: not so (memory at the %s): %s\n", file, line, side == AT_FRONT ? "front" : "end", what);
+    printf("%s:%d: not so (memory %s): %s\n", file, line, sides[side % SIDES], what);
 }
 
 void expect_number(uint64_t is, uint64_t wanted, const char *file, int line, const char *what) {
@@ -60,7 +62,7 @@ void *lend(enum lent what, const void *content, size_t len) {
     memcpy(all_lent[what].before, area, AREA);
     all_lent[what].at = at;
     all_lent[what].len = len;
-    return at;
+    return side == AT_END_OR_NULL && len == 0 ? NULL : at;
 }
 
 int has_margins(enum lent what) {
@@ -120,8 +122,8 @@ int are_same(struct bytes bytes, const void *others, size_t len) {
 /* Every refusal and every verdict was met. */
 static void test_all_met(void) {
     for (int number = 0; number < NUMBERS; number++) {
-        EXPECT((refusals[number] > 0) == (number <= GRASP_NOT_ALLOWED));
-        EXPECT((verdicts[number] > 0) == (number >= GRASP_OWN && number <= GRASP_HAND));
+        EXPECT((refusals[number] > 0) == (number <= GRASP_REFUSAL_NOT_ALLOWED));
+        EXPECT((verdicts[number] > 0) == (number >= GRASP_VERDICT_OWN && number <= GRASP_VERDICT_HAND));
     }
 }
 

@@ -20,7 +20,8 @@ enum lent { BYTES, LIST, FIELDS, OUT, LENGTH, ADDRESS, RECORD, TABLE, NAMES, ANS
 
 /*
  * Lends so many bytes between a page that can't be touched and others that must
- * stay; where there is no content, numbers that no call gives.
+ * stay; where there is no content, numbers that no call gives. No bytes may be
+ * lent as NULL.
  */
 void *lend(enum lent what, const void *content, size_t len);
 
@@ -35,7 +36,7 @@ uint64_t saw_verdict(uint64_t verdict);
 
 /* A message or other bytes. */
 struct bytes {
-    uint8_t at[2 * GRASP_MESSAGE_BYTES];
+    uint8_t at[2 * GRASP_MAX_MESSAGE_BYTES];
     size_t len;
 };
 
@@ -53,6 +54,6 @@ void test_negotiation(void);
 void test_numbers(void);
 
 /* Reads with all margins looked at; what is refused leaves the block. */
-uint8_t read_bytes(struct bytes bytes, uint64_t fields[GRASP_FIELDS]);
+uint8_t read_bytes(struct bytes bytes, uint64_t fields[GRASP_MESSAGE_FIELDS]);
 
 #endif

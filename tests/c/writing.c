@@ -5,7 +5,7 @@
 
 /* What is to be written: a block, a list and a source. */
 struct description {
-    uint64_t fields[GRASP_FIELDS], list[8 * GRASP_PAIR_FIELDS];
+    uint64_t fields[GRASP_MESSAGE_FIELDS], list[8 * GRASP_PAIR_FIELDS];
     size_t numbers;
     struct bytes source;
 };
@@ -15,22 +15,19 @@ static struct description described(struct bytes message) {
     struct description it = {{0}, {0}, 0, message};
     size_t at, row;
     EXPECT_NUMBER(read_bytes(message, it.fields), 0);
-    at = (size_t)it.fields[GRASP_LIST_AT];
-    for (uint64_t i = 0; i < it.fields[GRASP_LIST_MANY]; i++) {
+    at = (size_t)it.fields[GRASP_MESSAGE_LIST_AT];
+    for (uint64_t i = 0; i < it.fields[GRASP_MESSAGE_LIST_MANY]; i++) {
         row = it.numbers;
-        if (it.fields[GRASP_LIST] == GRASP_LIST_PAIRS) {
+        if (it.fields[GRASP_MESSAGE_LIST] == GRASP_LIST_PAIRS) {
             at = grasp_pair(message.at, message.len, at, it.list + row);
-            it.list[row + GRASP_PAIR_COUNT_AT] = 0;
+            grasp_pair_to_write(it.list + row);
             it.numbers += GRASP_PAIR_FIELDS;
         } else {
             at = grasp_locator(message.at, message.len, at, it.list + row);
             it.numbers += GRASP_LOCATOR_FIELDS;
         }
     }
-    if (it.fields[GRASP_LIST] == GRASP_LIST_PAIRS)
-        memset(it.fields + GRASP_HAS_OBJECTIVE, 0, (GRASP_LIST - GRASP_HAS_OBJECTIVE) * sizeof *it.fields);
-    it.fields[GRASP_COUNT_AT] = 0;
-    it.fields[GRASP_LIST_AT] = 0;
+    grasp_message_to_write(it.fields);
     return it;
 }
 
@@ -41,9 +38,8 @@ static uint8_t write_to(const struct description *it, size_t size, struct bytes 
     const uint64_t *fields = lend(FIELDS, it->fields, sizeof it->fields);
     uint8_t *out = lend(OUT, NULL, size);
     uint64_t *length = lend(LENGTH, NULL, sizeof *length);
-    uint8_t before[2 * GRASP_MESSAGE_BYTES], refusal;
-    memcpy(before, out, size);
-    refusal = saw_refusal(grasp_write(source, it->source.len, list, it->numbers, fields, out, size, length));
+    uint8_t refusal =
+        saw_refusal(grasp_write(source, it->source.len, list, it->numbers, fields, out, size, length));
     EXPECT(is_as_lent(BYTES) && is_as_lent(LIST) && is_as_lent(FIELDS));
     EXPECT(has_margins(OUT) && has_margins(LENGTH));
     EXPECT(refusal == 0 || (is_as_lent(OUT) && is_as_lent(LENGTH)));
@@ -65,10 +61,10 @@ static void test_again(const char *digits) {
     EXPECT(are_same(written, message.at, message.len));
     EXPECT_NUMBER(write_to(&it, message.len + 5, &written), 0);
     EXPECT(are_same(written, message.at, message.len));
-    EXPECT_NUMBER(write_to(&it, message.len - 1, &written), GRASP_SHORT_OUTPUT);
-    EXPECT_NUMBER(write_to(&it, 0, &written), GRASP_SHORT_OUTPUT);
+    EXPECT_NUMBER(write_to(&it, message.len - 1, &written), GRASP_REFUSAL_WRITE_OUTPUT);
+    EXPECT_NUMBER(write_to(&it, 0, &written), GRASP_REFUSAL_WRITE_OUTPUT);
     it.numbers++;
-    EXPECT_NUMBER(write_to(&it, message.len, &written), GRASP_NO_SUCH_MESSAGE);
+    EXPECT_NUMBER(write_to(&it, message.len, &written), GRASP_REFUSAL_NO_SUCH_MESSAGE);
 }
 
 /* Any field or number of the list that is all ones is in no message without empty spans; 18 comes before 19.
@@ -77,21 +73,21 @@ static void test_all_ones(const char *digits) {
     const struct description it = described(hex(digits));
     struct description other;
     struct bytes written;
-    for (size_t field = 0; field < GRASP_FIELDS; field++) {
+    for (size_t field = 0; field < GRASP_MESSAGE_FIELDS; field++) {
         other = it;
         other.fields[field] = UINT64_MAX;
-        EXPECT_NUMBER(write_to(&other, 0, &written), GRASP_NO_SUCH_MESSAGE);
+        EXPECT_NUMBER(write_to(&other, 0, &written), GRASP_REFUSAL_NO_SUCH_MESSAGE);
     }
     for (size_t number = 0; number < it.numbers; number++) {
         other = it;
         other.list[number] = UINT64_MAX;
-        EXPECT_NUMBER(write_to(&other, 0, &written), GRASP_NO_SUCH_MESSAGE);
+        EXPECT_NUMBER(write_to(&other, 0, &written), GRASP_REFUSAL_NO_SUCH_MESSAGE);
     }
     other = it;
     memset(other.fields, 0xFF, sizeof other.fields);
     memset(other.list, 0xFF, sizeof other.list);
-    EXPECT_NUMBER(write_to(&other, 2048, &written), GRASP_NO_SUCH_MESSAGE);
-    EXPECT_NUMBER(write_to(&other, 0, &written), GRASP_NO_SUCH_MESSAGE);
+    EXPECT_NUMBER(write_to(&other, GRASP_MAX_MESSAGE_BYTES, &written), GRASP_REFUSAL_NO_SUCH_MESSAGE);
+    EXPECT_NUMBER(write_to(&other, 0, &written), GRASP_REFUSAL_NO_SUCH_MESSAGE);
 }
 
 /* A list with a number less, or a row more or less, than is said, and a shorter source. */
@@ -102,16 +98,16 @@ static void test_lengths(const char *digits, size_t row) {
     struct bytes written;
     for (size_t i = 0; i < sizeof lengths / sizeof *lengths; i++) {
         other.numbers = lengths[i];
-        EXPECT_NUMBER(write_to(&other, 2048, &written), GRASP_NO_SUCH_MESSAGE);
+        EXPECT_NUMBER(write_to(&other, GRASP_MAX_MESSAGE_BYTES, &written), GRASP_REFUSAL_NO_SUCH_MESSAGE);
     }
     other = it;
-    other.fields[GRASP_LIST_MANY]++;
-    EXPECT_NUMBER(write_to(&other, 2048, &written), GRASP_NO_SUCH_MESSAGE);
+    other.fields[GRASP_MESSAGE_LIST_MANY]++;
+    EXPECT_NUMBER(write_to(&other, GRASP_MAX_MESSAGE_BYTES, &written), GRASP_REFUSAL_NO_SUCH_MESSAGE);
     other = it;
     other.source.len = 5;
-    EXPECT_NUMBER(write_to(&other, 2048, &written), GRASP_NO_SUCH_MESSAGE);
+    EXPECT_NUMBER(write_to(&other, GRASP_MAX_MESSAGE_BYTES, &written), GRASP_REFUSAL_NO_SUCH_MESSAGE);
     other.source.len = 0;
-    EXPECT_NUMBER(write_to(&other, 2048, &written), GRASP_NO_SUCH_MESSAGE);
+    EXPECT_NUMBER(write_to(&other, GRASP_MAX_MESSAGE_BYTES, &written), GRASP_REFUSAL_NO_SUCH_MESSAGE);
 }
 
 /* A Noop of no source and no list; a message over 2,048 bytes; 23 and 24 in one and two bytes. */
@@ -120,22 +116,22 @@ static void test_edges(void) {
     struct bytes written;
     EXPECT_NUMBER(write_to(&it, 2, &written), 0);
     EXPECT(are_same(written, "\x81\x00", 2));
-    it.fields[GRASP_KIND] = GRASP_WAIT;
-    it.fields[GRASP_SESSION] = 24;
-    it.fields[GRASP_TTL] = 23;
-    EXPECT_NUMBER(write_to(&it, 2048, &written), 0);
+    it.fields[GRASP_MESSAGE_KIND] = GRASP_KIND_WAIT;
+    it.fields[GRASP_MESSAGE_SESSION] = 24;
+    it.fields[GRASP_MESSAGE_TTL] = 23;
+    EXPECT_NUMBER(write_to(&it, GRASP_MAX_MESSAGE_BYTES, &written), 0);
     EXPECT(are_same(written, "\x83\x07\x18\x18\x17", 5));
-    it.fields[GRASP_TTL] = (uint64_t)1 << 32;
-    EXPECT_NUMBER(write_to(&it, 2048, &written), GRASP_NO_SUCH_MESSAGE);
-    for (size_t length = 2048; length <= 2049; length++) {
+    it.fields[GRASP_MESSAGE_TTL] = (uint64_t)1 << 32;
+    EXPECT_NUMBER(write_to(&it, GRASP_MAX_MESSAGE_BYTES, &written), GRASP_REFUSAL_NO_SUCH_MESSAGE);
+    for (size_t length = GRASP_MAX_MESSAGE_BYTES; length <= GRASP_MAX_MESSAGE_BYTES + 1; length++) {
         it = (struct description){{0}, {0}, 0, hex("59")};
-        it.fields[GRASP_KIND] = GRASP_INVALID;
+        it.fields[GRASP_MESSAGE_KIND] = GRASP_KIND_INVALID;
         append_byte(&it.source, (uint8_t)((length - 7) >> 8), 1);
         append_byte(&it.source, (uint8_t)(length - 7), 1);
         append_byte(&it.source, 0xFF, length - 7);
-        it.fields[GRASP_ITEM_LEN] = it.source.len;
-        EXPECT_NUMBER(write_to(&it, 2 * GRASP_MESSAGE_BYTES, &written),
-                      length == 2048 ? GRASP_ACCEPTED : GRASP_NO_SUCH_MESSAGE);
+        it.fields[GRASP_MESSAGE_ITEM_LEN] = it.source.len;
+        EXPECT_NUMBER(write_to(&it, 2 * GRASP_MAX_MESSAGE_BYTES, &written),
+                      length == GRASP_MAX_MESSAGE_BYTES ? GRASP_OK : GRASP_REFUSAL_NO_SUCH_MESSAGE);
     }
 }
 

@@ -60,10 +60,10 @@ lower-judged turn session count named objective same =
     pick-case J (eqb (objective .count) 0) (λ _. refl)
     (λ e.
     let least = eqb-false (objective .count) 0 e in
-    pick-case J (eqb (objective .count + 1) count)
+    pick-case J _
     (λ lower.
     Allowed.negotiate (record { ofKind = refl; ofSession = ap Session.Number same }) (record { objective = objective; has = refl; is = refl })
-    (omega arith) (eqb-true (objective .count + 1) count lower))
+    (omega arith) (eqb-true _ _ lower))
     (λ _. refl))
   where
     J : Stepped → Type 0
@@ -104,7 +104,7 @@ state-judged sender m (Open session count turn) =
     pick-case J (eqb count 0) (λ _. refl)
     (λ e.
     let some = eqb-false count 0 e in
-    pick-case J (sameSide sender turn)
+    pick-case J _
     (λ same.
     subst (λ (side : Side). Judged side m (Open session count turn) (turnStep session count turn (moveOf m))) (same-side sender turn same)
     (turn-judged turn session count (omega arith) m))

@@ -5,10 +5,10 @@
 pub const TABLE_BYTES: usize = 2_048;
 
 /// A record over numbers: how many there are, and where some of them stand.
-pub const RECORD_FIELDS: usize = 6;
-pub const RECORD_INTERFACES: usize = 2;
-pub const RECORD_CLOCK: usize = 4;
-pub const RECORD_TALLY: usize = 5;
+pub const NUMBER_FIELDS: usize = 6;
+pub const NUMBER_INTERFACES: usize = 2;
+pub const NUMBER_CLOCK: usize = 4;
+pub const NUMBER_TALLY: usize = 5;
 
 /// The numbers of a node call's answer, of which this is the verdict's place.
 pub const ANSWER_FIELDS: usize = 4;

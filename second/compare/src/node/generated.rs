@@ -2,7 +2,7 @@
 
 use std::iter::repeat_with;
 
-use archive::{RECORD_CLOCK, RECORD_FIELDS, TABLE_BYTES};
+use archive::{NUMBER_CLOCK, NUMBER_FIELDS, TABLE_BYTES};
 use second::node::{Fresh, Given};
 use second::random::Random;
 use second::vectors::damage::damaged;
@@ -189,7 +189,7 @@ fn tampered(random: &mut Random, history: History) -> History {
             continue;
         };
         let mut numbers = good;
-        numbers[RECORD_CLOCK] = given.clock.saturating_sub(random.below(2) as u64);
+        numbers[NUMBER_CLOCK] = given.clock.saturating_sub(random.below(2) as u64);
         let (before, after) = match random.below(4) {
             0 => tamper(random, numbers),
             _ => (vec![], vec![]),
@@ -204,7 +204,7 @@ fn tampered(random: &mut Random, history: History) -> History {
 }
 
 /// The numbers of a good record with the history's interfaces.
-fn good_numbers(history: &History) -> [u64; RECORD_FIELDS] {
+fn good_numbers(history: &History) -> [u64; NUMBER_FIELDS] {
     let interfaces = match history.steps.first() {
         Some(Step::Fresh(fresh)) => fresh.count.clamp(1, 8),
         _ => 1,
@@ -213,7 +213,7 @@ fn good_numbers(history: &History) -> [u64; RECORD_FIELDS] {
 }
 
 /// Something put, and what mends it; these numbers are a good record's.
-fn tamper(random: &mut Random, numbers: [u64; RECORD_FIELDS]) -> (Vec<Step>, Vec<Step>) {
+fn tamper(random: &mut Random, numbers: [u64; NUMBER_FIELDS]) -> (Vec<Step>, Vec<Step>) {
     let address = [0x20; 16];
     let mended = vec![Step::Record(address, numbers)];
     let row = random.below(64);
@@ -221,7 +221,7 @@ fn tamper(random: &mut Random, numbers: [u64; RECORD_FIELDS]) -> (Vec<Step>, Vec
     let at = ROW_BYTES * row + random.below(ROW_BYTES);
     match random.below(8) {
         0 | 1 => {
-            let field = random.below(RECORD_FIELDS);
+            let field = random.below(NUMBER_FIELDS);
             let number = wide(random, numbers[field]);
             (vec![Step::Number(field, number)], mended)
         }

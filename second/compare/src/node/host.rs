@@ -1,6 +1,6 @@
 //! What a host keeps and lends to the library.
 
-use archive::{ANSWER_FIELDS, RECORD_FIELDS, RECORD_TALLY, TABLE_BYTES};
+use archive::{ANSWER_FIELDS, NUMBER_FIELDS, NUMBER_TALLY, TABLE_BYTES};
 use second::history::Called;
 use second::message::MOST_BYTES;
 use second::node::{Answer, Fresh, Given, Verdict, ROWS};
@@ -50,7 +50,7 @@ impl Default for Host {
         Host {
             returned: 0,
             address: [0; 16],
-            numbers: Guarded::numbers(RECORD_FIELDS),
+            numbers: Guarded::numbers(NUMBER_FIELDS),
             table: Guarded::bytes(MOST_TABLE),
             length: TABLE_BYTES,
             out: Guarded::bytes(MOST_BYTES),
@@ -65,7 +65,7 @@ impl Host {
     }
 
     pub fn tally(&self) -> u64 {
-        self.numbers.content()[RECORD_TALLY]
+        self.numbers.content()[NUMBER_TALLY]
     }
 
     /// The first difference after the same step.

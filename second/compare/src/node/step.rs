@@ -2,7 +2,7 @@
 
 use std::fmt::{self, Display, Formatter};
 
-use archive::{ANSWER_FIELDS, RECORD_FIELDS, TABLE_BYTES};
+use archive::{ANSWER_FIELDS, NUMBER_FIELDS, TABLE_BYTES};
 use second::node::{Fresh, Given, Record};
 use second::vectors::node::Op;
 use second::vectors::{hex, in_bytes};
@@ -19,7 +19,7 @@ pub enum Step {
     Links(u64),
     Call(Given),
     /// Another address and other numbers in the record's place.
-    Record([u8; 16], [u64; RECORD_FIELDS]),
+    Record([u8; 16], [u64; NUMBER_FIELDS]),
     /// Another number in the place of one of the record's.
     Number(usize, u64),
     /// Other bytes in the table.
@@ -31,7 +31,7 @@ pub enum Step {
 }
 
 /// The numbers of a record as C has them.
-pub fn numbers_of(record: &Record) -> [u64; RECORD_FIELDS] {
+pub fn numbers_of(record: &Record) -> [u64; NUMBER_FIELDS] {
     [
         u64::from(record.port),
         u64::from(record.ttl),
