@@ -20,8 +20,8 @@ use crate::rows::PAIR_ROW;
 use crate::spans;
 use cbor::item;
 use cbor::item::ItemRead;
-use options::Outcome;
 use options::Span;
+use options::outcome::Outcome;
 
 // Whether the description speaks of a message: a list only where the kind has one, and all its parts in order.
 pub fn ok_described(source: &[u8], list: &[u64], m: Description) -> bool

@@ -1,7 +1,7 @@
 // What is to be written: a message described by numbers and by spans of a source, its locators or pairs as rows of a
 // list; and which descriptions speak of a message.
-use options::Outcome;
 use options::Span;
+use options::outcome::Outcome;
 
 pub mod counts;
 pub mod judge;

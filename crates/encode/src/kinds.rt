@@ -16,8 +16,8 @@ use description::counts;
 use description::rows;
 use description::rows::LOCATOR_ROW;
 use description::rows::PAIR_ROW;
-use options::Outcome;
 use options::Span;
+use options::outcome::Outcome;
 
 // The message of a description.
 pub(crate) fn put_message(out: &mut [u8], source: &[u8], list: &[u64], m: Description) -> usize

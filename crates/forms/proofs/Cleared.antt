@@ -9,7 +9,7 @@ use lib.Dec.{lit<}
 use lib.Seq.{sets}
 use Rattle.base.specs.Pick.{pick}
 use Rattle.options.specs.declared.Span.{Span}
-use Rattle.options.specs.declared.Outcome.{Outcome}
+use Rattle.options.specs.declared.outcome.Outcome.{Outcome}
 use Rattle.message.specs.declared.Targets.{Targets}
 use Rattle.message.specs.declared.Extra.{Extra}
 use Rattle.message.specs.declared.Message.{Message}
@@ -30,10 +30,10 @@ response-cleared : (session : ℕ) (i : Span) (ttl : ℕ) (targets : Targets) (e
     → cleared (responseBlock session i ttl targets extra)
     ≡ blockFor (D.Response session i ttl (isDivert targets) (givenExtra extra)) (rowNumbers (targetRows targets))
 unfolding cleared pick responseBlock targetsBlock withExtra withObjective frontBlock withSeries sets blockFor isDivert givenExtra givenOf targetRows rowNumbers
-response-cleared session i ttl (Targets.Locators series) Extra.Without = rw (mul-div-cancel-left (series .many) {n = 5} (lit< tt))
-response-cleared session i ttl (Targets.Locators series) (Extra.With o) = rw (mul-div-cancel-left (series .many) {n = 5} (lit< tt))
-response-cleared session i ttl (Targets.Divert series) Extra.Without = rw (mul-div-cancel-left (series .many) {n = 5} (lit< tt))
-response-cleared session i ttl (Targets.Divert series) (Extra.With o) = rw (mul-div-cancel-left (series .many) {n = 5} (lit< tt))
+response-cleared session i ttl (Targets.Locators first series) Extra.Without = rw (mul-div-cancel-left (series .many) {n = 5} (lit< tt))
+response-cleared session i ttl (Targets.Locators first series) (Extra.With o) = rw (mul-div-cancel-left (series .many) {n = 5} (lit< tt))
+response-cleared session i ttl (Targets.Divert first series) Extra.Without = rw (mul-div-cancel-left (series .many) {n = 5} (lit< tt))
+response-cleared session i ttl (Targets.Divert first series) (Extra.With o) = rw (mul-div-cancel-left (series .many) {n = 5} (lit< tt))
 
 -- an End's
 end-cleared : (session : ℕ) (outcome : Outcome) → cleared (endBlock session outcome) ≡ blockFor (D.End session outcome) 0
@@ -51,18 +51,18 @@ invalid-cleared session item = refl
 response-objective : (session : ℕ) (i : Span) (ttl : ℕ) (targets : Targets) (extra : Extra)
     → take 8 (drop 5 (responseBlock session i ttl targets extra)) ≡ objectiveRead extra
 unfolding responseBlock targetsBlock withExtra withObjective frontBlock withSeries sets
-response-objective session i ttl (Targets.Locators series) Extra.Without = refl
-response-objective session i ttl (Targets.Locators series) (Extra.With o) = refl
-response-objective session i ttl (Targets.Divert series) Extra.Without = refl
-response-objective session i ttl (Targets.Divert series) (Extra.With o) = refl
+response-objective session i ttl (Targets.Locators first series) Extra.Without = refl
+response-objective session i ttl (Targets.Locators first series) (Extra.With o) = refl
+response-objective session i ttl (Targets.Divert first series) Extra.Without = refl
+response-objective session i ttl (Targets.Divert first series) (Extra.With o) = refl
 
 response-first : (session : ℕ) (i : Span) (ttl : ℕ) (targets : Targets) (extra : Extra)
     → getD (responseBlock session i ttl targets extra) 14 0 ≡ firstAt (targetRows targets)
 unfolding responseBlock targetsBlock withExtra withObjective frontBlock withSeries sets targetRows
-response-first session i ttl (Targets.Locators series) Extra.Without = refl
-response-first session i ttl (Targets.Locators series) (Extra.With o) = refl
-response-first session i ttl (Targets.Divert series) Extra.Without = refl
-response-first session i ttl (Targets.Divert series) (Extra.With o) = refl
+response-first session i ttl (Targets.Locators first series) Extra.Without = refl
+response-first session i ttl (Targets.Locators first series) (Extra.With o) = refl
+response-first session i ttl (Targets.Divert first series) Extra.Without = refl
+response-first session i ttl (Targets.Divert first series) (Extra.With o) = refl
 
 -- and in an End
 end-bare : (session : ℕ) (outcome : Outcome)

@@ -16,7 +16,7 @@ use Rattle.base.specs.Bits.{hasBit}
 use Rattle.base.specs.Lists.{Every}
 use Rattle.base.proofs.Picks.{pick-case}
 use Rattle.options.specs.declared.Span.{Span}
-use Rattle.options.specs.declared.Outcome.{Outcome}
+use Rattle.options.specs.declared.outcome.Outcome.{Outcome}
 use Rattle.options.specs.Text.{spanOf}
 use Rattle.message.specs.Opening.{mostNumber}
 use Rattle.description.specs.declared.GivenExtra.{GivenExtra}

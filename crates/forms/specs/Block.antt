@@ -10,7 +10,7 @@ use Rattle.options.specs.Pair.{objectiveNumbers}
 use Rattle.message.specs.declared.Series.{Series}
 use Rattle.message.specs.declared.Targets.{Targets}
 use Rattle.message.specs.declared.Extra.{Extra}
-use Rattle.options.specs.declared.Outcome.{Outcome}
+use Rattle.options.specs.declared.outcome.Outcome.{Outcome}
 use Rattle.message.specs.declared.Message.{Message}
 use Rattle.message.specs.declared.Message.the-variants as M
 
@@ -46,8 +46,8 @@ withSeries b sort series = sets b 13 (sort ∷ series .at ∷ series .many ∷ [
 
 -- a Response's locators or its divert
 unfoldable pub targetsBlock : List ℕ → Targets → List ℕ
-targetsBlock b (Targets.Locators series) = withSeries b 1 series
-targetsBlock b (Targets.Divert series) = withSeries b 2 series
+targetsBlock b (Targets.Locators first series) = withSeries b 1 series
+targetsBlock b (Targets.Divert first series) = withSeries b 2 series
 
 -- a Response
 unfoldable pub responseBlock : ℕ → Span → ℕ → Targets → Extra → List ℕ

@@ -9,7 +9,7 @@ use lib.Seq.{sets}
 use lib.Dec.{eqb}
 use Rattle.base.specs.Pick.{pick}
 use Rattle.options.specs.declared.Span.{Span}
-use Rattle.options.specs.declared.Outcome.{Outcome}
+use Rattle.options.specs.declared.outcome.Outcome.{Outcome}
 use Rattle.options.specs.Text.{spanOf}
 use Rattle.message.specs.declared.Extra.{Extra}
 use Rattle.description.specs.declared.GivenObjective.{GivenObjective}

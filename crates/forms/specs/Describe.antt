@@ -22,8 +22,8 @@ givenExtra (Extra.With o) = X.With (givenOf o)
 
 -- locators, or a divert of them
 unfoldable pub isDivert : Targets → Bool
-isDivert (Targets.Locators series) = false
-isDivert (Targets.Divert series) = true
+isDivert (Targets.Locators first series) = false
+isDivert (Targets.Divert first series) = true
 
 -- the description, kind by kind; locators and pairs stand in rows of their own (`Rows`)
 unfoldable pub descriptionOf : Message → Description

@@ -11,7 +11,7 @@ use Rattle.options.specs.Text.{spanOf}
 use Rattle.message.specs.Opening.{mostNumber}
 use Rattle.description.specs.declared.GivenObjective.{GivenObjective}
 use Rattle.description.specs.declared.GivenExtra.{GivenExtra}
-use Rattle.options.specs.declared.Outcome.{Outcome}
+use Rattle.options.specs.declared.outcome.Outcome.{Outcome}
 use Rattle.description.specs.declared.Description.{Description}
 use Rattle.description.specs.declared.Description.the-variants as D
 use Rattle.description.specs.Meaning.{locatorRow, pairRow}

@@ -77,8 +77,8 @@ pairStored s at i list = pairStoredFrom i list (pairAt s at)
 -- ---- by the message
 -- a Response's locators, or its divert's
 unfoldable pub targetRows : Targets → Rows
-targetRows (Targets.Locators series) = Rows.Locators series
-targetRows (Targets.Divert series) = Rows.Locators series
+targetRows (Targets.Locators first series) = Rows.Locators series
+targetRows (Targets.Divert first series) = Rows.Locators series
 
 -- what the message's list has
 unfoldable pub rowsIn : Message → Rows

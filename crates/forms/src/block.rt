@@ -7,9 +7,9 @@ use message::Extra;
 use message::Message;
 use message::Series;
 use message::Targets;
-use options::Outcome;
 use options::Span;
 use options::objective::Objective;
+use options::outcome::Outcome;
 
 // The span of what is not there.
 const NONE: Span = Span { at: 0, len: 0 };
@@ -148,8 +148,8 @@ fn put_targets(b: &mut [u64; 19], targets: Targets)
     ensures { λ r. ⌜ now (b .exit) ≡ targetsBlock (now (b .entry)) targets ⌝ }
 {
     match targets {
-        Targets::Locators(series) => put_series(b, 1, series),
-        Targets::Divert(series) => put_series(b, 2, series),
+        Targets::Locators { series, .. } => put_series(b, 1, series),
+        Targets::Divert { series, .. } => put_series(b, 2, series),
     }
 }
 

@@ -115,7 +115,7 @@ fn is_divert(targets: Targets) -> bool
     ensures { λ r. ⌜ r ≡ isDivert targets ⌝ }
 {
     match targets {
-        Targets::Locators(_) => false,
-        Targets::Divert(_) => true,
+        Targets::Locators { .. } => false,
+        Targets::Divert { .. } => true,
     }
 }

@@ -10,8 +10,8 @@ use description::GivenExtra;
 use description::GivenObjective;
 use description::rows::LOCATOR_ROW;
 use description::rows::PAIR_ROW;
-use options::Outcome;
 use options::Span;
+use options::outcome::Outcome;
 
 // What a block says: nothing that could be written, or a description.
 pub enum Described {

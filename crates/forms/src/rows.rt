@@ -44,8 +44,8 @@ fn rows_in(m: Message) -> Rows
         Message::Noop => Rows::Nothing,
         Message::Discovery { .. } => Rows::Nothing,
         Message::Response { targets, .. } => match targets {
-            Targets::Locators(series) => Rows::Locators(series),
-            Targets::Divert(series) => Rows::Locators(series),
+            Targets::Locators { series, .. } => Rows::Locators(series),
+            Targets::Divert { series, .. } => Rows::Locators(series),
         },
         Message::RequestNegotiation { .. } => Rows::Nothing,
         Message::RequestSynchronization { .. } => Rows::Nothing,

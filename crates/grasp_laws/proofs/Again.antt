@@ -13,10 +13,8 @@ use borrow.Author.Tests.{eq-eqb, ne-eqb}
 use Rattle.base.specs.Pick.{pick}
 use Rattle.base.specs.BigEndian.{Bytes}
 use Rattle.cbor.specs.Tree.{Item, Items}
-use Rattle.cbor.proofs.ItemLaws.{refused-numbers}
-use Rattle.cbor.proofs.Refuses.{refusal-complete}
 use Rattle.options.specs.declared.Span.{Span}
-use Rattle.options.specs.declared.Outcome.{Outcome}
+use Rattle.options.specs.declared.outcome.Outcome.{Outcome}
 use Rattle.options.specs.declared.objective.Objective.{Objective}
 use Rattle.options.specs.declared.locator.LocatorRead.{LocatorRead}
 use Rattle.options.specs.declared.pair.PairRead.{PairRead}
@@ -24,7 +22,6 @@ use Rattle.options.specs.Locator.{locatorNumbers}
 use Rattle.options.specs.Pair.{pairNumbers}
 use Rattle.rfc8990.specs.Message.{Loc, Obj, Pair, Tgts, Msg}
 use Rattle.rfc8990.specs.Cddl.{Value, Number, ObjectiveItem, OptionalItems, TgtsItems, MessageItem}
-use Rattle.rfc8990.specs.Refusals.{Row}
 use Rattle.message.specs.declared.Series.{Series}
 use Rattle.message.specs.declared.Targets.{Targets}
 use Rattle.message.specs.declared.Extra.{Extra}
@@ -53,6 +50,7 @@ use Rattle.writer_laws.proofs.Again.{described-written}
 use Rattle.grasp.specs.Reading as G
 use Rattle.grasp.specs.Writing as W
 use Rattle.grasp_laws.specs.Gathered.{locatorRows, pairRows, rowsGathered, WritesAgain}
+use Rattle.grasp_laws.proofs.Numbers.{row-some}
 
 -- ---- the widths of what was read
 objective-fits : {s : List ℕ} {o : Objective} {obj : Obj Value} {x : Item} → ObjectiveHolds s o obj → ObjectiveItem x obj → GivenFits (givenOf o)
@@ -98,10 +96,10 @@ Listed f (Rows.Pairs series) = (getD f 13 0 ≡ 3) × (getD f 14 0 ≡ series .a
 targets-listed : (session : ℕ) (i : Span) (ttl : ℕ) (targets : Targets) (extra : Extra)
     → Listed (B.responseBlock session i ttl targets extra) (R.targetRows targets)
 unfolding R.targetRows B.responseBlock B.targetsBlock B.withExtra B.withObjective B.frontBlock B.withSeries sets
-targets-listed session i ttl (Targets.Locators series) Extra.Without = (λ e. omega arith, λ e. omega arith, refl, refl)
-targets-listed session i ttl (Targets.Locators series) (Extra.With o) = (λ e. omega arith, λ e. omega arith, refl, refl)
-targets-listed session i ttl (Targets.Divert series) Extra.Without = (λ e. omega arith, λ e. omega arith, refl, refl)
-targets-listed session i ttl (Targets.Divert series) (Extra.With o) = (λ e. omega arith, λ e. omega arith, refl, refl)
+targets-listed session i ttl (Targets.Locators first series) Extra.Without = (λ e. omega arith, λ e. omega arith, refl, refl)
+targets-listed session i ttl (Targets.Locators first series) (Extra.With o) = (λ e. omega arith, λ e. omega arith, refl, refl)
+targets-listed session i ttl (Targets.Divert first series) Extra.Without = (λ e. omega arith, λ e. omega arith, refl, refl)
+targets-listed session i ttl (Targets.Divert first series) (Extra.With o) = (λ e. omega arith, λ e. omega arith, refl, refl)
 
 outcome-listed : (session : ℕ) (outcome : Outcome) → Listed (B.endBlock session outcome) Rows.Nothing
 unfolding B.endBlock B.outcomeBlock B.withSpan B.frontBlock sets
@@ -190,8 +188,8 @@ module _ (s : List ℕ) where
 
   targets-held : {targets : Targets} {tgts : Tgts} → TargetsHold s targets tgts → RowsHold (R.targetRows targets)
   unfolding R.targetRows
-  targets-held (TargetsHold.locators {ls = ls} h) = (ls, h)
-  targets-held (TargetsHold.divert {ls = ls} h) = (ls, h)
+  targets-held (TargetsHold.locators {loc = loc} {ls} h _) = (loc ∷ ls, h)
+  targets-held (TargetsHold.divert {loc = loc} {ls} h _) = (loc ∷ ls, h)
 
   rows-held : {m : Message} {msg : Msg Value} → MessageHolds s m msg → RowsHold (R.rowsIn m)
   unfolding R.rowsIn
@@ -218,23 +216,13 @@ module _ (s : List ℕ) where
       rw (sort, at, many) (series-gathered (h .many) (pairs-gathered (h .each)) list room pair)
 
 -- ---- what a call leaves
--- no refusal has the number 0
-row-some : (s : List ℕ) (n : ℕ) → Row s n → n ≡ 0 → ⊥
-row-some s _ (Row.size h) e = omega arith
-row-some s n (Row.head {place = place} fits f) e = omega (arith, refused-numbers 0 s n place (refusal-complete 0 s n place f) .0)
-row-some s _ (Row.more most i less) e = omega arith
-row-some s _ (Row.kind one u) e = omega arith
-row-some s _ (Row.shape one known none) e = omega arith
-row-some s _ (Row.text m bad) e = omega arith
-row-some s _ (Row.name m texts long) e = omega arith
-
--- so where `grasp_read` answers 0 a message was read
+-- where `grasp_read` answers 0 a message was read
 read-some : (s : List ℕ) → Bytes s → G.readNumber s ≡ 0 → (m : Message) × (readOf s ≡ Reading.Read m)
 unfolding G.readNumber G.numberFrom
 read-some s b = by (readOf s) refl
   where
     by : (r : Reading) → readOf s ≡ r → G.numberFrom r ≡ 0 → (m : Message) × (readOf s ≡ Reading.Read m)
-    by (Reading.Refused n) q e = absurd (row-some s n (refused-exactly s n b .0 q) e)
+    by (Reading.Refused n) q e = absurd (omega (arith, row-some (refused-exactly s n b .0 q)))
     by (Reading.Read m) q e = (m, q)
 
 -- and it leaves the message's block

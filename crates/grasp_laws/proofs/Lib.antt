@@ -3,6 +3,8 @@
 pub mod InC
 pub mod NotOurs
 pub mod Again
--- For their proofs: what C keeps and sees of a list of calls, and of a list of steps, held against the node's lists.
+-- For their proofs: what C keeps and sees of a list of calls, and of a list of steps, held against the node's lists; no
+-- refusal of a message has the number 0.
 mod Keeping
 mod Stepping
+mod Numbers

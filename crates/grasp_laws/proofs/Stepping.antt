@@ -1,18 +1,16 @@
 -- What C keeps and sees of a list of steps: the four numbers say the state that the node's list leaves, and the same
 -- messages are accepted. A step by no side is refused, and leaves the numbers.
 -- Assumes nothing.
-use Prim.Native.Nat.{ℕ, _≤_}
+use Prim.Native.Nat.{ℕ}
 use mathlib.Core.Path.{_≡_, refl, ap, _∙_}
 use mathlib.Core.Bool.{Bool, true, false}
 use mathlib.Core.List.{List, [], _∷_}
 use native.Mathlib.Omega.{arith}
-use lib.Dec.{eqb, ltb, lit≤}
+use lib.Dec.{eqb, ltb}
 use borrow.Author.Tests.{ne-eqb}
 use Rattle.base.specs.Pick.{pick}
 use Rattle.base.specs.BigEndian.{Bytes}
 use Rattle.base.specs.Lists.{Every}
-use Rattle.cbor.specs.Fault.{Fault}
-use Rattle.rfc8990.specs.Refusals.{Row}
 use Rattle.reader.specs.declared.Reading.{Reading}
 use Rattle.reader.specs.Read.{readOf}
 use Rattle.reader.proofs.Refused as R
@@ -30,28 +28,9 @@ use Rattle.host.proofs.Fits.{state-fits}
 use Rattle.host.proofs.HandedBack.{state-back, step-fits}
 use Rattle.grasp.specs.Negotiating.{steppedNumber, numbersFrom, stepBy, stepNumber, stateAfter}
 use Rattle.grasp_laws.specs.HostSteps.{HostSent, hostAccepted, noStep}
+use Rattle.grasp_laws.proofs.Numbers.{row-some}
 
--- ---- no refusal has the number 0
-
-fault-some : {left n : ℕ} {s : List ℕ} → Fault left s n → 1 ≤ n
-fault-some (Fault.missing _) = lit≤ tt
-fault-some (Fault.reserved _ _ _ _ _) = lit≤ tt
-fault-some (Fault.indefinite _ _ _ _) = lit≤ tt
-fault-some (Fault.cut _ _ _ _ _) = lit≤ tt
-fault-some (Fault.low-simple _ _ _ _) = lit≤ tt
-fault-some (Fault.long _ _ _ _ _ _ _ _) = lit≤ tt
-fault-some (Fault.deep _ _ _ _ _ _ _ _ _) = lit≤ tt
-fault-some (Fault.short _ _ _ _ _ _ _ _ _) = lit≤ tt
-
-row-some : {s : List ℕ} {n : ℕ} → Row s n → 1 ≤ n
-row-some (Row.size _) = lit≤ tt
-row-some (Row.head _ f) = fault-some (f .fault)
-row-some (Row.more _ _ _) = lit≤ tt
-row-some (Row.kind _ _) = lit≤ tt
-row-some (Row.shape _ _ _) = lit≤ tt
-row-some (Row.text _ _) = lit≤ tt
-row-some (Row.name _ _ _) = lit≤ tt
-
+-- a refused step has another number than 0
 refused-some : (state : State) (message : List ℕ) (sender : Side) {n : ℕ} → Bytes message → step state message sender ≡ Refused n → n ≡ 0 → ⊥
 refused-some state message sender bytes e z =
     omega (arith, row-some (R.refused-exactly message 0 bytes .0 (refused-exactly state message sender 0 (λ w. omega arith) .0 (e ∙ ap Refused z))))

@@ -1,6 +1,4 @@
--- `Fits`: what is read lies within the message, and the turns of the loops. `Parts`: where the parts of a message that
--- was read lie, how long they are at least, and how great its numbers are at most. `Led`: no locator is an array that a
--- text leads.
+-- `Fits`: a Flood's pairs lie within the message, and the turns of the loop over them. `Parts`: where the parts of a
+-- message that was read lie, how long they are at least, and how great its numbers are at most.
 pub mod Fits
 pub mod Parts
-pub mod Led

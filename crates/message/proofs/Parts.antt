@@ -6,9 +6,9 @@ use mathlib.Core.Path.{_≡_, refl, subst}
 use mathlib.Core.List.{List}
 use mathlib.Core.Bool.{true, _||_}
 use mathlib.Core.Logic.{_⊎_, inl, inr, ⊎-elim}
-use Prim.Native.Nat.{ℕ, _+_, _-_, _*_, _≤_}
+use Prim.Native.Nat.{ℕ, suc, _+_, _-_, _*_, _≤_}
 use native.Mathlib.Omega.{arith}
-use lib.ListN.{length}
+use lib.ListN.{length, drop, length-drop}
 use lib.Dec.{eqb, lit≤}
 use borrow.Author.Tests.{ltb-false, eqb-true}
 use Rattle.base.proofs.Bools.{and-left, and-right, or-true}
@@ -19,12 +19,17 @@ use Rattle.cbor.proofs.Tokens.{token-end, token-has}
 use Rattle.options.specs.declared.Span.{Span}
 use Rattle.options.specs.declared.objective.Objective.{Objective}
 use Rattle.options.specs.declared.objective.ObjectiveRead.{ObjectiveRead}
+use Rattle.options.specs.declared.locators.LocatorsRead.{LocatorsRead}
+use Rattle.options.specs.declared.divert.DivertRead.{DivertRead}
+use Rattle.options.specs.declared.outcome.OutcomeRead.{OutcomeRead}
 use Rattle.options.specs.declared.pair.Pair.{Pair}
 use Rattle.options.specs.declared.pair.PairRead.{PairRead}
 use Rattle.options.specs.Text.{contentOf}
+use Rattle.options.specs.Divert.{divertAt}
 use Rattle.options.specs.Objective.{objectiveAt}
 use Rattle.options.specs.Pair.{pairAt}
 use Rattle.options.proofs.Fits.{ObjectiveParts, ObjectiveOk, objective-within, PairOk, pair-within}
+use Rattle.options.proofs.Series.{LocatorsOk, locators-ok, DivertOk, divert-ok}
 use Rattle.message.specs.declared.Series.{Series}
 use Rattle.message.specs.declared.Targets.{Targets}
 use Rattle.message.specs.declared.Extra.{Extra}
@@ -32,15 +37,14 @@ use Rattle.message.specs.declared.Message.{Message}
 use Rattle.message.specs.declared.Message.the-variants as M
 use Rattle.message.specs.declared.opening.Opening.{Opening}
 use Rattle.message.specs.declared.opening.OpeningRead.{OpeningRead}
-use Rattle.message.specs.declared.sequence.LocatorsRead.{LocatorsRead}
 use Rattle.message.specs.declared.sequence.PairsRead.{PairsRead}
 use Rattle.message.specs.declared.shape.Shape.{Shape}
 use Rattle.message.specs.declared.Examined.{Examined}
 use Rattle.message.specs.Opening.{mostNumber, objectiveLevels, isInitiator, openingAt}
-use Rattle.message.specs.Shape.{noopAt, discovered, discoveryAt, exchangeOf, exchanged, exchangeAt, waitAt, invalidAt, optionAt, endAt}
-use Rattle.message.specs.Response.{restOf, restAt, divertOf, divertAt, locatedOf, locatedAt, targetsAt, responseBy, responseAt}
+use Rattle.message.specs.Shape.{noopAt, discovered, discoveryAt, exchangeOf, exchanged, exchangeAt, waitAt, invalidAt, ended, endAt}
+use Rattle.message.specs.Response.{restOf, restAt, locatedOf, locatedAt, targetsOf, targetsAt, responseBy, responseAt}
 use Rattle.message.specs.Flood.{floodedBy, floodedOf, floodedAt, floodBy, floodAt}
-use Rattle.message.proofs.Fits.{LocatorsRan, locators-ran, PairsRan, pairs-ran}
+use Rattle.message.proofs.Fits.{PairsRan, pairs-ran}
 use Rattle.message.specs.Examined.{byKind, judgedShape, examined}
 
 -- a session of 32 bits, and an initiator of 4 or 16 bytes in the message
@@ -54,8 +58,8 @@ abbrev pub Six : List ℕ → Series → Type 0
 Six s series = 6 * series .many ≤ length s
 
 abbrev pub TargetsSix : List ℕ → Targets → Type 0
-TargetsSix s (Targets.Locators series) = Six s series
-TargetsSix s (Targets.Divert series) = Six s series
+TargetsSix s (Targets.Locators first series) = Six s series
+TargetsSix s (Targets.Divert first series) = Six s series
 
 -- a count of at most 255
 abbrev pub SmallCount : Extra → Type 0
@@ -186,35 +190,30 @@ module _ (s : List ℕ) where
           by (ObjectiveRead.Bad place) ok = tt
           by (ObjectiveRead.Got o size bad′ long) ok = both ShapeParts _ (tt, (h, six, ok .0 .limit)) tt
 
-      located-parts : (n at : ℕ) (x : LocatorsRead) → LocatorsRan s n at x → ShapeParts (locatedOf s opening n at x)
+      located-parts : (n at : ℕ) (x : LocatorsRead) → LocatorsOk at (drop at s) (suc (n - 1)) 0 x → ShapeParts (locatedOf s opening n at x)
       unfolding locatedOf
-      located-parts n at (LocatorsRead.Bad place) ran = tt
-      located-parts n at (LocatorsRead.Ran end left bad) ran = both ShapeParts _ tt (rest-parts _ left end bad (omega arith))
+      located-parts n at (LocatorsRead.Bad place) ok = tt
+      located-parts n at (LocatorsRead.Ran first end left bad) ok = rest-parts _ left (at + end) bad (omega (arith, length-drop at s))
 
-      divert-parts : (left many from : ℕ) (x : LocatorsRead) → LocatorsRan s many from x → ShapeParts (divertOf s opening left many from x)
-      unfolding divertOf
-      divert-parts left many from (LocatorsRead.Bad place) ran = tt
-      divert-parts left many from (LocatorsRead.Ran end over bad) ran =
-          pick-case ShapeParts _ (λ e. rest-parts _ left end bad (omega (arith, eqb-true over 0 e))) (λ _. tt)
+      targets-parts : (n at : ℕ) (x : DivertRead) → at ≤ length s → DivertOk at (drop at s) x → ShapeParts (targetsOf s opening n at x)
+      unfolding targetsOf locatedAt
+      targets-parts n at DivertRead.Other low ok = located-parts n at _ (locators-ok at (drop at s) 0 (n - 1) (omega arith))
+      targets-parts n at (DivertRead.Bad place) low ok = tt
+      targets-parts n at (DivertRead.Got first from many size bad) low ok = rest-parts _ (n - 1) (at + size) bad (omega (arith, length-drop at s))
 
     response-parts : (n at : ℕ) → ShapeParts (responseAt s n at)
-    unfolding responseAt responseBy targetsAt divertAt locatedAt
+    unfolding responseAt responseBy targetsAt
     response-parts n at = both ShapeParts _ tt (by (openingAt s at) (opening-parts at))
       where
         by : (x : OpeningRead) → OpeningParts x → ShapeParts (responseBy s n x)
         by (OpeningRead.Bad place) h = tt
-        by (OpeningRead.Got opening next) (low, h) =
-            let o = tokenAt s next in
-            let located = located-parts opening h (n - 4) next _ (locators-ran s (n - 4) next 0 low) in
-            both ShapeParts _ located
-            (both ShapeParts _ (both ShapeParts _ tt (divert-parts opening h _ _ _ _ (locators-ran s (o .arg - 1) _ 0 (token-end s (o .next))))) located)
+        by (OpeningRead.Got opening next) (low, h) = targets-parts opening h (n - 4) next (divertAt s next) low (divert-ok next (drop next s))
 
     -- the other kinds
-    option-parts : (session at : ℕ) → session ≤ mostNumber → ShapeParts (optionAt s session at)
-    unfolding optionAt
-    option-parts session at h =
-        both ShapeParts _ tt (both ShapeParts _ tt (both ShapeParts _ tt
-        (both ShapeParts _ (both ShapeParts _ (tt, h) (tt, h)) (both ShapeParts _ tt (both ShapeParts _ (both ShapeParts _ (tt, h) tt) tt)))))
+    ended-parts : (session at : ℕ) (x : OutcomeRead) → session ≤ mostNumber → ShapeParts (ended session at x)
+    unfolding ended
+    ended-parts session at (OutcomeRead.Bad place) h = tt
+    ended-parts session at (OutcomeRead.Got o size bad) h = (tt, h)
 
     exchanged-parts : (session at : ℕ) (x : ObjectiveRead) → session ≤ mostNumber → at ≤ length s → ObjectiveOk at (length s - at) x
         → ShapeParts (exchanged kind session at x)
@@ -233,7 +232,7 @@ module _ (s : List ℕ) where
         both P _ (both P _ (tt, tt) tt)
         (pick-case P _ (λ e. discovery-parts n at (eqb-true kind 1 e))
         (λ _. both P _ (response-parts n at)
-        (both P _ (both P _ (pick-case P _ (λ _. tt) (λ e. option-parts _ _ (ltb-false mostNumber _ e))) tt)
+        (both P _ (both P _ (pick-case P _ (λ _. tt) (λ e. ended-parts _ _ _ (ltb-false mostNumber _ e))) tt)
         (both P _ (both P _ (pick-case P _ (λ _. tt) (λ e. both P _ tt (tt, ltb-false mostNumber _ e))) tt)
         (pick-case P _ (λ e. flood-parts n at (eqb-true kind 9 e))
         (λ _. both P _

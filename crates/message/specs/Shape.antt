@@ -6,13 +6,14 @@ use Prim.Native.Nat.{ℕ, _+_}
 use mathlib.Core.List.{List}
 use lib.Dec.{ltb, eqb}
 use Rattle.base.specs.Pick.{pick, unless}
-use Rattle.cbor.specs.Token.{tokenAt, sizeAt, itemsIn, upTo}
+use Rattle.cbor.specs.Token.{tokenAt, sizeAt, upTo}
 use Rattle.options.specs.declared.Span.{Span}
 use Rattle.options.specs.declared.objective.Objective.{Objective}
 use Rattle.options.specs.declared.objective.ObjectiveRead.{ObjectiveRead}
-use Rattle.options.specs.Text.{spanOf, contentOf, contentIn, badText}
+use Rattle.options.specs.Text.{spanOf, contentOf}
 use Rattle.options.specs.Objective.{objectiveAt}
-use Rattle.options.specs.declared.Outcome.{Outcome}
+use Rattle.options.specs.declared.outcome.OutcomeRead.{OutcomeRead}
+use Rattle.options.specs.Outcome.{outcomeAt}
 use Rattle.message.specs.declared.Message.{Message}
 use Rattle.message.specs.declared.Message.the-variants as M
 use Rattle.message.specs.declared.shape.Shape.{Shape}
@@ -86,22 +87,10 @@ invalidAt s n at =
     (pick (eqb len 0) (Bad (i .next))
     (Good (M.Invalid (upTo mostNumber i) (spanOf (i .next) len)) (i .next + len) 0 0)))))
 
--- accept, or decline with its text or with none
-unfoldable pub optionAt : List ℕ → ℕ → ℕ → Shape
-optionAt s session at =
-    let o = tokenAt s at in
-    let x = tokenAt s (o .next) in
-    let t = tokenAt s (x .next) in
-    let lead = upTo 102 x in
-    pick (eqb (itemsIn o) 0) (Bad (o .at))
-    (pick (ltb lead 101) (Bad (x .at))
-    (pick (ltb 102 lead) (Bad (x .at))
-    (pick (eqb (o .arg) 1) (pick (eqb lead 101) (Good (M.End session Outcome.Accept) (x .next) 0 0)
-    (Good (M.End session Outcome.Decline) (x .next) 0 0))
-    (pick (eqb lead 101) (Bad (o .at))
-    (unless (eqb (o .arg) 2) (Bad (o .at))
-    (unless (eqb (t .major) 3) (Bad (t .at))
-    (Good (M.End session (Outcome.Reason (contentOf t))) (t .next) (badText (contentIn s t) (t .at)) 0)))))))
+-- an End whose accept or decline was read at `at`
+unfoldable pub ended : ℕ → ℕ → OutcomeRead → Shape
+ended session at (OutcomeRead.Bad place) = Bad place
+ended session at (OutcomeRead.Got o size bad) = Good (M.End session o) (at + size) bad 0
 
 -- kind 6: session, accept or decline
 unfoldable pub endAt : List ℕ → ℕ → ℕ → Shape
@@ -109,4 +98,4 @@ endAt s n at =
     let i = tokenAt s at in
     unless (eqb n 3) (Bad 0)
     (pick (ltb mostNumber (upTo mostNumber i)) (Bad (i .at))
-    (optionAt s (upTo mostNumber i) (i .next)))
+    (ended (upTo mostNumber i) (i .next) (outcomeAt s (i .next))))

@@ -3,9 +3,10 @@
 ghost use mathlib.Core.Path.{_≡_};
 ghost use Rattle.message.specs.Examined.{judgedShape, examined};
 use cbor::token;
-use options::Outcome;
 use options::Span;
+use options::locator::Locator;
 use options::objective::Objective;
+use options::outcome::Outcome;
 use options::pair::Pair;
 use shape::Shape;
 
@@ -25,10 +26,10 @@ pub struct Series {
     pub many: u64,
 }
 
-// What a Response points at: locators, or a divert's locators.
+// What a Response points at: locators, or a divert's locators; the first of them, and the series of all.
 pub enum Targets {
-    Locators(Series),
-    Divert(Series),
+    Locators { first: Locator, series: Series },
+    Divert { first: Locator, series: Series },
 }
 
 // An objective that may be left out.

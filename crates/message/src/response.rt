@@ -1,7 +1,7 @@
 // Response (RFC 8990, section 2.8.5): session, initiator, ttl, then locators or a divert, then an optional objective.
 ghost use mathlib.Core.Path.{_≡_};
 ghost use Prim.Native.Nat.{_≤_};
-ghost use Rattle.message.specs.Response.{responseOf, restAt, divertAt, locatedAt, targetsAt, responseAt};
+ghost use Rattle.message.specs.Response.{responseOf, restAt, locatedAt, targetsAt, responseAt};
 use crate::Extra;
 use crate::Message;
 use crate::Series;
@@ -9,11 +9,12 @@ use crate::Targets;
 use crate::opening;
 use crate::opening::Opening;
 use crate::opening::OpeningRead;
-use crate::sequence;
-use crate::sequence::LocatorsRead;
 use crate::shape::OBJECTIVE_LEVELS;
 use crate::shape::Shape;
-use cbor::token;
+use options::divert;
+use options::divert::DivertRead;
+use options::locators;
+use options::locators::LocatorsRead;
 use options::objective;
 use options::objective::ObjectiveRead;
 
@@ -36,42 +37,24 @@ fn targets_at(s: &[u8], opening: Opening, n: u64, at: usize) -> Shape
     requires { ⌜ 1 ≤ n ⌝ }
     ensures { λ r. ⌜ r ≡ targetsAt (now (s .entry)) opening n at ⌝ }
 {
-    let o = token::array_at(s, at);
-    if token::items_in(o) != 0 {
-        let x = token::number_at(s, o.next);
-        if token::up_to(100, x) == 100 {
-            return divert_at(s, opening, n - 1, o.arg, at, x.next);
-        }
-    }
-    located_at(s, opening, n, at)
-}
-
-// A divert of n items at `at`, its locators from `from` on; after it, `left` items of the message.
-fn divert_at(s: &[u8], opening: Opening, left: u64, n: u64, at: usize, from: usize) -> Shape
-    ensures { λ r. ⌜ r ≡ divertAt (now (s .entry)) opening left n at from ⌝ }
-{
-    if n < 2 {
-        return Shape::Bad(at);
-    }
-    let many = n - 1;
-    let read = sequence::read_locators(s, many, from);
+    let read = divert::read_at(s, at);
     match read {
-        LocatorsRead::Bad(place) => Shape::Bad(place),
-        LocatorsRead::Ran {
-            end,
-            left: over,
+        DivertRead::Other => located_at(s, opening, n, at),
+        DivertRead::Bad(place) => Shape::Bad(place),
+        DivertRead::Got {
+            first,
+            at: from,
+            many,
+            size,
             bad,
         } => {
-            if over != 0 {
-                let o = token::token_at(s, end);
-                return Shape::Bad(o.next);
-            }
+            let series = Series { at: from, many };
             rest_at(
                 s,
                 opening,
-                Targets::Divert(Series { at: from, many }),
-                left,
-                end,
+                Targets::Divert { first, series },
+                n - 1,
+                at + size,
                 bad,
             )
         }
@@ -80,22 +63,25 @@ fn divert_at(s: &[u8], opening: Opening, left: u64, n: u64, at: usize, from: usi
 
 // Locators from `at` on, in n items.
 fn located_at(s: &[u8], opening: Opening, n: u64, at: usize) -> Shape
+    requires { ⌜ 1 ≤ n ⌝ }
     ensures { λ r. ⌜ r ≡ locatedAt (now (s .entry)) opening n at ⌝ }
 {
-    let read = sequence::read_locators(s, n, at);
+    let read = locators::read_at(s, at, n - 1);
     match read {
         LocatorsRead::Bad(place) => Shape::Bad(place),
-        LocatorsRead::Ran { end, left, bad } => {
-            if n <= left {
-                let o = token::token_at(s, end);
-                return Shape::Bad(o.next);
-            }
+        LocatorsRead::Ran {
+            first,
+            end,
+            left,
+            bad,
+        } => {
+            let series = Series { at, many: n - left };
             rest_at(
                 s,
                 opening,
-                Targets::Locators(Series { at, many: n - left }),
+                Targets::Locators { first, series },
                 left,
-                end,
+                at + end,
                 bad,
             )
         }

@@ -2,7 +2,7 @@
 // right.
 ghost use mathlib.Core.Path.{_≡_};
 ghost use Rattle.message.specs.Shape.{noopAt, discoveryAt, exchangeOf, exchangeAt};
-ghost use Rattle.message.specs.Shape.{waitAt, invalidAt, optionAt, endAt};
+ghost use Rattle.message.specs.Shape.{waitAt, invalidAt, endAt};
 ghost use Rattle.message.specs.Examined.{byKind};
 use crate::Message;
 use crate::flood;
@@ -10,11 +10,12 @@ use crate::opening;
 use crate::opening::MOST_NUMBER;
 use crate::response;
 use cbor::token;
-use options::Outcome;
 use options::Span;
 use options::objective;
 use options::objective::Objective;
 use options::objective::ObjectiveRead;
+use options::outcome;
+use options::outcome::OutcomeRead;
 
 // How many levels are open around Invalid's item: the message's own.
 const ITEM_LEVELS: usize = 1;
@@ -247,55 +248,17 @@ fn end_at(s: &[u8], n: u64, at: usize) -> Shape
     if (MOST_NUMBER as u64) < session {
         return Shape::Bad(i.at);
     }
-    option_at(s, session as u32, i.next)
-}
-
-// An accept or a decline at `at`, by its first item, its number of items, and its reason.
-fn option_at(s: &[u8], session: u32, at: usize) -> Shape
-    ensures { λ r. ⌜ r ≡ optionAt (now (s .entry)) session at ⌝ }
-{
-    let o = token::array_at(s, at);
-    if token::items_in(o) == 0 {
-        return Shape::Bad(o.at);
-    }
-    let x = token::number_at(s, o.next);
-    let lead = token::up_to(102, x);
-    if lead < 101 {
-        return Shape::Bad(x.at);
-    }
-    if 102 < lead {
-        return Shape::Bad(x.at);
-    }
-    if o.arg == 1 {
-        if lead == 101 {
-            return ended(session, Outcome::Accept, x.next, 0);
-        }
-        return ended(session, Outcome::Decline, x.next, 0);
-    }
-    if lead == 101 {
-        return Shape::Bad(o.at);
-    }
-    if o.arg != 2 {
-        return Shape::Bad(o.at);
-    }
-    let t = token::string_at(s, x.next);
-    if t.major != 3 {
-        return Shape::Bad(t.at);
-    }
-    let reason = opening::content_of(t);
-    let from = t.body;
-    let to = t.next;
-    let bad = options::bad_text(&s[from..to], t.at);
-    ended(session, Outcome::Reason(reason), t.next, bad)
-}
-
-fn ended(session: u32, outcome: Outcome, end: usize, bad: usize) -> Shape
-    ensures { λ r. ⌜ r ≡ Shape.Good (Message.End session outcome) end bad 0 ⌝ }
-{
-    Shape::Good {
-        message: Message::End { session, outcome },
-        end,
-        bad,
-        long: 0,
+    let read = outcome::read_at(s, i.next);
+    match read {
+        OutcomeRead::Bad(place) => Shape::Bad(place),
+        OutcomeRead::Got { outcome, size, bad } => Shape::Good {
+            message: Message::End {
+                session: session as u32,
+                outcome,
+            },
+            end: i.next + size,
+            bad,
+            long: 0,
+        },
     }
 }

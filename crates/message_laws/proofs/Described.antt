@@ -25,12 +25,12 @@ use Rattle.options.specs.Text.{spanOf}
 use Rattle.options.specs.Locator.{nullProtocol, nullPort}
 use Rattle.rfc8990.specs.Message.{Loc, orNull, Obj, Pair, Tgts, Outc, Msg}
 use Rattle.rfc8990.specs.Cddl.{uint, LocatorItems, PairItems, Value}
-use Rattle.message_laws.specs.Stands.{Stands, ArrayHead, Before, Addressed, TagIs, ValueIs, ObjectiveIs, PairIs}
+use Rattle.message_laws.specs.Stands.{Stands, ArrayHead, Before, Addressed, LocatorIs, TagIs, ValueIs, ObjectiveIs, PairIs}
 use Rattle.message_laws.proofs.Bridge.{stands-once}
 use Rattle.message.specs.declared.Series.{Series}
 use Rattle.message.specs.declared.Targets.{Targets}
 use Rattle.message.specs.declared.Extra.{Extra}
-use Rattle.options.specs.declared.Outcome.{Outcome}
+use Rattle.options.specs.declared.outcome.Outcome.{Outcome}
 use Rattle.message.specs.declared.Message.{Message}
 use Rattle.message.specs.declared.Message.the-variants as M
 use Rattle.message_laws.specs.Describes.{KindIs, NumberIs, InitiatorIs, TargetsIs, ExtraIs, OutcomeIs, Describes}
@@ -161,11 +161,13 @@ addressed-once e (Addressed.uri {protocol = protocol} {port} {a = a} h x y) (Add
     cc
 
 -- from one start
+locator-once : {s : List ℕ} {p p′ : ℕ} {l l′ : Locator} {loc : Loc} → p ≡ p′ → LocatorIs s p l loc → LocatorIs s p′ l′ loc → l ≡ l′
+locator-once q a b =
+    addressed-once (ends-once (ends-once (head-once q (a .opened) (b .opened)) (a .kind-item) (b .kind-item)) (a .address-item) (b .address-item)) (a .is) (b .is)
+
 tag-once : {s : List ℕ} {p p′ : ℕ} {t t′ : Tag} {loc : Option Loc} → p ≡ p′ → TagIs s p t loc → TagIs s p′ t′ loc → t ≡ t′
 tag-once q TagIs.empty TagIs.empty = refl
-tag-once q (TagIs.at a) (TagIs.at b) =
-    ap Tag.At (addressed-once (ends-once (ends-once (head-once q (a .opened) (b .opened)) (a .kind-item) (b .kind-item)) (a .address-item) (b .address-item))
-    (a .is) (b .is))
+tag-once q (TagIs.at a) (TagIs.at b) = ap Tag.At (locator-once q a b)
 
 -- a pair by its parts
 abbrev pair-of : Objective → Tag → P.Pair
@@ -201,14 +203,14 @@ pairs-count (PairItems.more i is) = ap suc (pairs-count is)
 
 -- locators or a divert
 tgts-once : {s : List ℕ} {p p′ e e′ : ℕ} {t t′ : Targets} {tgts : Tgts} → p ≡ p′ → TargetsIs s p e t tgts → TargetsIs s p′ e′ t′ tgts → t ≡ t′
-tgts-once q (TargetsIs.locators {series} at i) (TargetsIs.locators {series = series′} at′ i′) =
+tgts-once q (TargetsIs.locators {series = series} at i first) (TargetsIs.locators {series = series′} at′ i′ first′) =
     let place : series .at ≡ series′ .at = at ∙ q ∙ sym at′ in
     let many = locators-count (i .are) ∙ sym (locators-count (i′ .are)) in
-    ap Targets.Locators (series-ext series series′ place (i .many ∙ many ∙ sym (i′ .many)))
-tgts-once q (TargetsIs.divert {series} head lead i) (TargetsIs.divert {series = series′} head′ lead′ i′) =
+    ap₂ Targets.Locators (locator-once place first first′) (series-ext series series′ place (i .many ∙ many ∙ sym (i′ .many)))
+tgts-once q (TargetsIs.divert {series = series} head lead i first) (TargetsIs.divert {series = series′} head′ lead′ i′ first′) =
     let place = ends-once (head-once q head head′) lead lead′ in
     let many = locators-count (i .are) ∙ sym (locators-count (i′ .are)) in
-    ap Targets.Divert (series-ext series series′ place (i .many ∙ many ∙ sym (i′ .many)))
+    ap₂ Targets.Divert (locator-once place first first′) (series-ext series series′ place (i .many ∙ many ∙ sym (i′ .many)))
 
 -- an objective that may be left out
 extra-once : {s : List ℕ} {p p′ : ℕ} {x x′ : Extra} {obj : Option (Obj Value)} → ExtraIs s p x obj → ExtraIs s p′ x′ obj → x ≡ x′

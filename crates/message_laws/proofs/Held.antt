@@ -13,7 +13,7 @@ use Rattle.base.specs.BigEndian.{Bytes}
 use Rattle.cbor.specs.Item.{leftUnder}
 use Rattle.cbor.specs.Tree.{Item, Items, encode, depth, depths}
 use Rattle.options.specs.declared.Span.{Span}
-use Rattle.options.specs.declared.Outcome.{Outcome}
+use Rattle.options.specs.declared.outcome.Outcome.{Outcome}
 use Rattle.options.specs.declared.locator.Locator.{Locator}
 use Rattle.options.specs.declared.objective.Objective.{Objective}
 use Rattle.options.specs.declared.locator.LocatorRead.{LocatorRead}
@@ -150,8 +150,8 @@ series-holds i = record { many = i .many ∙ locators-count (i .are); each = loc
 
 -- a Response's
 targets-hold : {s : List ℕ} {p e : ℕ} {targets : Targets} {tgts : Tgts} → TargetsIs s p e targets tgts → TargetsHold s targets tgts
-targets-hold (TargetsIs.locators at i) = TargetsHold.locators (series-holds i)
-targets-hold (TargetsIs.divert head lead i) = TargetsHold.divert (series-holds i)
+targets-hold (TargetsIs.locators at i first) = TargetsHold.locators (series-holds i) (locator-holds first)
+targets-hold (TargetsIs.divert head lead i first) = TargetsHold.divert (series-holds i) (locator-holds first)
 
 -- an objective that may be left out
 extra-holds : {s : List ℕ} {p : ℕ} {extra : Extra} {obj : Option (Obj Value)} → ExtraIs s p extra obj → ExtraHolds s extra obj

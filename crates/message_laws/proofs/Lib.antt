@@ -2,6 +2,8 @@
 pub mod Locator
 pub mod Objective
 pub mod Pair
+pub mod Divert
+pub mod Outcome
 -- For readers: what an answer holds.
 pub mod Held
 -- For the laws of `reader`: what one item is answered, of all kinds; that it is one message only, described in one way.

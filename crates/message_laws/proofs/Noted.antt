@@ -21,10 +21,6 @@ single (f, g) = (λ a. (f a, tt), λ b. g (b .0))
 pub none-noted : {bad : ℕ} → bad ≡ 0 ↔ (bad ≡ 0) × Unit {0}
 none-noted = (λ z. (z, tt), λ z. z .0)
 
--- nothing before
-pub first-noted : {A B : Type 0} → A ↔ (_≡_ {A = ℕ} 0 0) × B → A ↔ B
-first-noted (f, g) = (λ a. f a .1, λ b. g (refl, b))
-
 module _ {bad bad′ : ℕ} (P : List ℕ → Type 0) (xs ys : List (List ℕ)) where
   -- the texts xs, and then the texts ys
   pub then-noted : bad ≡ 0 ↔ Every P xs → bad′ ≡ 0 ↔ (bad ≡ 0) × Every P ys → bad′ ≡ 0 ↔ Every P (xs ++ ys)

@@ -4,45 +4,46 @@ use mathlib.Core.Path.{_≡_, refl, sym, ap, _∙_, subst}
 use mathlib.Core.Logic.{_↔_}
 use mathlib.Core.List.{List, [], _∷_, _++_, flatMap}
 use mathlib.Core.Option.{Option, none, some}
-use Prim.Native.Nat.{ℕ, suc, _+_, _-_, _≤_, _<_}
+use Prim.Native.Nat.{ℕ, suc, _+_, _-_, _≤_}
+use native.Mathlib.Nat.{add-zero}
 use native.Mathlib.Omega.{arith}
-use lib.ListN.{length}
+use lib.ListN.{length, drop, length-drop}
+use lib.Seq.{drop-drop}
 use lib.Dec.{eqb}
-use borrow.Author.Tests.{leb-true, leb-false, ltb-false, eqb-true, eqb-false, le-ltb, lt-leb, eq-eqb, ne-eqb}
+use borrow.Author.Tests.{ltb-false, eqb-true, le-ltb, eq-eqb}
 use Rattle.base.specs.Pick.{pick}
 use Rattle.base.specs.BigEndian.{Bytes}
 use Rattle.base.specs.Lists.{Every}
-use Rattle.base.proofs.Picks.{pick-case, both}
-use Rattle.cbor.specs.declared.token.Token.{Token}
-use Rattle.cbor.specs.Token.{tokenAt, itemsIn, upTo}
-use Rattle.cbor.specs.Tree.{Item, Items, count, depth, depths}
-use Rattle.cbor.proofs.Tokens.{is-array}
+use Rattle.base.proofs.Picks.{pick-case}
+use Rattle.cbor.specs.Tree.{Item, Items, count, encodes, depth, depths}
+use Rattle.options.specs.declared.locator.Locator.{Locator}
+use Rattle.options.specs.declared.locators.LocatorsRead.{LocatorsRead}
+use Rattle.options.specs.declared.divert.DivertRead.{DivertRead}
 use Rattle.options.specs.declared.objective.ObjectiveRead.{ObjectiveRead}
 use Rattle.options.specs.Text.{firstOf}
+use Rattle.options.specs.Locators.{textLed, locatorsFrom, locatorsAt}
 use Rattle.options.specs.Objective.{objectiveAt}
 use Rattle.rfc8990.specs.Message.{Loc, Obj, Tgts, Msg}
-use Rattle.rfc8990.specs.Cddl.{uint, joined, Number, Initiator, LocatorItems, OptionalItems, TgtsItems, MessageItem, Value}
+use Rattle.rfc8990.specs.Cddl.{joined, Number, Initiator, LocatorItems, OptionalItems, TgtsItems, MessageItem, Value}
 use Rattle.rfc8990.specs.Limits.{Utf8, Short, locTexts, optionalNames, tgtsTexts, textsOf, namesOf}
-use Rattle.message_laws.specs.Stands.{Stands, StandAll, ArrayHead, ObjectiveIs}
+use Rattle.message_laws.specs.Stands.{StandAll, ObjectiveIs}
 use Rattle.message_laws.proofs.Objective.{objective-sound}
-use Rattle.message_laws.proofs.Bridge.{token-heading, join, none as no-items, last, split, none-end, stands-within}
-use Rattle.message_laws.proofs.Pieces.{array-items, array-head, head-array, number-here, number-is}
+use Rattle.message_laws.proofs.Bridge.{join, none as no-items, last, split, none-end}
+use Rattle.message_laws.proofs.Pieces.{head-array}
 use Rattle.message.specs.declared.Targets.{Targets}
 use Rattle.message.specs.declared.Extra.{Extra}
 use Rattle.message.specs.declared.opening.Opening.{Opening}
 use Rattle.message.specs.declared.opening.OpeningRead.{OpeningRead}
-use Rattle.message.specs.declared.sequence.LocatorsRead.{LocatorsRead}
 use Rattle.message.specs.declared.shape.Shape.the-variants as S
 use Rattle.message.specs.Opening.{objectiveLevels}
-use Rattle.message.specs.Sequence.{locatorsFrom}
-use Rattle.message.specs.Response.{responseOf, restOf, restAt, divertOf, divertAt, locatedOf, locatedAt, targetsAt, responseBy, responseAt}
+use Rattle.message.specs.Response.{responseOf, restOf, restAt, locatedOf, locatedAt, targetsOf, targetsAt, responseBy, responseAt}
 use Rattle.message_laws.specs.Describes.{TargetsIs, ExtraIs, Describes}
-use Rattle.message_laws.proofs.Noted.{clean, single, none-noted, first-noted, then-noted, more-noted}
+use Rattle.message_laws.proofs.Noted.{clean, single, none-noted, then-noted, more-noted}
 use Rattle.message_laws.proofs.Whole.{partLevels, IfGood, ShapeOk, past-case, held-case, Reads, taken, skipped, Kinded, built}
-use Rattle.message_laws.proofs.Heads.{uint-passed, array-passed}
 use Rattle.message_laws.proofs.Exchange.{objective-reads}
 use Rattle.message_laws.proofs.Opening.{OpeningHere, OpeningOk, opening-sound, opening-complete}
-use Rattle.message_laws.proofs.Locators.{LocatorsOk, locators-sound, locator-led, objective-led, locators-complete}
+use Rattle.message_laws.proofs.Locators.{Located, LocatedOk, located-sound, objective-led, located-complete}
+use Rattle.message_laws.proofs.Divert.{DivertStands, DivertSound, divert-sound, locator-other, divert-read}
 
 -- ---- items, and then items
 -- xs stand, and then ys
@@ -123,95 +124,55 @@ module _ {s : List ℕ} {n at next : ℕ} (k : Kinded s 2 n at) {opening : Openi
       (λ full. Describes.response (k .is) (h .session .is) (h .initiator .is) (h .ttl .is) pointed (followed full)) texts names
 
   -- locators, and what follows them
-  located-finish : {many p′ left bad end bad′ long : ℕ} {extra : Extra} {xs : Items} {ls : List Loc} → n ≡ 4 + (count xs + left) → many ≡ count xs
-      → (count xs ≡ 0 → ⊥)
-      → LocatorItems xs ls → StandAll s next p′ xs → bad ≡ 0 ↔ Every Utf8 (flatMap locTexts ls) → RestHere s p′ left bad end bad′ long extra
-      → ShapeOk s (S.Good (responseOf opening (Targets.Locators (record { at = next; many = many })) extra) end bad′ long)
+  located-finish : {n′ p′ left bad end bad′ long : ℕ} {first : Locator} {extra : Extra} → n ≡ 4 + n′ → (l : Located s next p′ n′ left bad first)
+      → RestHere s p′ left bad end bad′ long extra
+      → ShapeOk s (S.Good (responseOf opening (Targets.Locators first (record { at = next; many = n′ - left })) extra) end bad′ long)
   unfolding count tgtsTexts
-  located-finish counted many filled LocatorItems.empty stand texts r = absurd (filled refl)
-  located-finish counted many filled (LocatorItems.more {x} {l} {xs} {ls} i is) stand texts r =
-      let all = Items.more x xs in
-      responded (counted ∙ ap (λ (c : ℕ). 4 + c) (ap (λ (c : ℕ). count all + c) (r .counted) ∙ sym (count-joined all (r .items)))) (join-all stand (r .stand))
-      (TgtsItems.locators (LocatorItems.more i is) (r .are))
-      (TargetsIs.locators refl (record { items = all; stand = stand; many = many; are = LocatorItems.more i is }))
-      (r .is) (then-noted Utf8 (flatMap locTexts (l ∷ ls)) (optionalNames (r .obj)) texts (r .texts)) (r .names)
-
-  -- what the loop answers
-  located-of-sound : {parts : ℕ} → n ≡ 4 + parts → (x : LocatorsRead) → LocatorsOk s next parts 0 x → ShapeOk s (locatedOf s opening parts next x)
-  unfolding locatedOf
-  located-of-sound counted _ LocatorsOk.refused = IfGood.bad
-  located-of-sound {parts} counted _ (LocatorsOk.ran {left = left} l) =
-      past-case _
-      (λ more. rest-sound (k .bytes)
-      (λ extra end bad′ long r. located-finish (omega (arith, l .sum)) (omega (arith, l .sum)) (λ z. omega (arith, l .sum, leb-false parts left more)) (l .are)
-      (l .stand) (first-noted (l .texts)) r)
-      (l .stand .within))
+  located-finish {n′} counted l r =
+      let xs = l .items in
+      responded (counted ∙ ap (λ (c : ℕ). 4 + c) (l .sum ∙ ap (λ (c : ℕ). count xs + c) (r .counted) ∙ sym (count-joined xs (r .items))))
+      (join-all (l .stand) (r .stand)) (TgtsItems.locators (l .are) (r .are))
+      (TargetsIs.locators refl (record { items = xs; stand = l .stand; many = omega (arith, l .sum); are = l .are }) (l .described))
+      (r .is) (then-noted Utf8 (flatMap locTexts (l .loc ∷ l .locs)) (optionalNames (r .obj)) (l .texts) (r .texts)) (r .names)
 
   -- locators first
-  located-sound : (parts : ℕ) → n ≡ 4 + parts → ShapeOk s (locatedAt s opening parts next)
-  unfolding locatedAt
-  located-sound parts counted = located-of-sound counted _ (locators-sound (k .bytes) parts next 0 (stands-within (h .ttl .is .stands)))
+  located-here : (parts : ℕ) → n ≡ 4 + parts → 1 ≤ parts → ShapeOk s (locatedAt s opening parts next)
+  unfolding locatedAt locatedOf
+  located-here parts counted least =
+      let one : suc (parts - 1) ≡ parts = omega arith in
+      by _ (subst (λ (k : ℕ). LocatedOk s next k parts (locatorsAt s next (parts - 1))) (add-zero next)
+      (subst (λ (k : ℕ). LocatedOk s next (next + 0) k (locatorsAt s next (parts - 1))) one (located-sound s (k .bytes) next 0 (parts - 1))))
+    where
+      by : (x : LocatorsRead) → LocatedOk s next next parts x → ShapeOk s (locatedOf s opening parts next x)
+      by _ LocatedOk.refused = IfGood.bad
+      by _ (LocatedOk.ran l) = rest-sound (k .bytes) (λ extra end bad′ long r. located-finish counted l r) (l .stand .within)
 
   -- a divert, and what follows it
-  divert-finish : {many from p′ q left bad end bad′ long v : ℕ} {extra : Extra} {xs : Items} {ls : List Loc} → n ≡ 5 + left → many ≡ count xs
-      → (count xs ≡ 0 → ⊥)
-      → LocatorItems xs ls → StandAll s from p′ xs → ArrayHead s next q (suc many) → Stands s q from (uint v 100) → bad ≡ 0 ↔ Every Utf8 (flatMap locTexts ls)
+  divert-finish : {at many p′ left bad end bad′ long : ℕ} {first : Locator} {extra : Extra} → n ≡ 5 + left → DivertStands s next p′ first at many bad
       → RestHere s p′ left bad end bad′ long extra
-      → ShapeOk s (S.Good (responseOf opening (Targets.Divert (record { at = from; many = many })) extra) end bad′ long)
+      → ShapeOk s (S.Good (responseOf opening (Targets.Divert first (record { at = at; many = many })) extra) end bad′ long)
   unfolding count tgtsTexts
-  divert-finish counted many filled LocatorItems.empty stand head lead texts r = absurd (filled refl)
-  divert-finish counted many filled (LocatorItems.more {x} {l} {xs} {ls} i is) stand head lead texts r =
-      responded (counted ∙ omega (arith, r .counted)) (join (head-array head (ap suc many) (join lead stand)) (r .stand))
-      (TgtsItems.divert (LocatorItems.more i is) (r .are))
-      (TargetsIs.divert head lead (record { items = Items.more x xs; stand = stand; many = many; are = LocatorItems.more i is }))
-      (r .is) (then-noted Utf8 (flatMap locTexts (l ∷ ls)) (optionalNames (r .obj)) texts (r .texts)) (r .names)
-
-  -- what the loop answers in a divert
-  divert-of-sound : (left : ℕ) {many from q v : ℕ} → n ≡ 5 + left → (many ≡ 0 → ⊥) → ArrayHead s next q (suc many) → Stands s q from (uint v 100)
-      → (x : LocatorsRead) → LocatorsOk s from many 0 x → ShapeOk s (divertOf s opening left many from x)
-  unfolding divertOf
-  divert-of-sound left counted filled head lead _ LocatorsOk.refused = IfGood.bad
-  divert-of-sound left {many} counted filled head lead _ (LocatorsOk.ran {left = over} l) =
-      held-case _
-      (λ zero.
-      let same : many ≡ count (l .items) = omega (arith, l .sum, eqb-true over 0 zero) in
-      rest-sound (k .bytes)
-      (λ extra end bad′ long r. divert-finish counted same (λ z. filled (same ∙ z)) (l .are) (l .stand) head lead (first-noted (l .texts)) r)
-      (l .stand .within))
-
-  -- a divert first
-  divert-sound : (left : ℕ) → n ≡ 5 + left → (itemsIn (tokenAt s next) ≡ 0 → ⊥) → upTo 100 (tokenAt s (tokenAt s next .next)) ≡ 100
-      → ShapeOk s (divertAt s opening left (tokenAt s next .arg) next (tokenAt s (tokenAt s next .next) .next))
-  unfolding divertAt count
-  divert-sound left counted filled hundred =
-      let o = tokenAt s next in
-      let x = tokenAt s (o .next) in
-      let array = is-array o filled in
-      let head = token-heading s next o (k .bytes) refl (omega arith) in
-      let number = number-here 100 x (k .bytes) refl (omega arith) in
-      let lead = subst (λ (n : ℕ). Stands s (o .next) (x .next) (uint (number .width) n)) hundred (number .stands) in
-      past-case _
-      (λ e.
-      let two : 2 ≤ o .arg = ltb-false (o .arg) 2 e in
-      let opened = subst (ArrayHead s next (o .next)) (omega arith) (array-head head array) in
-      divert-of-sound left counted (λ z. omega arith) opened lead _ (locators-sound (k .bytes) (o .arg - 1) (x .next) 0 (stands-within lead)))
+  divert-finish counted d r =
+      responded (counted ∙ omega (arith, r .counted)) (join (head-array (d .head) (ap suc (d .count-is)) (join (d .lead) (d .stand))) (r .stand))
+      (TgtsItems.divert (d .are) (r .are))
+      (TargetsIs.divert (d .head) (d .lead) (record { items = d .items; stand = d .stand; many = d .count-is; are = d .are }) (d .described))
+      (r .is) (then-noted Utf8 (flatMap locTexts (d .loc ∷ d .locs)) (optionalNames (r .obj)) (d .texts) (r .texts)) (r .names)
 
   -- what follows the ttl
-  targets-sound : (parts : ℕ) → n ≡ 4 + parts → (parts ≡ 0 → ⊥) → ShapeOk s (targetsAt s opening parts next)
-  unfolding targetsAt
-  targets-sound parts counted filled =
-      let o = tokenAt s next in
-      let x = tokenAt s (o .next) in
-      pick-case (ShapeOk s) _ (λ _. located-sound parts counted)
-      (λ array. pick-case (ShapeOk s) _
-      (λ hundred. divert-sound (parts - 1) (omega arith) (eqb-false (itemsIn o) 0 array) (eqb-true (upTo 100 x) 100 hundred))
-      (λ _. located-sound parts counted))
+  targets-sound : (parts : ℕ) → n ≡ 4 + parts → 1 ≤ parts → ShapeOk s (targetsAt s opening parts next)
+  unfolding targetsAt targetsOf
+  targets-sound parts counted least = by _ (divert-sound s next (k .bytes))
+    where
+      by : (x : DivertRead) → DivertSound s next x → ShapeOk s (targetsOf s opening parts next x)
+      by _ DivertSound.other = located-here parts counted least
+      by _ DivertSound.refused = IfGood.bad
+      by _ (DivertSound.got d) = rest-sound (k .bytes) (λ extra end bad′ long r. divert-finish (omega arith) d r) (d .stand .within)
 
 -- after the opening
 response-by-sound : {s : List ℕ} {n at : ℕ} → Kinded s 2 n at → 5 ≤ n → (x : OpeningRead) → OpeningOk s at x → ShapeOk s (responseBy s n x)
 unfolding responseBy
 response-by-sound k five _ OpeningOk.bad = IfGood.bad
-response-by-sound {n = n} k five _ (OpeningOk.got h) = targets-sound k h (n - 4) (omega arith) (λ z. omega arith)
+response-by-sound {n = n} k five _ (OpeningOk.got h) = targets-sound k h (n - 4) (omega arith) (omega arith)
 
 -- what is read is a Response
 pub response-sound : {s : List ℕ} {n at : ℕ} → Kinded s 2 n at → ShapeOk s (responseAt s n at)
@@ -233,18 +194,12 @@ unfolding depth
 depths-joined Items.done ys d = d
 depths-joined (Items.more x xs) ys d = depths-joined xs ys (omega arith)
 
--- the locators end where nothing more or an objective stands
-stops : {s : List ℕ} {p e : ℕ} {ys : Items} {obj : Option (Obj Value)} (bad : ℕ) → StandAll s p e ys → OptionalItems ys obj
-    → locatorsFrom s (count ys) p bad ≡ LocatorsRead.Ran p (count ys) bad
+-- the locators of a part end where nothing more or an objective stands
+stops : (s : List ℕ) (base p e bad : ℕ) (first : Locator) {ys : Items} {obj : Option (Obj Value)} → StandAll s (base + p) e ys → OptionalItems ys obj
+    → locatorsFrom base (drop base s) first (count ys) p bad ≡ LocatorsRead.Ran first p (count ys) bad
 unfolding locatorsFrom count pick
-stops bad a OptionalItems.without = refl
-stops bad a (OptionalItems.with-one i) = rw (objective-led a i)
-
--- a number above its limit
-above : (limit : ℕ) (t : Token) → limit < t .arg → upTo limit t ≡ limit + 1
-unfolding upTo
-above limit t h =
-    both (λ (n : ℕ). n ≡ limit + 1) _ (pick-case (λ (n : ℕ). n ≡ limit + 1) _ (λ e. absurd (omega (arith, leb-true (t .arg) limit e))) (λ _. refl)) refl
+stops s base p e bad first a OptionalItems.without = refl
+stops s base p e bad first a (OptionalItems.with-one i) = rw (ap textLed (drop-drop p base s) ∙ objective-led a i)
 
 -- there is a locator
 filled : {xs : Items} {l : Loc} {ls : List Loc} → LocatorItems xs (l ∷ ls) → 1 ≤ count xs
@@ -257,10 +212,16 @@ unfolding count
 some-items (TgtsItems.locators {xs} {ys} is o) = omega (arith, count-joined xs ys, filled is)
 some-items (TgtsItems.divert is o) = omega arith
 
--- the first locator is led by more than 100
-first-led : {s : List ℕ} {p e : ℕ} {xs : Items} {l : Loc} {ls : List Loc} (ys : Items) → StandAll s p e (joined xs ys) → LocatorItems xs (l ∷ ls)
-    → 103 ≤ tokenAt s (tokenAt s p .next) .arg
-first-led ys a (LocatorItems.more i is) = locator-led a i .1
+-- items of the message, in the part that begins with them
+sink-all : {s : List ℕ} {p e : ℕ} {xs : Items} → StandAll s p e xs → StandAll (drop p s) 0 (e - p) xs
+sink-all {s} {p} {e} {xs} a =
+    let sum : p + (e - p) ≡ e = omega (arith, a .end) in
+    record {
+      good = a .good;
+      is = a .is ∙ ap (λ (r : List ℕ). encodes xs ++ r) (ap (λ (k : ℕ). drop k s) (sym sum) ∙ sym (drop-drop (e - p) p s));
+      end = omega (arith, a .end);
+      within = omega (arith, a .within, length-drop p s);
+    }
 
 module _ (s : List ℕ) (opening : Opening) where
   -- what follows the locators or the divert is read
@@ -274,50 +235,34 @@ module _ (s : List ℕ) (opening : Opening) where
       (objective-reads a (omega arith) i (restOf s opening targets left p bad) (λ o size bad′ long. taken _ (eq-eqb _ _ counted) Reads.reads))
 
   -- locators are read
-  located-complete : {p e parts : ℕ} {xs ys : Items} {l : Loc} {ls : List Loc} {obj : Option (Obj Value)} → StandAll s p e (joined xs ys)
+  locators-reads : {p e parts : ℕ} {xs ys : Items} {l : Loc} {ls : List Loc} {obj : Option (Obj Value)} → StandAll s p e (joined xs ys)
       → depths (joined xs ys) ≤ partLevels
       → parts ≡ count (joined xs ys) → LocatorItems xs (l ∷ ls) → OptionalItems ys obj → Reads (locatedAt s opening parts p)
-  unfolding locatedAt locatedOf
-  located-complete {p} {parts = parts} {xs} {ys} a d counted is o =
-      let (m, first, rest) = split-all xs ys a in
-      let sum : parts ≡ count xs + count ys = counted ∙ count-joined xs ys in
-      let (bad, same) = locators-complete first is (count ys) 0 in
-      let all : locatorsFrom s parts p 0 ≡ LocatorsRead.Ran m (count ys) bad = ap (λ (n : ℕ). locatorsFrom s n p 0) sum ∙ same ∙ stops bad rest o in
-      subst (λ (r : LocatorsRead). Reads (locatedOf s opening parts p r)) (sym all)
-      (skipped _ (lt-leb parts (count ys) (omega (arith, filled is))) (rest-complete bad _ rest o (depths-joined xs ys d) refl))
-
-  -- a divert is read
-  divert-complete : {p e w v left : ℕ} {xs ys : Items} {l : Loc} {ls : List Loc} {obj : Option (Obj Value)}
-      → StandAll s p e (Items.more (Item.array w (Items.more (uint v 100) xs)) ys)
-      → depths ys ≤ partLevels → left ≡ count ys → LocatorItems xs (l ∷ ls) → OptionalItems ys obj
-      → Reads (divertAt s opening left (tokenAt s p .arg) p (tokenAt s (tokenAt s p .next) .next))
-  unfolding divertAt divertOf locatorsFrom count
-  divert-complete {p} {left = left} {xs} a d counted is o =
-      let t = array-passed a in
-      let (number, hundred, rest) = uint-passed (t .items) in
-      let from : ℕ = tokenAt s (tokenAt s p .next) .next in
-      let (bad, same) = locators-complete rest is 0 0 in
-      let less : tokenAt s p .arg - 1 ≡ count xs + 0 = omega (arith, t .arg) in
-      let all : locatorsFrom s (tokenAt s p .arg - 1) from 0 ≡ LocatorsRead.Ran (t .mid) 0 bad = ap (λ (n : ℕ). locatorsFrom s n from 0) less ∙ same in
-      skipped _ (le-ltb (tokenAt s p .arg) 2 (omega (arith, t .arg, filled is)))
-      (subst (λ (r : LocatorsRead). Reads (divertOf s opening left (tokenAt s p .arg - 1) from r)) (sym all)
-      (taken _ refl (rest-complete bad _ (t .rest) o d counted)))
+  unfolding locatedAt locatedOf count
+  locators-reads {p} {e} {parts} {ys = ys} a d counted (LocatorItems.more {x} {xs = xs} i is) o =
+      let all = Items.more x xs in
+      let (m, first, rest) = split-all all ys a in
+      let (f, bad, same) = located-complete s p (sink-all first) i is (count ys) in
+      let place : p + (m - p) ≡ m = omega (arith, first .end) in
+      let there = subst (λ (k : ℕ). StandAll s k e ys) (sym place) rest in
+      let more : parts - 1 ≡ count xs + count ys = omega (arith, counted, count-joined all ys) in
+      let read : locatorsAt s p (parts - 1) ≡ LocatorsRead.Ran f (m - p) (count ys) bad =
+      ap (locatorsAt s p) more ∙ same ∙ stops s p (m - p) e bad f there o in
+      subst (λ (r : LocatorsRead). Reads (locatedOf s opening parts p r)) (sym read) (rest-complete bad _ there o (depths-joined all ys d) refl)
 
   -- what follows the ttl is read
   targets-complete : {p e parts : ℕ} {xs : Items} {tgts : Tgts} {obj : Option (Obj Value)} → StandAll s p e xs → depths xs ≤ partLevels → parts ≡ count xs
       → TgtsItems xs tgts obj
       → Reads (targetsAt s opening parts p)
-  unfolding targetsAt depth count
-  targets-complete {p} a d counted (TgtsItems.locators {ys = ys} is o) =
-      let x = tokenAt s (tokenAt s p .next) in
-      let located = located-complete a d counted is o in
-      both Reads _ located (skipped _ (ne-eqb (upTo 100 x) 100 (λ z. omega (arith, above 100 x (omega (arith, first-led ys a is))))) located)
-  targets-complete {p} a d counted (TgtsItems.divert {xs = xs} is o) =
-      let t = array-passed a in
-      let (number, hundred, rest) = uint-passed (t .items) in
-      skipped _ (ne-eqb (itemsIn (tokenAt s p)) 0 (array-items (tokenAt s p) (count xs) (t .major) (t .arg)))
-      (taken _ (eq-eqb (upTo 100 (tokenAt s (tokenAt s p .next))) 100 (number-is 100 _ number (omega arith) ∙ hundred))
-      (divert-complete a (omega arith) (omega arith) is o))
+  unfolding targetsAt targetsOf depth count
+  targets-complete {p} {parts = parts} a d counted (TgtsItems.locators {ys = ys} (LocatorItems.more i is) o) =
+      subst (λ (r : DivertRead). Reads (targetsOf s opening parts p r)) (sym (locator-other a i)) (locators-reads a d counted (LocatorItems.more i is) o)
+  targets-complete {p} {e} {parts} a d counted (TgtsItems.divert {ys = ys} (LocatorItems.more i is) o) =
+      let c = split a in
+      let (first, at, many, bad, same) = divert-read (c .first) i is in
+      let place : p + (c .mid - p) ≡ c .mid = omega (arith, c .first .end) in
+      let there = subst (λ (k : ℕ). StandAll s k e ys) (sym place) (c .rest) in
+      subst (λ (r : DivertRead). Reads (targetsOf s opening parts p r)) (sym same) (rest-complete bad _ there o (omega arith) (omega arith))
 
 -- a Response is read
 pub response-complete : {s : List ℕ} {n at e session ttl : ℕ} {x y z : Item} {xs : Items} {from : List ℕ} {tgts : Tgts} {obj : Option (Obj Value)}

@@ -1,12 +1,11 @@
 -- The walk passes over what is read of a message's parts, whatever numbers the list has: it accepts a message that its
 -- parts make up, and ends where they end.
 -- Assumes nothing.
-use mathlib.Core.Path.{_≡_, refl, sym, ap, _∙_, subst}
+use mathlib.Core.Path.{_≡_, refl, ap, _∙_}
 use mathlib.Core.Logic.{inl}
 use mathlib.Core.List.{List}
 use mathlib.Core.Bool.{true, false}
 use Prim.Native.Nat.{ℕ, zero, suc, _+_, _-_, _≤_}
-use native.Mathlib.Nat.{zero-add}
 use native.Mathlib.Omega.{arith}
 use lib.ListN.{drop}
 use lib.Dec.{ltb}
@@ -18,31 +17,35 @@ use Rattle.cbor.specs.Item.{leftUnder, firstItem}
 use Rattle.cbor.specs.Token.{tokenAt, sizeAt, itemsIn, upTo}
 use Rattle.cbor.proofs.Tokens.{is-array, is-number}
 use Rattle.cbor.proofs.Passes.{Passes, passes-none, passes-then, passes-within, leaf-passes, array-passes, size-passes, passes-item}
-use Rattle.options.specs.declared.locator.LocatorRead.{LocatorRead}
+use Rattle.options.specs.declared.locators.LocatorsRead.{LocatorsRead}
+use Rattle.options.specs.declared.divert.DivertRead.{DivertRead}
+use Rattle.options.specs.declared.outcome.OutcomeRead.{OutcomeRead}
 use Rattle.options.specs.declared.objective.Objective.{Objective}
 use Rattle.options.specs.declared.objective.ObjectiveRead.{ObjectiveRead}
 use Rattle.options.specs.declared.pair.Pair.{Pair}
 use Rattle.options.specs.declared.pair.PairRead.{PairRead}
 use Rattle.options.specs.Text.{firstOf}
-use Rattle.options.specs.Locator.{locatorAt}
+use Rattle.options.specs.Locators.{locatorsAt}
+use Rattle.options.specs.Divert.{divertAt}
+use Rattle.options.specs.Outcome.{outcomeAt}
 use Rattle.options.specs.Objective.{objectiveAt}
 use Rattle.options.specs.Pair.{pairAt}
-use Rattle.options.proofs.Fits.{LocatorWalked, locator-walked, ObjectiveWalked, objective-walked, PairWalked, pair-walked}
+use Rattle.options.proofs.Fits.{OutcomeWalked, outcome-walked, ObjectiveWalked, objective-walked, PairWalked, pair-walked}
+use Rattle.options.proofs.Series.{LocatorsWalked, locators-walked, DivertWalked, divert-walked}
 use Rattle.message.specs.declared.Series.{Series}
 use Rattle.message.specs.declared.Targets.{Targets}
 use Rattle.message.specs.declared.Message.{Message}
 use Rattle.message.specs.declared.opening.Opening.{Opening}
 use Rattle.message.specs.declared.opening.OpeningRead.{OpeningRead}
-use Rattle.message.specs.declared.sequence.LocatorsRead.{LocatorsRead}
 use Rattle.message.specs.declared.sequence.PairsRead.{PairsRead}
 use Rattle.message.specs.declared.shape.Shape.{Shape}
 use Rattle.message.specs.declared.shape.Shape.the-variants as S
 use Rattle.message.specs.declared.Examined.{Examined}
 use Rattle.message.specs.declared.Examined.the-variants as E
 use Rattle.message.specs.Opening.{mostNumber, objectiveLevels, isInitiator, openingAt}
-use Rattle.message.specs.Sequence.{locatorThen, locatorsFrom, pairThen, pairsFrom}
-use Rattle.message.specs.Shape.{noopAt, discovered, discoveryAt, exchanged, exchangeAt, waitAt, invalidAt, optionAt, endAt}
-use Rattle.message.specs.Response.{restOf, restAt, divertOf, divertAt, locatedOf, locatedAt, targetsAt, responseBy, responseAt}
+use Rattle.message.specs.Sequence.{pairThen, pairsFrom}
+use Rattle.message.specs.Shape.{noopAt, discovered, discoveryAt, exchanged, exchangeAt, waitAt, invalidAt, ended, endAt}
+use Rattle.message.specs.Response.{restOf, restAt, locatedOf, locatedAt, targetsOf, targetsAt, responseBy, responseAt}
 use Rattle.message.specs.Flood.{floodedBy, floodedOf, floodedAt, floodBy, floodAt}
 use Rattle.message.specs.Examined.{byKind, judgedShape, examined}
 use Rattle.message.proofs.Parts.{initiated}
@@ -71,31 +74,7 @@ module _ (s : List ℕ) where
   initiator-passes : {left p : ℕ} → isInitiator (tokenAt s p) ≡ true → Passes left 1 s p (tokenAt s p .next)
   initiator-passes {p = p} e = leaf-passes s p (inl (omega (arith, initiated (tokenAt s p) e .0)))
 
-  -- ---- locators and pairs, one after the other
-  -- of n items all are passed but those that are left over, where so many levels may open in each
-  abbrev LocatorsWalked : ℕ → ℕ → ℕ → LocatorsRead → Type 0
-  LocatorsWalked left n p (LocatorsRead.Bad place) = Unit {0}
-  LocatorsWalked left n p (LocatorsRead.Ran end over bad) = (c : ℕ) × (n ≡ c + over) × Passes (suc left) c s p end
-
-  -- one locator, and then others
-  locators-more : (n : ℕ) {left p m : ℕ} (r : LocatorsRead) → Passes (suc left) 1 s p m → LocatorsWalked left n m r → LocatorsWalked left (suc n) p r
-  locators-more n (LocatorsRead.Bad place) h rest = tt
-  locators-more n (LocatorsRead.Ran end over bad) h (c, sum, rest) = (1 + c, omega arith, passes-then h rest)
-
-  -- the loop over locators
-  locators-walked : (left n p bad : ℕ) → LocatorsWalked left n p (locatorsFrom s n p bad)
-  unfolding locatorsFrom locatorThen
-  locators-walked left zero p bad = (0, refl, passes-none)
-  locators-walked left (suc n) p bad =
-      both (LocatorsWalked left (suc n) p) _ (0, sym (zero-add (suc n)), passes-none)
-      (next (locators-walked left n) (locatorAt s p) (locator-walked p (drop p s)))
-    where
-      next : ((p′ bad′ : ℕ) → LocatorsWalked left n p′ (locatorsFrom s n p′ bad′)) → (x : LocatorRead) → LocatorWalked (drop p s) x
-          → LocatorsWalked left (suc n) p (locatorThen (locatorsFrom s n) p bad x)
-      next go (LocatorRead.Bad place) h = tt
-      next go (LocatorRead.Got l size bad′) h =
-          locators-more n (locatorsFrom s n (p + size) (firstOf bad bad′)) (passes-within (h left)) (go (p + size) (firstOf bad bad′))
-
+  -- ---- pairs, one after the other
   -- all n pairs are passed
   abbrev PairsWalked : ℕ → ℕ → PairsRead → Type 0
   PairsWalked n p (PairsRead.Bad place) = Unit {0}
@@ -187,31 +166,18 @@ module _ (s : List ℕ) where
       (λ some. after (omega (arith, ltb-false n 2 lo, ltb-false 3 n hi, eqb-false n 2 more)) (most-passes e)
       (IfGood.good (size-passes 1 s (tokenAt s p .next) (eqb-false (sizeAt 1 s (tokenAt s p .next)) 0 some))))))))
 
-  -- an accept or a decline
-  option-walked : (session p : ℕ) → ShapeWalked 1 p (optionAt s session p)
-  unfolding optionAt
-  option-walked session p =
-      let o = tokenAt s p in
-      let x = tokenAt s (o .next) in
-      past-case _
-      (λ filled. past-case _
-      (λ _. past-case _
-      (λ hi.
-      let array : (e n : ℕ) → o .arg ≡ n → Passes (leftUnder 2) n s (o .next) e → Parts 1 p e =
-      λ e n many h. array-passes s p (is-array o (eqb-false (itemsIn o) 0 filled)) (rw many h) in
-      let lead = number-passes {left = leftUnder 2} {p = o .next} 102 (ltb-false 102 (upTo 102 x) hi) in
-      pick-case (ShapeWalked 1 p) _
-      (λ one. let alone = array (x .next) 1 (eqb-true (o .arg) 1 one) lead in both (ShapeWalked 1 p) _ (IfGood.good alone) (IfGood.good alone))
-      (λ _. past-case _
-      (λ _. held-case _
-      (λ two. held-case _
-      (λ text. IfGood.good (array _ 2 (eqb-true (o .arg) 2 two)
-      (passes-then lead (leaf-passes s (x .next) (inl (omega (arith, eqb-true (tokenAt s (x .next) .major) 3 text)))))))))))))
-
   -- 6, End
   end-walked : (n p : ℕ) → ShapeWalked (n - 1) p (endAt s n p)
-  unfolding endAt
-  end-walked n p = held-case _ (λ three. past-case _ (λ e. after (omega (arith, eqb-true n 3 three)) (most-passes e) (option-walked _ _)))
+  unfolding endAt ended
+  end-walked n p =
+      held-case _
+      (λ three. past-case _
+      (λ e. after (omega (arith, eqb-true n 3 three)) (most-passes e)
+      (by _ (tokenAt s p .next) (outcomeAt s (tokenAt s p .next)) (outcome-walked (tokenAt s p .next) (drop (tokenAt s p .next) s)))))
+    where
+      by : (session q : ℕ) (x : OutcomeRead) → OutcomeWalked (drop q s) x → ShapeWalked 1 q (ended session q x)
+      by session q (OutcomeRead.Bad place) h = IfGood.bad
+      by session q (OutcomeRead.Got o size bad) h = IfGood.good (passes-within (h (leftUnder 2)))
 
   -- what Response and Flood begin with
   data OpeningWalked (p : ℕ) : OpeningRead → Type 0 where
@@ -260,50 +226,23 @@ module _ (s : List ℕ) where
         (λ _. objective-then (restOf s opening targets left p bad) (λ _. IfGood.bad) (λ _ _ _ _ h. held-case _ (λ one. counted (eqb-true left 1 one) h)))
 
     -- locators first
-    located-walked : (n p : ℕ) → ShapeWalked n p (locatedAt s opening n p)
+    located-walked : (n p : ℕ) → 1 ≤ n → ShapeWalked n p (locatedAt s opening n p)
     unfolding locatedAt locatedOf
-    located-walked n p = by (locatorsFrom s n p 0) (locators-walked (leftUnder 2) n p 0)
+    located-walked n p some = by (locatorsAt s p (n - 1)) (locators-walked p (drop p s) (leftUnder 2) 0 (n - 1))
       where
-        by : (x : LocatorsRead) → LocatorsWalked (leftUnder 2) n p x → ShapeWalked n p (locatedOf s opening n p x)
+        by : (x : LocatorsRead) → LocatorsWalked p (drop p s) (leftUnder 2) (suc (n - 1)) 0 x → ShapeWalked n p (locatedOf s opening n p x)
         by (LocatorsRead.Bad place) h = IfGood.bad
-        by (LocatorsRead.Ran end left bad) (c, sum, h) =
-            past-case (tokenAt s end .next) (λ _. after sum h (rest-walked (Targets.Locators (record { at = p; many = n - left })) left end bad))
+        by (LocatorsRead.Ran first end left bad) (c, sum, h) = after (omega arith) (passes-within h) (rest-walked _ left (p + end) bad)
 
-    -- a divert first
-    divert-walked : (left p : ℕ) → tokenAt s p .major ≡ 4 → upTo 100 (tokenAt s (tokenAt s p .next)) ≡ 100
-        → ShapeWalked (1 + left) p (divertAt s opening left (tokenAt s p .arg) p (tokenAt s (tokenAt s p .next) .next))
-    unfolding divertAt divertOf
-    divert-walked left p four hundred =
-        past-case _ (λ e. by (ltb-false (o .arg) 2 e) (locatorsFrom s (o .arg - 1) from 0) (locators-walked (leftUnder 3) (o .arg - 1) from 0))
-      where
-        o : Token
-        o = tokenAt s p
-
-        from : ℕ
-        from = tokenAt s (o .next) .next
-
-        by : 2 ≤ o .arg → (x : LocatorsRead) → LocatorsWalked (leftUnder 3) (o .arg - 1) from x
-            → ShapeWalked (1 + left) p (divertOf s opening left (o .arg - 1) from x)
-        by two (LocatorsRead.Bad place) h = IfGood.bad
-        by two (LocatorsRead.Ran end over bad) (c, sum, h) =
-            held-case (tokenAt s end .next)
-            (λ none.
-            let all : o .arg ≡ 1 + c = omega (arith, eqb-true over 0 none) in
-            after refl (array-passes s p four (rw all (passes-then (number-passes 100 (omega arith)) h)))
-            (rest-walked (Targets.Divert (record { at = from; many = o .arg - 1 })) left end bad))
-
-    -- what follows the ttl
+    -- a divert first, or else locators
     targets-walked : (n p : ℕ) → 1 ≤ n → ShapeWalked n p (targetsAt s opening n p)
-    unfolding targetsAt
-    targets-walked n p some =
-        let o = tokenAt s p in
-        pick-case (ShapeWalked n p) _ (λ _. located-walked n p)
-        (λ array. pick-case (ShapeWalked n p) _
-        (λ hundred.
-        let sum : n ≡ 1 + (n - 1) = omega arith in
-        subst (λ (k : ℕ). ShapeWalked k p (divertAt s opening (n - 1) (o .arg) p (tokenAt s (o .next) .next))) (sym sum)
-        (divert-walked (n - 1) p (is-array o (eqb-false (itemsIn o) 0 array)) (eqb-true (upTo 100 (tokenAt s (o .next))) 100 hundred)))
-        (λ _. located-walked n p))
+    unfolding targetsAt targetsOf
+    targets-walked n p some = by (divertAt s p) (divert-walked p (drop p s))
+      where
+        by : (x : DivertRead) → DivertWalked p (drop p s) x → ShapeWalked n p (targetsOf s opening n p x)
+        by DivertRead.Other h = located-walked n p some
+        by (DivertRead.Bad place) h = IfGood.bad
+        by (DivertRead.Got first at many size bad) h = after (omega arith) (passes-within (h (leftUnder 3))) (rest-walked _ (n - 1) (p + size) bad)
 
   -- 2, Response
   response-walked : (n p : ℕ) → ShapeWalked (n - 1) p (responseAt s n p)

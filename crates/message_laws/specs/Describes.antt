@@ -6,15 +6,17 @@ use mathlib.Core.Option.{Option, none, some}
 use lib.ListN.{length}
 use Rattle.cbor.specs.Tree.{Items, count}
 use Rattle.options.specs.declared.Span.{Span}
+use Rattle.options.specs.declared.locator.Locator.{Locator}
 use Rattle.options.specs.declared.objective.Objective.{Objective}
 use Rattle.options.specs.declared.pair.Pair as P
 use Rattle.rfc8990.specs.Message.{Loc, Obj, Pair, Tgts, Outc, Msg}
 use Rattle.rfc8990.specs.Cddl.{uint, bytes, LocatorItems, PairItems, Value}
-use Rattle.message_laws.specs.Stands.{Stands, StandAll, ArrayHead, Before, ValueIs, ObjectiveIs, PairIs}
+use Rattle.message_laws.specs.Stands.{Stands, StandAll, ArrayHead, Before}
+use Rattle.message_laws.specs.Stands.{LocatorIs, ValueIs, ObjectiveIs, PairIs}
 use Rattle.message.specs.declared.Series.{Series}
 use Rattle.message.specs.declared.Targets.{Targets}
 use Rattle.message.specs.declared.Extra.{Extra}
-use Rattle.options.specs.declared.Outcome.{Outcome}
+use Rattle.options.specs.declared.outcome.Outcome.{Outcome}
 use Rattle.message.specs.declared.Message.{Message}
 use Rattle.message.specs.declared.Message.the-variants as M
 
@@ -44,13 +46,16 @@ pub record SeriesIs (s : List ℕ) (series : Series) (e : ℕ) (P : Items → Ty
   pub many : series .many ≡ count items
   pub are : P items
 
--- locators stand from p to e; or the head of a divert stands at p, then its lead, 100, and then its locators, up to e
+-- locators stand from p to e; or the head of a divert stands at p, then its lead, 100, and then its locators, up to e;
+-- the first of them is beside the series
 pub data TargetsIs (s : List ℕ) (p e : ℕ) : Targets → Tgts → Type 0 where
-  locators : {series : Series} {ls : List Loc} → series .at ≡ p → SeriesIs s series e (λ xs. LocatorItems xs ls)
-      → TargetsIs s p e (Targets.Locators series) (Tgts.locators ls)
-  divert : {series : Series} {ls : List Loc} {q w : ℕ} → ArrayHead s p q (suc (series .many))
-      → Stands s q (series .at) (uint w 100)
-      → SeriesIs s series e (λ xs. LocatorItems xs ls) → TargetsIs s p e (Targets.Divert series) (Tgts.divert ls)
+  locators : {first : Locator} {series : Series} {loc : Loc} {ls : List Loc} → series .at ≡ p
+      → SeriesIs s series e (λ xs. LocatorItems xs (loc ∷ ls)) → LocatorIs s (series .at) first loc
+      → TargetsIs s p e (Targets.Locators first series) (Tgts.locators (loc ∷ ls))
+  divert : {first : Locator} {series : Series} {loc : Loc} {ls : List Loc} {q w : ℕ}
+      → ArrayHead s p q (suc (series .many)) → Stands s q (series .at) (uint w 100)
+      → SeriesIs s series e (λ xs. LocatorItems xs (loc ∷ ls)) → LocatorIs s (series .at) first loc
+      → TargetsIs s p e (Targets.Divert first series) (Tgts.divert (loc ∷ ls))
 
 -- the message ends at p, or an objective stands from there on
 pub data ExtraIs (s : List ℕ) (p : ℕ) : Extra → Option (Obj Value) → Type 0 where

@@ -7,7 +7,7 @@ use mathlib.Core.Option.{Option, none, some}
 use lib.ListN.{length}
 use Rattle.cbor.specs.Tree.{Item, encode}
 use Rattle.options.specs.declared.Span.{Span}
-use Rattle.options.specs.declared.Outcome.{Outcome}
+use Rattle.options.specs.declared.outcome.Outcome.{Outcome}
 use Rattle.options.specs.declared.locator.Locator.{Locator}
 use Rattle.options.specs.declared.locator.Locator.the-variants as L
 use Rattle.options.specs.declared.locator.LocatorRead.{LocatorRead}
@@ -99,12 +99,14 @@ pub record SeriesHolds {A : Type 0} (Reads : ℕ → ℕ → A → Type 0) (seri
   pub each : InTurn Reads (series .at) xs
 
 -- ---- messages
--- a Response's locators, or its divert's
+-- a Response's locators, or its divert's; the first is held twice: as the first of the series, and by itself
 pub data TargetsHold (s : List ℕ) : Targets → Tgts → Type 0 where
-  locators : {series : Series} {ls : List Loc} → SeriesHolds (LocatorReads s) series ls
-      → TargetsHold s (Targets.Locators series) (Tgts.locators ls)
-  divert : {series : Series} {ls : List Loc} → SeriesHolds (LocatorReads s) series ls
-      → TargetsHold s (Targets.Divert series) (Tgts.divert ls)
+  locators : {first : Locator} {series : Series} {loc : Loc} {ls : List Loc}
+      → SeriesHolds (LocatorReads s) series (loc ∷ ls) → LocatorHolds s first loc
+      → TargetsHold s (Targets.Locators first series) (Tgts.locators (loc ∷ ls))
+  divert : {first : Locator} {series : Series} {loc : Loc} {ls : List Loc}
+      → SeriesHolds (LocatorReads s) series (loc ∷ ls) → LocatorHolds s first loc
+      → TargetsHold s (Targets.Divert first series) (Tgts.divert (loc ∷ ls))
 
 -- an objective that may be left out
 pub data ExtraHolds (s : List ℕ) : Extra → Option (Obj Value) → Type 0 where

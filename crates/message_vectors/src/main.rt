@@ -6,11 +6,11 @@ use message::Series;
 use message::Targets;
 use message::fields;
 use message::fields::Session;
-use options::Outcome;
 use options::Span;
 use options::locator::Locator;
 use options::locator::LocatorRead;
 use options::objective::Objective;
+use options::outcome::Outcome;
 use options::pair::PairRead;
 use options::pair::Tag;
 use reader::Reading;
@@ -174,11 +174,11 @@ fn print_item(item: Span) {
 
 fn print_targets(s: &[u8], targets: Targets) {
     match targets {
-        Targets::Locators(series) => {
+        Targets::Locators { series, .. } => {
             print_number(b" locators", series.many);
             print_locators(s, series);
         }
-        Targets::Divert(series) => {
+        Targets::Divert { series, .. } => {
             print_number(b" divert", series.many);
             print_locators(s, series);
         }

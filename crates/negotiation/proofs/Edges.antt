@@ -12,7 +12,8 @@ use Rattle.cbor.specs.Token.{nothingAt, tokenOf, tokenFrom, tokenAt, itemsIn, u
 use Rattle.utf8.specs.Utf8.{tailsOf, leastTail, greatestTail, goesOn, isUtf8}
 use Rattle.options.specs.Text.{badText}
 use Rattle.options.specs.Objective.{longName, objectiveFrom, objectiveIn, objectiveNamed}
-use Rattle.message.specs.Shape.{exchangeOf, exchanged, exchangeAt, waitAt, optionAt, endAt}
+use Rattle.options.specs.Outcome.{reasonIn, outcomeIn}
+use Rattle.message.specs.Shape.{exchangeOf, exchanged, exchangeAt, waitAt, ended, endAt}
 use Rattle.message.specs.Examined.{byKind, judgedShape, examined}
 use Rattle.reader.specs.Read.{framed, readPlaced, placeless, readOf}
 use Rattle.negotiation.specs.declared.Side.the-variants.{Us, Them}
@@ -60,6 +61,6 @@ pub session :
     × (step (Open 7 0 Us) ending Us ≡ Refused 20)
 unfolding pick bigEndian widthOf leastOf initialOf argOf judged headFrom headBy headOf headAt opens stepOf stepFrom stepAt itemsOf next run enough firstItem
     nothingAt tokenOf tokenFrom tokenAt itemsIn upTo tailsOf leastTail greatestTail goesOn isUtf8 badText longName objectiveFrom objectiveIn objectiveNamed
-    exchangeOf exchanged exchangeAt waitAt optionAt endAt byKind judgedShape examined framed readPlaced placeless readOf moveOf freshStep lowerStep turnStep
-    stateStep readingStep step after stepsOf isMoved acceptedOf isKind negotiated
+    exchangeOf exchanged exchangeAt waitAt reasonIn outcomeIn ended endAt byKind judgedShape examined framed readPlaced placeless readOf moveOf
+    freshStep lowerStep turnStep stateStep readingStep step after stepsOf isMoved acceptedOf isKind negotiated
 session = (refl, refl, refl)

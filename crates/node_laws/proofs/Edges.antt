@@ -19,12 +19,13 @@ use Rattle.options.specs.Text.{spanOf, badText, firstOf, held}
 use Rattle.options.specs.Objective.{longName, objectiveFrom, objectiveIn, objectiveNamed}
 use Rattle.options.specs.Pair.{isEmpty, pairTagged, pairTail, pairLed, pairIn}
 use Rattle.message.specs.declared.Message.the-variants as M
-use Rattle.options.specs.declared.Outcome.{Outcome}
+use Rattle.options.specs.declared.outcome.Outcome.{Outcome}
 use Rattle.options.specs.declared.pair.Tag.{Tag}
 use Rattle.reader.specs.declared.Reading.{Reading}
 use Rattle.message.specs.Opening.{isInitiator, openingAt}
 use Rattle.message.specs.Sequence.{pairThen, pairsFrom}
-use Rattle.message.specs.Shape.{noopAt, discovered, discoveryAt, optionAt, endAt}
+use Rattle.options.specs.Outcome.{reasonIn, outcomeIn}
+use Rattle.message.specs.Shape.{noopAt, discovered, discoveryAt, ended, endAt}
 use Rattle.message.specs.Flood.{floodedBy, floodedOf, floodedAt, floodBy, floodAt}
 use Rattle.message.specs.Examined.{byKind, judgedShape, examined}
 use Rattle.reader.specs.Read.{framed, readPlaced, placeless, readOf}
@@ -77,8 +78,8 @@ pub starred :
 unfolding pick bigEndian bytesOf widthOf leastOf initialOf argOf judged headFrom headBy headOf headAt opens stepOf stepFrom stepAt itemsOf next run enough
     firstItem nothingAt tokenOf tokenFrom tokenAt sizeFrom sizeAt itemsIn upTo tailsOf leastTail greatestTail goesOn isUtf8 infoOf headBytes shortest head
     badText firstOf longName objectiveFrom objectiveIn objectiveNamed isEmpty pairTagged pairTail pairLed pairIn isInitiator openingAt pairThen pairsFrom noopAt
-    discovered discoveryAt optionAt endAt floodedBy floodedOf floodedAt floodBy floodAt byKind judgedShape examined framed readPlaced placeless readOf lowered
-    goodName goodNames arrayBad framedBad namesBad sameBytes namedFrom isNamed linksBad recordBad fresh hasBit arrivalBad others clocked tallied freshTable cell
-    putRow rowFree tagIn initiatorFits rowKeyed rowUsed rowBad firstFrom someRow tableBad rowLife rowDead freeRows freed lowestFree rowMatches isKnown roleOf
-    tagOf keyOf keyIn barred refuse quiet laterVerdict verdictOn relayed carriedOut taken received nodeCall steps ones onesIn
+    discovered discoveryAt reasonIn outcomeIn ended endAt floodedBy floodedOf floodedAt floodBy floodAt byKind judgedShape examined framed readPlaced placeless
+    readOf lowered goodName goodNames arrayBad framedBad namesBad sameBytes namedFrom isNamed linksBad recordBad fresh hasBit arrivalBad others clocked
+    tallied freshTable cell putRow rowFree tagIn initiatorFits rowKeyed rowUsed rowBad firstFrom someRow tableBad rowLife rowDead freeRows freed lowestFree
+    rowMatches isKnown roleOf tagOf keyOf keyIn barred refuse quiet laterVerdict verdictOn relayed carriedOut taken received nodeCall steps ones onesIn
 starred = (refl, refl, refl, refl, refl, refl, refl, refl, refl, refl, refl, refl, refl, refl, refl, refl, refl, refl, refl)

@@ -26,6 +26,8 @@ use Rattle.options.specs.declared.objective.ObjectiveRead.{ObjectiveRead
 use Rattle.options.specs.declared.pair.PairRead.{PairRead}
 use Rattle.options.specs.Locator.{isNull, addressFits, noProtocol, noPort, protocolOf, portOf, locatorIn, locatorReached}
 use Rattle.options.specs.Objective.{objectiveFrom, objectiveIn, objectiveNamed}
+use Rattle.options.specs.declared.outcome.OutcomeRead.{OutcomeRead}
+use Rattle.options.specs.Outcome.{reasonIn, outcomeIn}
 use Rattle.options.specs.Pair.{isEmpty, pairLevels, pairTagged, pairTail, pairLed, pairIn}
 
 -- ---- locators
@@ -108,6 +110,54 @@ locator-told base s =
 -- so it is passed
 pub locator-walked : (base : ℕ) (s : List ℕ) → LocatorWalked s (locatorIn base s)
 locator-walked base s = locator-told base s .1
+
+-- ---- accept and decline
+-- it lies within so many bytes
+abbrev pub OutcomeOk : ℕ → OutcomeRead → Type 0
+OutcomeOk room (OutcomeRead.Bad place) = Unit {0}
+OutcomeOk room (OutcomeRead.Got o size bad) = size ≤ room
+
+-- the walk passes over it, of one level
+abbrev pub OutcomeWalked : List ℕ → OutcomeRead → Type 0
+OutcomeWalked s (OutcomeRead.Bad place) = Unit {0}
+OutcomeWalked s (OutcomeRead.Got o size bad) = (left : ℕ) → Passes (suc left) 1 s 0 size
+
+-- both
+outcome-told : (base : ℕ) (s : List ℕ) → OutcomeOk (length s) (outcomeIn base s) × OutcomeWalked s (outcomeIn base s)
+unfolding outcomeIn reasonIn
+outcome-told base s =
+    let a = tokenAt s 0 in
+    let k = tokenAt s (a .next) in
+    let lead = upTo 102 k in
+    let t = tokenAt s (k .next) in
+    pick-case P (eqb (itemsIn a) 0) (λ _. (tt, tt))
+    (λ t₁. both P (ltb lead 101) (tt, tt)
+    (pick-case P (ltb 102 lead) (λ _. (tt, tt))
+    (λ t₂.
+    let (number, _) = is-number 102 k (ltb-false 102 lead t₂) in
+    let array : (n e : ℕ) → a .arg ≡ n → ((left : ℕ) → Passes left n s (a .next) e) → (left : ℕ) → Passes (suc left) 1 s 0 e =
+    λ n e many h left. array-passes s 0 (is-array a (eqb-false (itemsIn a) 0 t₁)) (rw many (h left)) in
+    let first : (left : ℕ) → Passes left 1 s (a .next) (k .next) = λ left. leaf-passes s (a .next) (inl (omega arith)) in
+    let alone : eqb (a .arg) 1 ≡ true → (k .next ≤ length s) × ((left : ℕ) → Passes (suc left) 1 s 0 (k .next)) =
+    λ one. (token-end s (a .next), array 1 (k .next) (eqb-true (a .arg) 1 one) first) in
+    both P (eqb lead 101) (pick-case P (eqb (a .arg) 1) alone (λ _. (tt, tt)))
+    (pick-case P (eqb (a .arg) 1) alone
+    (λ _. pick-case P (eqb (a .arg) 2)
+    (λ two. pick-case P (eqb (t .major) 3)
+    (λ text. (
+      token-end s (k .next),
+      array 2 (t .next) (eqb-true (a .arg) 2 two)
+          (λ left. passes-then (first left) (leaf-passes s (k .next) (inl (omega (arith, eqb-true (t .major) 3 text))))),
+    ))
+    (λ _. (tt, tt)))
+    (λ _. (tt, tt)))))))
+  where
+    P : OutcomeRead → Type 0
+    P r = OutcomeOk (length s) r × OutcomeWalked s r
+
+-- so it is passed
+pub outcome-walked : (base : ℕ) (s : List ℕ) → OutcomeWalked s (outcomeIn base s)
+outcome-walked base s = outcome-told base s .1
 
 -- ---- objectives
 -- an objective whose name, and whose count's head, lie before `end`
@@ -213,6 +263,9 @@ PairOk base room (PairRead.Got o t size bad long) = ObjectiveParts (base + room)
 pub locator-within : (s : List ℕ) (base at : ℕ) (r x : LocatorRead) → r ≡ locatorIn base (drop at s) → r ≡ x → LocatorOk (length s - at) x
 locator-within s base at r x e q = rw (length-drop at s) at (subst (LocatorOk (length (drop at s))) (sym e ∙ q) (locator-told base (drop at s) .0))
 
+pub outcome-within : (s : List ℕ) (base at : ℕ) (r x : OutcomeRead) → r ≡ outcomeIn base (drop at s) → r ≡ x → OutcomeOk (length s - at) x
+outcome-within s base at r x e q = rw (length-drop at s) at (subst (OutcomeOk (length (drop at s))) (sym e ∙ q) (outcome-told base (drop at s) .0))
+
 pub objective-within : (levels : ℕ) (s : List ℕ) (base at : ℕ) (r x : ObjectiveRead) → r ≡ objectiveIn levels base (drop at s) → r ≡ x
     → ObjectiveOk base (length s - at) x
 objective-within levels s base at r x e q =
@@ -311,12 +364,16 @@ pub pair-within : (s : List ℕ) (base at : ℕ) (r x : PairRead) → r ≡ pair
 pair-within s base at r x e q = rw (length-drop at s) at (subst (PairOk base (length (drop at s))) (sym e ∙ q) (pair-told base (drop at s) .0))
 
 -- no part is left past the message's end
-none-past : (P : List ℕ → Type 0) (s : List ℕ) (at : ℕ) → length s ≤ at → P [] → P (drop at s)
+pub none-past : (P : List ℕ → Type 0) (s : List ℕ) (at : ℕ) → length s ≤ at → P [] → P (drop at s)
 none-past P s at h p = subst P (sym (drop-past s at h)) p
 
 pub locator-past : (s : List ℕ) (at : ℕ) → length s ≤ at → LocatorRead.Bad at ≡ locatorIn at (drop at s)
 unfolding locatorIn locatorReached itemsIn tokenAt tokenFrom nothingAt headAt pick
 locator-past s at h = none-past (λ (l : List ℕ). LocatorRead.Bad at ≡ locatorIn at l) s at h refl
+
+pub outcome-past : (s : List ℕ) (at : ℕ) → length s ≤ at → OutcomeRead.Bad at ≡ outcomeIn at (drop at s)
+unfolding outcomeIn reasonIn itemsIn tokenAt tokenFrom nothingAt headAt pick
+outcome-past s at h = none-past (λ (l : List ℕ). OutcomeRead.Bad at ≡ outcomeIn at l) s at h refl
 
 pub objective-past : (levels : ℕ) (s : List ℕ) (at : ℕ) → length s ≤ at → ObjectiveRead.Bad at ≡ objectiveIn levels at (drop at s)
 unfolding objectiveIn objectiveNamed itemsIn tokenAt tokenFrom nothingAt headAt pick

@@ -1,24 +1,21 @@
-// The parts of a GRASP message that are arrays of their own (RFC 8990, sections 2.9, 2.10 and 2.8.11): locator options,
-// objective options, and the pairs of a Flood. A reader is handed the part of the message that begins at its own head,
-// and the place where that part stands in the message: answers hold places in the message, and nothing is copied out.
+// The parts of a GRASP message that are arrays of their own (RFC 8990, sections 2.9, 2.10 and 2.8.11): locator, divert,
+// accept and decline options, objective options, and the pairs of a Flood. A reader is handed the part of the message
+// that begins at its own head, and the place where that part stands in the message: answers hold places in the message,
+// and nothing is copied out.
 ghost use mathlib.Core.Path.{_≡_};
 ghost use Rattle.options.specs.Text.{badText, firstOf};
 
+pub mod divert;
 pub mod locator;
+pub mod locators;
 pub mod objective;
+pub mod outcome;
 pub mod pair;
 
 // Bytes of a message: `len` of them, the first at `at`.
 pub struct Span {
     pub at: usize,
     pub len: usize,
-}
-
-// How a negotiation ends (RFC 8990, sections 2.9.3 and 2.9.4): accepted, declined, or declined with a reason.
-pub enum Outcome {
-    Accept,
-    Decline,
-    Reason(Span),
 }
 
 // `place` where a text isn't UTF-8, else 0.

@@ -15,7 +15,7 @@ use Rattle.message_laws.proofs.Levels.{pairs-deep}
 use Rattle.message.specs.declared.Series.{Series}
 use Rattle.message.specs.declared.Targets.{Targets}
 use Rattle.message.specs.declared.Extra.{Extra}
-use Rattle.options.specs.declared.Outcome.{Outcome}
+use Rattle.options.specs.declared.outcome.Outcome.{Outcome}
 use Rattle.message.specs.declared.Message.{Message}
 use Rattle.message_laws.specs.Describes.{SeriesIs, TargetsIs, ExtraIs, OutcomeIs, Describes}
 use Rattle.message_laws.proofs.Described.{locators-count, pairs-count}
@@ -85,8 +85,8 @@ module _ (s : List ℕ) where
       → (ls : List Loc) × LocatorsTold (take (R.endBy list (R.targetRows targets)) (R.filledBy s list (R.targetRows targets))) ls
       × ((l : List ℕ) → locsOf s l ≡ ls → targetsOf s l (D.isDivert targets) ≡ tgts)
   unfolding R.endBy R.filledBy R.targetRows D.isDivert targetsOf
-  tgts-lent list (TargetsIs.locators {ls = ls} at i) room = (ls, locators-lent list i room, λ l e. ap Tgts.locators e)
-  tgts-lent list (TargetsIs.divert {ls = ls} head lead i) room = (ls, locators-lent list i room, λ l e. ap Tgts.divert e)
+  tgts-lent list (TargetsIs.locators {loc = loc} {ls} at i _) room = (loc ∷ ls, locators-lent list i room, λ l e. ap Tgts.locators e)
+  tgts-lent list (TargetsIs.divert {loc = loc} {ls} head lead i _) room = (loc ∷ ls, locators-lent list i room, λ l e. ap Tgts.divert e)
 
   -- an objective that may be left out
   extra-says : {p : ℕ} {extra : Extra} {obj : Option (Obj Value)} → ExtraIs s p extra obj

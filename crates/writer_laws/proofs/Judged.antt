@@ -30,8 +30,8 @@ use Rattle.description.specs.declared.rows.ObjectiveRow.{ObjectiveRow}
 use Rattle.description.specs.declared.rows.LocatorRow.{LocatorRow}
 use Rattle.description.specs.declared.GivenExtra.{GivenExtra}
 use Rattle.description.specs.declared.GivenExtra.the-variants as X
-use Rattle.options.specs.declared.Outcome.{Outcome}
-use Rattle.options.specs.declared.Outcome.the-variants as E
+use Rattle.options.specs.declared.outcome.Outcome.{Outcome}
+use Rattle.options.specs.declared.outcome.Outcome.the-variants as E
 use Rattle.description.specs.declared.Description.{Description}
 use Rattle.description.specs.declared.Description.the-variants as D
 use Rattle.description.specs.Meaning.{locatorRow, pairRow, objectiveRow, listOf, objectiveRowOf, objOf}

@@ -45,8 +45,8 @@ module _ (s : List ℕ) (few : length s ≤ mostBytes) (list : List ℕ) (long :
   unfolding R.rowsEnd R.rowsIn R.endBy R.targetRows
   message-fit M.Noop h = omega arith
   message-fit (M.Discovery session i o) h = omega arith
-  message-fit (M.Response session i ttl (Targets.Locators series) extra) h = locators-fit series (h .1)
-  message-fit (M.Response session i ttl (Targets.Divert series) extra) h = locators-fit series (h .1)
+  message-fit (M.Response session i ttl (Targets.Locators first series) extra) h = locators-fit series (h .1)
+  message-fit (M.Response session i ttl (Targets.Divert first series) extra) h = locators-fit series (h .1)
   message-fit (M.RequestNegotiation session o) h = omega arith
   message-fit (M.RequestSynchronization session o) h = omega arith
   message-fit (M.Negotiate session o) h = omega arith

@@ -1,13 +1,13 @@
--- `message::sequence::text_led` meets its contract.
+-- `options::locators::text_led` meets its contract.
 -- Assumes nothing.
-use Rattle.message.specs.Sequence.{textLed}
 use Rattle.base.specs.Pick.{pick}
+use Rattle.options.specs.Locators.{textLed}
 use borrow.Author.Tests.{eq-eqb, ne-eqb}
 use borrow.Author.Needs.{needs}
-use Rattle.message.proofs.sequence.text_led.Statement.{statement}
-use Rattle.message.proofs.sequence.text_led.Tie as tie
-use Rattle.message.proofs.sequence.text_led.Reads as reads
-use Rattle.message.proofs.sequence.text_led.Lts as lts
+use Rattle.options.proofs.locators.text_led.Statement.{statement}
+use Rattle.options.proofs.locators.text_led.Tie as tie
+use Rattle.options.proofs.locators.text_led.Reads as reads
+use Rattle.options.proofs.locators.text_led.Lts as lts
 use Rattle.cbor.proofs.token.items_in.Reads as items-in-reads
 use Rattle.cbor.proofs.token.token_at.Reads as token-at-reads
 
