@@ -19,14 +19,15 @@ use Rattle.cbor.specs.Head.{widthOf, leastOf, initialOf, argOf, judged, 
 use Rattle.cbor.specs.Item.{opens, stepOf, stepFrom, stepAt}
 use Rattle.cbor.specs.Tree.{infoOf, headBytes, Sized}
 use Rattle.cbor.specs.Turn.{CommonIs}
-use Rattle.cbor.proofs.HeadExact.{head-read}
+use Rattle.cbor.proofs.HeadExact.{short-width, head-read}
 
 -- ---- heads by their first byte and what follows it
 -- a head of one byte
 headed : (first major arg : ℕ) (s : List ℕ) → arg < 24 → first ≡ major * 32 + arg → headAt (first ∷ s) ≡ HeadRead.Head major arg 1
 unfolding headBytes infoOf bytesOf leastOf pick
 headed first major arg s low e =
-    rw e (head-read major 0 arg s (record { sized = Sized.in-first low; simple = λ _ w. absurd (omega arith); short = λ _. zero-le }))
+    let first = Sized.in-first low in
+    rw e (head-read major 0 arg s (record { sized = first; simple = λ _ w. absurd (omega arith); short = λ _. short-width first zero-le }))
 
 -- a number other than 0 stands in the list
 there : (s : List ℕ) (at : ℕ) → 1 ≤ getD s at 0 → at < length s

@@ -56,6 +56,35 @@ first-case P first s reserved indefinite cut whole =
     begins : first % 32 < 28 → by (Initial.Begins (first / 32) (widthOf (first % 32)))
     begins h = pick-case P _ (λ e. cut h (ltb-true (length s) (widthOf (first % 32)) e)) (λ e. whole h (ltb-false (length s) (widthOf (first % 32)) e))
 
+-- ---- the shortest form
+pub shortest-case : (P : ℕ → Type 0) (arg : ℕ) → (arg < 24 → P 0) → (24 ≤ arg → arg < 2 ^ 8 → P 1) → (2 ^ 8 ≤ arg → arg < 2 ^ 16 → P 2)
+    → (2 ^ 16 ≤ arg → arg < 2 ^ 32 → P 4) → (2 ^ 32 ≤ arg → P 8) → P (shortest arg)
+unfolding shortest
+shortest-case P arg none one two four eight =
+    pick-case P _ (λ e. none (ltb-true arg 24 e))
+    (λ g. pick-case P _ (λ e. one (ltb-false arg 24 g) (ltb-true arg (2 ^ 8) e))
+    (λ g. pick-case P _ (λ e. two (ltb-false arg (2 ^ 8) g) (ltb-true arg (2 ^ 16) e))
+    (λ g. pick-case P _ (λ e. four (ltb-false arg (2 ^ 16) g) (ltb-true arg (2 ^ 32) e)) (λ g. eight (ltb-false arg (2 ^ 32) g)))))
+
+-- its width asks for the argument
+pub short-least : (width arg : ℕ) → width ≡ shortest arg → leastOf width ≤ arg
+unfolding leastOf pick
+short-least width arg e = rw e (shortest-case (λ w. leastOf w ≤ arg) arg (λ _. zero-le) (λ g _. g) (λ g _. g) (λ g _. g) (λ g. g))
+
+-- and no other width that can have it does
+pub short-width : {width arg : ℕ} → Sized width arg → leastOf width ≤ arg → width ≡ shortest arg
+unfolding leastOf pick
+short-width {arg = n} (Sized.in-first h) l =
+    shortest-case (λ w. 0 ≡ w) n (λ _. refl) (λ a b. omega arith) (λ a b. omega arith) (λ a b. omega arith) (λ a. omega arith)
+short-width {arg = n} (Sized.one h) l =
+    shortest-case (λ w. 1 ≡ w) n (λ a. omega arith) (λ _ _. refl) (λ a b. omega arith) (λ a b. omega arith) (λ a. omega arith)
+short-width {arg = n} (Sized.two h) l =
+    shortest-case (λ w. 2 ≡ w) n (λ a. omega arith) (λ a b. omega arith) (λ _ _. refl) (λ a b. omega arith) (λ a. omega arith)
+short-width {arg = n} (Sized.four h) l =
+    shortest-case (λ w. 4 ≡ w) n (λ a. omega arith) (λ a b. omega arith) (λ a b. omega arith) (λ _ _. refl) (λ a. omega arith)
+short-width {arg = n} (Sized.eight h) l =
+    shortest-case (λ w. 8 ≡ w) n (λ a. omega arith) (λ a b. omega arith) (λ a b. omega arith) (λ a b. omega arith) (λ _. refl)
+
 -- ---- written, then read
 pub info-lt : {width arg : ℕ} → Sized width arg → infoOf width arg < 28
 unfolding infoOf pick
@@ -112,7 +141,7 @@ head-read major width arg rest h =
     arg
     width
     (λ m w low. absurd (omega (arith, h .simple m w)))
-    (λ ne long. absurd (omega (arith, h .short ne)))
+    (λ ne long. absurd (omega (arith, short-least width arg (h .short ne))))
     (λ _ _. refl)
     ∙ simp length-head
 
@@ -171,7 +200,13 @@ whole first s b = headed first s (omega (arith, b 0)) (λ i _. b (suc i))
 faultless : {s : List ℕ} {major arg width : ℕ} → Whole s major arg width → ((major ≡ 7) → width ≡ 1 → 32 ≤ arg) → ((major ≡ 7 → ⊥) → leastOf width ≤ arg)
     → HeadIs s major arg (1 + width)
 faultless {width = width} w simple short =
-    record { width = width; kind = w .kind; right = record { sized = w .sized; simple = simple; short = short }; bytes = w .bytes; within = w .within }
+    record {
+      width = width;
+      kind = w .kind;
+      right = record { sized = w .sized; simple = simple; short = λ ne. short-width (w .sized) (short ne) };
+      bytes = w .bytes;
+      within = w .within;
+    }
 
 -- and one that was read is without fault
 pub head-is : (s : List ℕ) {major arg len : ℕ} → Bytes s → headAt s ≡ HeadRead.Head major arg len → HeadIs s major arg len
@@ -205,30 +240,16 @@ small-is s e = subst (P s) e (by s)
         (λ lt room. judged-case (P (first ∷ s)) (first / 32) _ _ (λ _ _ _. tt) (λ _ _. tt)
         (λ simple short low small. faultless (headed first s low (arg-bytes first (widthOf (first % 32)) s small) lt room) simple short))
 
--- ---- the shortest form
-pub shortest-case : (P : ℕ → Type 0) (arg : ℕ) → (arg < 24 → P 0) → (24 ≤ arg → arg < 2 ^ 8 → P 1) → (2 ^ 8 ≤ arg → arg < 2 ^ 16 → P 2)
-    → (2 ^ 16 ≤ arg → arg < 2 ^ 32 → P 4) → (2 ^ 32 ≤ arg → P 8) → P (shortest arg)
-unfolding shortest
-shortest-case P arg none one two four eight =
-    pick-case P _ (λ e. none (ltb-true arg 24 e))
-    (λ g. pick-case P _ (λ e. one (ltb-false arg 24 g) (ltb-true arg (2 ^ 8) e))
-    (λ g. pick-case P _ (λ e. two (ltb-false arg (2 ^ 8) g) (ltb-true arg (2 ^ 16) e))
-    (λ g. pick-case P _ (λ e. four (ltb-false arg (2 ^ 16) g) (ltb-true arg (2 ^ 32) e)) (λ g. eight (ltb-false arg (2 ^ 32) g)))))
-
+-- ---- the shortest form, without fault
 pub shortest-right : (major arg : ℕ) → major < 7 → arg < 2 ^ 64 → Right major (shortest arg) arg
-unfolding leastOf pick
 shortest-right major arg hm h =
-    shortest-case
-    (λ width. Right major width arg)
-    arg
-    (λ l. right 0 (Sized.in-first l) zero-le)
-    (λ g l. right 1 (Sized.one l) g)
-    (λ g l. right 2 (Sized.two l) g)
-    (λ g l. right 4 (Sized.four l) g)
-    (λ g. right 8 (Sized.eight h) g)
-  where
-    right : (width : ℕ) → Sized width arg → leastOf width ≤ arg → Right major width arg
-    right width sized least = record { sized = sized; simple = λ e. absurd (omega arith); short = λ _. least }
+    record {
+      sized =
+          shortest-case (λ width. Sized width arg) arg (λ l. Sized.in-first l) (λ _ l. Sized.one l) (λ _ l. Sized.two l) (λ _ l. Sized.four l)
+          (λ _. Sized.eight h);
+      simple = λ e. absurd (omega arith);
+      short = λ _. refl;
+    }
 
 -- no shorter head has that argument
 pub no-shorter : (width arg : ℕ) → Sized width arg → shortest arg ≤ width

@@ -2,23 +2,30 @@
 -- fault.
 use Prim.Native.Nat.{ℕ, _+_, _-_, _*_, _%_, _<_, _≤_}
 use mathlib.Core.List.{List, [], _∷_, _++_}
+use mathlib.Core.Logic.{_≢_}
 use mathlib.Core.Path.{_≡_}
 use lib.ListN.{length}
 use lib.Dec.{eqb}
 use Rattle.base.specs.Pick.{pick}
-use Rattle.cbor.specs.Head.{widthOf, leastOf}
-use Rattle.cbor.specs.Tree.{Items, headBytes, Sized, Right, count, encodes, depths, Goods}
+use Rattle.cbor.specs.Tree.{Items, headBytes, Sized, Right, shortest, count, encodes, depths, Goods}
+
+-- additional information that says how many bytes of argument follow the first byte
+pub data Announces : ℕ → ℕ → Type 0 where
+  one : Announces 24 1
+  two : Announces 25 2
+  four : Announces 26 4
+  eight : Announces 27 8
 
 -- What is wrong with the head at the start of s, where so many levels may open, and the number of its refusal.
 pub data Fault (left : ℕ) (s : List ℕ) : ℕ → Type 0 where
   missing : s ≡ [] → Fault left s 2
   reserved : (first : ℕ) (rest : List ℕ) → s ≡ first ∷ rest → 28 ≤ first % 32 → first % 32 < 31 → Fault left s 3
   indefinite : (first : ℕ) (rest : List ℕ) → s ≡ first ∷ rest → first % 32 ≡ 31 → Fault left s 4
-  cut : (first : ℕ) (rest : List ℕ) → s ≡ first ∷ rest → first % 32 < 28 → length rest < widthOf (first % 32)
-      → Fault left s 2
+  cut : (first : ℕ) (rest : List ℕ) {width : ℕ} → s ≡ first ∷ rest → Announces (first % 32) width
+      → length rest < width → Fault left s 2
   low-simple : (value : ℕ) (rest : List ℕ) → s ≡ headBytes 7 1 value ++ rest → value < 32 → Fault left s 3
   long : (major width arg : ℕ) (rest : List ℕ) → s ≡ headBytes major width arg ++ rest → major < 7 → Sized width arg
-      → arg < leastOf width → Fault left s 5
+      → width ≢ shortest arg → Fault left s 5
   deep : (major width arg : ℕ) (rest : List ℕ) → s ≡ headBytes major width arg ++ rest → Right major width arg
       → 4 ≤ major → major < 7 → left ≡ 0 → Fault left s 6
   short : (major width arg : ℕ) (rest : List ℕ) → s ≡ headBytes major width arg ++ rest → Right major width arg

@@ -9,7 +9,6 @@ use lib.ListN.{length, take}
 use lib.Dec.{ltb, eqb}
 use Rattle.base.specs.Pick.{pick}
 use Rattle.base.specs.BigEndian.{bytesOf, Bytes}
-use Rattle.cbor.specs.Head.{leastOf}
 
 -- the additional information of a head with so many bytes of argument
 unfoldable pub infoOf : ℕ → ℕ → ℕ
@@ -27,12 +26,16 @@ pub data Sized : ℕ → ℕ → Type 0 where
   four : {n : ℕ} → n < 2 ^ 32 → Sized 4 n
   eight : {n : ℕ} → n < 2 ^ 64 → Sized 8 n
 
+-- how many bytes of argument the shortest head has
+unfoldable pub shortest : ℕ → ℕ
+shortest arg = pick (ltb arg 24) 0 (pick (ltb arg (2 ^ 8)) 1 (pick (ltb arg (2 ^ 16)) 2 (pick (ltb arg (2 ^ 32)) 4 8)))
+
 -- a head without fault: well-formed (a simple value in two bytes is at least 32), and of major types 0 to 6 the
 -- shortest
 pub record Right (major width arg : ℕ) : Type 0 where
   pub sized : Sized width arg
   pub simple : major ≡ 7 → width ≡ 1 → 32 ≤ arg
-  pub short : major ≢ 7 → leastOf width ≤ arg
+  pub short : major ≢ 7 → width ≡ shortest arg
 
 -- the first len bytes of s are a head without fault
 pub record HeadIs (s : List ℕ) (major arg len : ℕ) : Type 0 where
@@ -41,10 +44,6 @@ pub record HeadIs (s : List ℕ) (major arg len : ℕ) : Type 0 where
   pub right : Right major width arg
   pub bytes : take len s ≡ headBytes major width arg
   pub within : len ≤ length s
-
--- how many bytes of argument the shortest head has
-unfoldable pub shortest : ℕ → ℕ
-shortest arg = pick (ltb arg 24) 0 (pick (ltb arg (2 ^ 8)) 1 (pick (ltb arg (2 ^ 16)) 2 (pick (ltb arg (2 ^ 32)) 4 8)))
 
 -- an item of each major type, and items one after the other
 mutual

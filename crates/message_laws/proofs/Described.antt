@@ -4,17 +4,16 @@
 use mathlib.Core.Path.{_≡_, refl, sym, ap, ap₂, _∙_, subst}
 use mathlib.Core.List.{List}
 use mathlib.Core.Option.{Option, none, some}
-use Prim.Native.Nat.{ℕ, suc, _+_, _-_, _≤_}
+use Prim.Native.Nat.{ℕ, suc, _+_, _-_}
 use native.Mathlib.Omega.{arith}
 use lib.ListN.{length, drop}
 use lib.Dec.{eqb}
 use borrow.Author.Tests.{eqb-true}
-use Rattle.base.specs.Pick.{pick}
 use Rattle.base.proofs.Picks.{pick-case}
 use Rattle.cbor.specs.declared.head.HeadRead.{HeadRead}
-use Rattle.cbor.specs.Head.{leastOf, headAt}
-use Rattle.cbor.specs.Tree.{Item, Items, Sized, shortest, headBytes, count, encode}
-use Rattle.cbor.proofs.HeadExact.{shortest-case, length-head, head-read}
+use Rattle.cbor.specs.Head.{headAt}
+use Rattle.cbor.specs.Tree.{Item, Items, headBytes, count, encode}
+use Rattle.cbor.proofs.HeadExact.{length-head, head-read}
 use Rattle.options.specs.declared.Span.{Span}
 use Rattle.options.specs.declared.locator.Locator.{Locator}
 use Rattle.options.specs.declared.locator.Locator.the-variants as L
@@ -72,26 +71,12 @@ initiator-once {from = from} q a b =
     (same, before-once from same (a .held) (b .held))
 
 -- ---- from one end
--- no other width than the shortest is without fault
-pub short-width : {width arg : ℕ} → Sized width arg → leastOf width ≤ arg → width ≡ shortest arg
-unfolding leastOf pick
-short-width {arg = n} (Sized.in-first h) l =
-    shortest-case (λ w. 0 ≡ w) n (λ _. refl) (λ a b. omega arith) (λ a b. omega arith) (λ a b. omega arith) (λ a. omega arith)
-short-width {arg = n} (Sized.one h) l =
-    shortest-case (λ w. 1 ≡ w) n (λ a. omega arith) (λ _ _. refl) (λ a b. omega arith) (λ a b. omega arith) (λ a. omega arith)
-short-width {arg = n} (Sized.two h) l =
-    shortest-case (λ w. 2 ≡ w) n (λ a. omega arith) (λ a b. omega arith) (λ _ _. refl) (λ a b. omega arith) (λ a. omega arith)
-short-width {arg = n} (Sized.four h) l =
-    shortest-case (λ w. 4 ≡ w) n (λ a. omega arith) (λ a b. omega arith) (λ a b. omega arith) (λ _ _. refl) (λ a. omega arith)
-short-width {arg = n} (Sized.eight h) l =
-    shortest-case (λ w. 8 ≡ w) n (λ a. omega arith) (λ a b. omega arith) (λ a b. omega arith) (λ a b. omega arith) (λ _. refl)
-
 -- a number begins at one place
 number-begins : {s : List ℕ} {p p′ e e′ w w′ n : ℕ} → e ≡ e′ → Stands s p e (uint w n) → Stands s p′ e′ (uint w′ n) → p ≡ p′
 unfolding encode
 number-begins {w = w} {w′} {n} q a b =
-    let first = short-width (a .good .sized) (a .good .short (λ z. omega arith)) in
-    let second = short-width (b .good .sized) (b .good .short (λ z. omega arith)) in
+    let first = a .good .short (λ z. omega arith) in
+    let second = b .good .short (λ z. omega arith) in
     omega (arith, a .end, b .end, length-head 0 w n, length-head 0 w′ n)
 
 -- ---- objectives and values
@@ -163,7 +148,8 @@ addressed-once e (Addressed.uri {protocol = protocol} {port} {a = a} h x y) (Add
 -- from one start
 locator-once : {s : List ℕ} {p p′ : ℕ} {l l′ : Locator} {loc : Loc} → p ≡ p′ → LocatorIs s p l loc → LocatorIs s p′ l′ loc → l ≡ l′
 locator-once q a b =
-    addressed-once (ends-once (ends-once (head-once q (a .opened) (b .opened)) (a .kind-item) (b .kind-item)) (a .address-item) (b .address-item)) (a .is) (b .is)
+    addressed-once (ends-once (ends-once (head-once q (a .opened) (b .opened)) (a .kind-item) (b .kind-item)) (a .address-item) (b .address-item))
+    (a .is) (b .is)
 
 tag-once : {s : List ℕ} {p p′ : ℕ} {t t′ : Tag} {loc : Option Loc} → p ≡ p′ → TagIs s p t loc → TagIs s p′ t′ loc → t ≡ t′
 tag-once q TagIs.empty TagIs.empty = refl

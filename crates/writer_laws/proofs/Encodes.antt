@@ -19,14 +19,14 @@ use Rattle.rfc8990.specs.Cddl.{PairItems, Number, Initiator, OptionalItems, joi
 use Rattle.rfc8990.specs.Encoding.{string, numberOrNull, reached, fixed, encodeLoc, oneMore, encodeObj, maybeObj, howMany, locOrEmpty}
 use Rattle.rfc8990.specs.Encoding.{encodePair, targetItems, encodeTargets, encodeOutc, preamble, exchange, encodeMsg}
 use Rattle.message_laws.proofs.Response.{count-joined}
-use Rattle.message_laws.proofs.Described.{short-width, locators-count, pairs-count}
+use Rattle.message_laws.proofs.Described.{locators-count, pairs-count}
 use Rattle.writer_laws.specs.Plain.{valueBytes, plain}
 
 -- ---- heads
 -- a head without fault is the shortest
 short-head : {major width arg : ℕ} → T (ltb major 7) → Right major width arg → headBytes major width arg ≡ head major arg
 unfolding head
-short-head {major} {arg = n} low r = ap (λ w. headBytes major w n) (short-width (r .sized) (r .short (λ e. omega (arith, lit< {m = major} {n = 7} low))))
+short-head {major} {arg = n} low r = ap (λ w. headBytes major w n) (r .short (λ e. omega (arith, lit< {m = major} {n = 7} low)))
 
 -- an item has bytes
 pub has-bytes : (x : Item) → oneMore (encode x) ≡ 1
