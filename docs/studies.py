@@ -4,7 +4,9 @@
 usage: python3 docs/studies.py FOLDER     (FOLDER has crates/ and crates.txt; its files are rewritten in place, once)
 
 It rewrites paths of definitions, laws and proofs, paths of code, names and dependencies. It leaves a crate of the
-folder's own whose name is taken here, and laws that are gone (names-apart, sent-never).
+folder's own whose name is taken here, laws that are gone (names-apart, sent-never), and what was restated: `Targets`,
+with a first locator; the readers of locators, diverts and outcomes, each over its part; demand 3's sentences, over
+relays as they are seen (`node_laws Relays`); `host`'s `stateOf`, without a side.
 """
 import os
 import re
@@ -64,6 +66,8 @@ writer proofs put_lowered: writer proofs relay.put_lowered
 writer proofs answer: writer proofs answer.answer
 writer proofs ok_initiator: writer proofs answer.ok_initiator
 names proofs are_same: base proofs bytes.are_same
+options declared Outcome: options declared outcome.Outcome
+message declared sequence.LocatorsRead: options declared locators.LocatorsRead
 """
 # single names that stand in another module than the rest of theirs
 ITEMS = """
@@ -74,6 +78,9 @@ names specs Names.sameBytes: base specs Bytes
 names proofs Walks.same-lengths same-differ same-next same-end: base proofs SameBytes
 message proofs Parts.read-parts read-number: reader proofs ReadParts
 roundtrip proofs Relay.lowered-shorter lowered-given lowers-by: writer proofs Onward
+message specs Sequence.textLed locatorThen locatorsFrom: options specs Locators
+node specs History.Told numberIn toldReading told interfacesIn copiesOf: node_laws specs Relays
+node specs History.SameKey apartBy Apart GoesOut Near Few: node_laws specs Relays
 contents specs Line.decimal numbered padded withText kindWord kindLine refusedWord refusedLine: text specs Line
 """
 # paths of code

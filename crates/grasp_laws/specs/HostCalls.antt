@@ -55,7 +55,8 @@ pub data HostEvent : Type 0 where
   sets : ℕ → HostEvent
   -- a node call on the kept table, with the answer's old numbers
   calls : Call → List ℕ → HostEvent
-  -- a node call that is lent other bytes in the table's place
+  -- a node call that is lent bytes of another length in the table's place, other ones or a part of the table: it leaves
+  -- these as they were (`host HandedBack.other-back`)
   strays : List ℕ → Call → List ℕ → HostEvent
 
 -- what C's types say of a node call: its clock has 64 bits, and its message is made of bytes
@@ -103,7 +104,7 @@ module _ {R : Type 0} (form : Form R) where
 
 -- ---- the relays
 
--- the call answered 0, and the answer's verdict, number 0, is 7: GRASP_RELAY
+-- the call answered 0, and the answer's verdict, number 0, is 7: GRASP_VERDICT_RELAY
 abbrev pub isHostRelay : HostStep → Bool
 isHostRelay x = eqb (x .refusal) 0 && eqb (getD (x .answer) 0 0) 7
 

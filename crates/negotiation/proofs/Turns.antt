@@ -9,7 +9,7 @@ use native.Mathlib.Nat.{le-trans}
 use native.Mathlib.Omega.{arith}
 use lib.Dec.{eqb}
 use Rattle.base.specs.Pick.{pick}
-use Rattle.base.specs.Lists.{Every}
+use Rattle.base.specs.Lists.{Every, EachPair}
 use Rattle.base.proofs.Lists.{every-imp}
 use Rattle.message.specs.declared.Message.{Message}
 use Rattle.message.specs.declared.Message.the-variants as M
@@ -102,6 +102,11 @@ goes (m ∷ ms) state old = by (step state (m .bytes) (m .sender)) refl (λ s. g
         let (is, read, allowed) = moved-exactly state (m .bytes) (m .sender) next .0 e in
         allowed-goes (m .bytes) (acceptedOf (stepsOf next ms)) read old allowed (rest next)
 
+-- where none opens a state, no two do
+none-twice : (xs : List (List ℕ)) → Every (λ bytes. (c : ℕ) → Opens bytes c → ⊥) xs → EachPair (λ x y. (c d : ℕ) → Opens x c → Opens y d → ⊥) xs
+none-twice [] h = tt
+none-twice (x ∷ xs) (_, h) = (every-imp _ _ (λ y none c d _ o. none d o) xs h, none-twice xs h)
+
 -- a Request opens a fresh state, and then the rest is bounded
 opened-bounded : {sender : Side} {m : Message} {state next : State} (bytes : List ℕ) (ms : List Sent) → readOf bytes ≡ Reading.Read m → state ≡ Fresh
     → Allowed sender m state next → BoundedIn (bytes ∷ acceptedOf (stepsOf next ms))
@@ -112,6 +117,7 @@ opened-bounded {next = next} bytes ms read new (Allowed.request {session} {count
     let same : negotiated (bytes ∷ rest) ≡ negotiated rest = rw (negotiates bytes read (n .ofKind)) in
     let most : negotiated (bytes ∷ rest) + 1 ≤ count = omega (arith, h .most) in
     record {
+      once = (every-imp _ _ (λ y none c d _ o. none d o) rest (h .none), none-twice rest (h .none));
       opened = (
         λ d o. rw (← count-once (message-once read (o .read)) c (o .counts)) most,
         every-imp _ _ (λ x none d o. absurd (none d o)) rest (h .none),
@@ -128,7 +134,7 @@ opened-bounded bytes ms read new (Allowed.end n some) = absurd (true≢false (sy
 -- Negotiates are accepted.
 pub negotiation-bounded : (messages : List Sent) → Bounded messages
 unfolding stepsOf acceptedOf negotiated adds isMoved pick after
-negotiation-bounded [] = record { opened = tt; unopened = λ _. refl }
+negotiation-bounded [] = record { once = tt; opened = tt; unopened = λ _. refl }
 negotiation-bounded (m ∷ ms) = by (step Fresh (m .bytes) (m .sender)) refl (negotiation-bounded ms)
   where
     by : (x : Stepped) → step Fresh (m .bytes) (m .sender) ≡ x → Bounded ms → BoundedIn (adds (m .bytes) x (acceptedOf (stepsOf (after Fresh x) ms)))

@@ -5,7 +5,7 @@ use mathlib.Core.Bool.{Bool, true, false}
 use Prim.Native.Nat.{ℕ, suc, _+_, _≤_}
 use lib.Dec.{eqb}
 use Rattle.base.specs.Pick.{pick}
-use Rattle.base.specs.Lists.{Every}
+use Rattle.base.specs.Lists.{Every, EachPair}
 use Rattle.message.specs.declared.Message.{Message}
 use Rattle.reader.specs.declared.Reading.{Reading}
 use Rattle.reader.specs.Read.{readOf}
@@ -67,9 +67,10 @@ pub record Opens (bytes : List ℕ) (count : ℕ) : Type 0 where
   pub request : kindOf m ≡ 3
   pub counts : HasCount m count
 
--- of the messages that one state accepts: where one opened it at count c, at most c - 1 are Negotiates; where none did,
--- none is
+-- of the messages that one state accepts: at most one opened it; where one did at count c, at most c - 1 are Negotiates;
+-- where none did, none is
 pub record BoundedIn (accepted : List (List ℕ)) : Type 0 where
+  pub once : EachPair (λ x y. (c d : ℕ) → Opens x c → Opens y d → ⊥) accepted
   pub opened : Every (λ bytes. (c : ℕ) → Opens bytes c → negotiated accepted + 1 ≤ c) accepted
   pub unopened : Every (λ bytes. (c : ℕ) → Opens bytes c → ⊥) accepted → negotiated accepted ≡ 0
 

@@ -208,9 +208,9 @@ outgoing x = x .node .links - 2 ^ x .call .interface
 
 -- one that was answered RELAY, whatever its message's elements are
 went-copies : (x : Step) (s : Spread) → x .after ≡ relayed (clocked (x .node) (x .call .clock)) (freed (x .call .clock) (x .table)) (x .call) s
-    → seen x .copies ≡ interfacesIn 8 (outgoing x)
+    → seen x .copies ≡ interfacesIn 64 (outgoing x)
 unfolding maskOf relayed others clocked outgoing
-went-copies x s is = ap (λ (z : After). interfacesIn 8 (maskOf (z .called .reply))) is
+went-copies x s is = ap (λ (z : After). interfacesIn 64 (maskOf (z .called .reply))) is
 
 -- the copies of a call that passed its checks
 module _ (x : Step) (passes : Passed (x .node) (x .table) (x .call .clock) (x .call .interface) (length (x .call .output))) where
@@ -218,23 +218,23 @@ module _ (x : Step) (passes : Passed (x .node) (x .table) (x .call .clock) (x .c
   unfolding outgoing
   small-mask = let f = record-links (x .node) (passes .good) .small in omega arith
 
-  copies-differ : Every (λ j. j ≢ x .call .interface) (interfacesIn 8 (outgoing x))
+  copies-differ : Every (λ j. j ≢ x .call .interface) (interfacesIn 64 (outgoing x))
   unfolding outgoing
   copies-differ =
       let up = arrival-up (x .node) (x .call .interface) (passes .arrives) in
-      every-imp (λ j. (j < 8) × (hasBit (outgoing x) j ≡ true)) (λ j. j ≢ x .call .interface)
+      every-imp (λ j. (j < 64) × (hasBit (outgoing x) j ≡ true)) (λ j. j ≢ x .call .interface)
       (λ j h e. not-both (hasBit (outgoing x) (x .call .interface)) (subst (λ (z : ℕ). hasBit (outgoing x) z ≡ true) e (h .1))
       (taken-down (x .node .links) (x .call .interface) up))
-      (interfacesIn 8 (outgoing x)) (interfaces-up 8 (outgoing x))
+      (interfacesIn 64 (outgoing x)) (interfaces-up 64 (outgoing x))
 
-  copies-below : Every (λ j. j < x .node .interfaces) (interfacesIn 8 (outgoing x))
+  copies-below : Every (λ j. j < x .node .interfaces) (interfacesIn 64 (outgoing x))
   copies-below =
-      every-imp (λ j. (j < 8) × (hasBit (outgoing x) j ≡ true)) (λ j. j < x .node .interfaces)
+      every-imp (λ j. (j < 64) × (hasBit (outgoing x) j ≡ true)) (λ j. j < x .node .interfaces)
       (λ j h. up-below (x .node .interfaces) (outgoing x) j small-mask (h .1))
-      (interfacesIn 8 (outgoing x)) (interfaces-up 8 (outgoing x))
+      (interfacesIn 64 (outgoing x)) (interfaces-up 64 (outgoing x))
 
-  copies-many : length (interfacesIn 8 (outgoing x)) ≡ ones (outgoing x)
-  copies-many = length-interfaces 8 (outgoing x) (le-trans small-mask (pow-mono (record-links (x .node) (passes .good) .most)))
+  copies-many : length (interfacesIn 64 (outgoing x)) ≡ ones (outgoing x)
+  copies-many = length-interfaces 64 (outgoing x) (le-trans small-mask (pow-mono {j = 64} (omega (arith, record-links (x .node) (passes .good) .most))))
 
   went-tally : (s : Spread) → x .after ≡ relayed (clocked (x .node) (x .call .clock)) (freed (x .call .clock) (x .table)) (x .call) s
       → x .after .called .node .tally ≡ x .node .tally + length (seen x .copies)
@@ -257,7 +257,7 @@ module _ (x : Step) (s : Spread) (k : Known x s) where
       let same = went-copies x s (k .is) in
       record {
         out = record {
-          once = rw same (interfaces-distinct 8 (outgoing x));
+          once = rw same (interfaces-distinct 64 (outgoing x));
           there = rw same (copies-below x (k .facts .passes));
           onward = rw same (copies-differ x (k .facts .passes));
           positive = rw known-sent (omega (arith, k .facts .counts));

@@ -62,7 +62,7 @@ pub record Seen : Type 0 where
   pub copies : List ℕ
 
 -- of a call's arguments, and of the mask, the length and the output after it: what is sent are so many bytes of the
--- output, and a mask has 8 bits (rules 13.5, 13.6)
+-- output, and a mask has 64 bits at most, as C's has (rules 13.5, 13.6)
 abbrev pub seenOf : Call → ℕ → ℕ → List ℕ → Seen
 seenOf c mask len output =
     record {
@@ -70,7 +70,7 @@ seenOf c mask len output =
       arrived = c .interface;
       given = told (c .message);
       sent = told (take len output);
-      copies = interfacesIn 8 mask;
+      copies = interfacesIn 64 mask;
     }
 
 -- the copies of these together

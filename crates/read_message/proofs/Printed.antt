@@ -1,4 +1,4 @@
--- What the program prints, held against the rules: a message's kind, or the refusal that is due. For readers: each
+-- The line that the program makes, held against the rules: a message's kind, or the refusal that is due. For readers: each
 -- statement at the end stands alone.
 -- Assumes nothing.
 use mathlib.Core.Path.{_≡_, refl, sym, ap, _∙_, subst}
@@ -114,15 +114,15 @@ module _ (s : List ℕ) (n : ℕ) where
 
 -- for readers
 
--- The program prints `kind ` and a number below 1,000 in decimal, and a line feed, exactly if the bytes are to be
--- accepted and that number leads the message's array.
+-- The line that the program makes is `kind ` and a number below 1,000 in decimal, and a line feed, exactly if the bytes
+-- are to be accepted and that number leads the message's array.
 pub kind-printed : (s : List ℕ) (n : ℕ) → Bytes s → n < 1000
     → shown (lineOf s) ≡ kindWord ++ numbered n ↔ ((a : Accepted s) × LedBy n (a .message .one .item))
 kind-printed s n b h = (
   to (readOf s) refl,
-  λ (a, led).
+  λ (a, leads).
       let (m, q) = accepted-exactly s b .1 a in
-      read-shown s n m q ∙ ap (λ (k : ℕ). kindWord ++ numbered k) (led-once (read-kind s m q a) led),
+      read-shown s n m q ∙ ap (λ (k : ℕ). kindWord ++ numbered k) (led-once (read-kind s m q a) leads),
 )
   where
     to : (r : Reading) → readOf s ≡ r → shown (lineOf s) ≡ kindWord ++ numbered n → (a : Accepted s) × LedBy n (a .message .one .item)
@@ -132,7 +132,7 @@ kind-printed s n b h = (
         let same = kind-once (kindOf m) n (kind-small m) h (sym (read-shown s n m q) ∙ e) in
         (a, subst (λ (k : ℕ). LedBy k (a .message .one .item)) same (read-kind s m q a))
 
--- It prints `refused ` and such a number exactly if that refusal is due.
+-- It is `refused ` and such a number exactly if that refusal is due.
 pub refused-printed : (s : List ℕ) (n : ℕ) → Bytes s → n < 1000 → shown (lineOf s) ≡ refusedWord ++ numbered n ↔ Row s n
 refused-printed s n b h = (to (readOf s) refl, λ row. number-shown s n (refused-exactly s n b .1 row))
   where
