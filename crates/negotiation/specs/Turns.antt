@@ -67,8 +67,8 @@ pub record Opens (bytes : List ℕ) (count : ℕ) : Type 0 where
   pub request : kindOf m ≡ 3
   pub counts : HasCount m count
 
--- of the messages that one state accepts: at most one opened it; where one did at count c, at most c - 1 are Negotiates;
--- where none did, none is
+-- of the messages that one state accepts: at most one opened it; where one did at count c, at most c - 1 are
+-- Negotiates; where none did, none is
 pub record BoundedIn (accepted : List (List ℕ)) : Type 0 where
   pub once : EachPair (λ x y. (c d : ℕ) → Opens x c → Opens y d → ⊥) accepted
   pub opened : Every (λ bytes. (c : ℕ) → Opens bytes c → negotiated accepted + 1 ≤ c) accepted
