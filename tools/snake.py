@@ -70,6 +70,8 @@ def renames(names):
         new = snake(name)
         if new != name:
             turned[name] = new
+    # `in_place` is a field in the file that names this definition
+    turned["inPlace"] = "in_place_form"
     # a lemma that would have its definition's name gets `_lem`
     for new, olds in together(names, turned).items():
         dashed = [old for old in olds if "-" in old]

@@ -24,7 +24,7 @@ use Rattle.host.specs.States.{state_of}
 use Rattle.host.proofs.Numbers.{loaded_saves}
 use Rattle.host.proofs.Fits.{loaded_fits}
 use Rattle.host.proofs.HandedBack.{fresh_record_fits}
-use Rattle.grasp_laws.specs.HostCalls.{HostEvent, EventFits, in_place, as_numbers, HostList}
+use Rattle.grasp_laws.specs.HostCalls.{HostEvent, EventFits, in_place_form, as_numbers, HostList}
 use Rattle.grasp_laws.specs.HostDemand.{Demand3InC}
 use Rattle.grasp_laws.proofs.Keeping.{events_of, alike, Kept, numbers_alike}
 use Rattle.grasp_laws.proofs.Stepping.{by_sides, accepted_alike}
@@ -70,7 +70,7 @@ module _ (address : List ℕ) (port ttl interfaces mask : ℕ) where
 
 -- Demand 3 for one list, from any table of 2,048 bytes and a record in place that has tallied nothing.
 pub in_place_whole : (r : Record) (table : List ℕ) (events : List HostEvent) → r.tally ≡ 0 → length table ≡ 2048 → Bytes table → Every EventFits events
-    → HostList in_place r table events
+    → HostList in_place_form r table events
 in_place_whole r table events none sized bytes h =
     let same = alike events r (loaded table) (loaded_fits table bytes) h in
     rw (← loaded_saves table sized bytes, same.relays, same.final) (whole r (loaded table) (events_of events) none)

@@ -26,7 +26,7 @@ use Rattle.host.specs.Call.{verdict_number, reply_numbers, answer_from, answer_n
 use Rattle.host.specs.Widths.{RecordFits, TableFits}
 use Rattle.host.proofs.HandedBack.{record_back, linked_record_fits, call_table_fits, saved_in, put_back, left_back, left_still, left_fits, other_back}
 use Rattle.grasp.specs.Call.{host_call}
-use Rattle.grasp_laws.specs.HostCalls.{in_place, as_numbers, HostEvent, sets, calls, strays, EventFits, HostStep, step_left, host_steps, host_finally}
+use Rattle.grasp_laws.specs.HostCalls.{in_place_form, as_numbers, HostEvent, sets, calls, strays, EventFits, HostStep, step_left, host_steps, host_finally}
 use Rattle.grasp_laws.specs.HostCalls.{is_host_relay, host_seen, host_relays}
 
 -- ---- one node call
@@ -89,8 +89,8 @@ stray_alike r bytes c answer rest other =
 
 -- C's list is seen as the node's, and leaves the same record
 pub record Alike (r : Record) (t : List ℕ) (es : List HostEvent) : Type 0 where
-  pub relays : host_relays (host_steps in_place r (saved t) es) ≡ relays_of (steps r t (events_of es))
-  pub final : host_finally in_place r (saved t) es ≡ finally r t (events_of es)
+  pub relays : host_relays (host_steps in_place_form r (saved t) es) ≡ relays_of (steps r t (events_of es))
+  pub final : host_finally in_place_form r (saved t) es ≡ finally r t (events_of es)
 
 pub alike : (es : List HostEvent) (r : Record) (t : List ℕ) → TableFits t → Every EventFits es → Alike r t es
 unfolding host_steps host_finally host_relays steps finally relays_of events_of in_front
@@ -101,7 +101,7 @@ alike (calls c answer ∷ es) r t fits h =
     let n = node_call r t c in
     let (number, node, table) = left_back r t c answer fits in
     let rest = alike es n.called.node n.table (call_table_fits r t c h.0.clock h.0.message fits) h.1 in
-    let later : host_relays (host_steps in_place k.node k.table es) ≡ relays_of (steps n.called.node n.table (events_of es)) =
+    let later : host_relays (host_steps in_place_form k.node k.table es) ≡ relays_of (steps n.called.node n.table (events_of es)) =
     rw (node, table) rest.relays in
     record {
       relays = ap (λ (l : List Seen). in_front c k l) later ∙ relay_alike r t c answer fits (relays_of (steps n.called.node n.table (events_of es)));
@@ -157,8 +157,8 @@ module _ (address : List ℕ) where
 
   -- C sees of the numbers what it sees of the record in place, and the numbers stay those of that record
   pub record SameInPlace (r : Record) (table : List ℕ) (es : List HostEvent) : Type 0 where
-    pub steps : host_steps (as_numbers address) (node_numbers r) table es ≡ host_steps in_place r table es
-    pub final : host_finally (as_numbers address) (node_numbers r) table es ≡ node_numbers (host_finally in_place r table es)
+    pub steps : host_steps (as_numbers address) (node_numbers r) table es ≡ host_steps in_place_form r table es
+    pub final : host_finally (as_numbers address) (node_numbers r) table es ≡ node_numbers (host_finally in_place_form r table es)
 
   pub numbers_alike : (es : List HostEvent) (r : Record) (table : List ℕ) → Kept r → SameInPlace r table es
   unfolding host_steps host_finally

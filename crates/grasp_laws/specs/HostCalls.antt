@@ -23,8 +23,8 @@ pub record Form (R : Type 0) : Type 0 where
   pub tally : R → ℕ
 
 -- a record in place: `grasp_record_set_links`, `grasp_record_call`
-abbrev pub in_place : Form Record
-in_place =
+abbrev pub in_place_form : Form Record
+in_place_form =
     record {
       set = λ r mask. (set_links r mask).node;
       called = call_left;

@@ -7,7 +7,7 @@ use Rattle.node_state.specs.declared.Record.{Record}
 use Rattle.node_state.specs.Record.{blank, fresh}
 use Rattle.negotiation.specs.Turns.{BoundedIn}
 use Rattle.host.specs.Records.{numbers_after, fresh_over}
-use Rattle.grasp_laws.specs.HostCalls.{HostEvent, EventFits, in_place, as_numbers, HostList}
+use Rattle.grasp_laws.specs.HostCalls.{HostEvent, EventFits, in_place_form, as_numbers, HostList}
 use Rattle.grasp_laws.specs.HostSteps.{HostSent, host_accepted}
 
 -- a refused fresh record leaves what was there before; then that was all zeros, as a host clears it, and every call is
@@ -16,7 +16,7 @@ pub record Demand3InC : Type 0 where
   -- the record in place, which `grasp_record_fresh` filled
   pub in_place : (before : Record) (address : List ℕ) (port ttl interfaces mask : ℕ) (events : List HostEvent)
       → ((fresh address port ttl interfaces mask).refusal ≢ 0 → before ≡ blank) → Every EventFits events
-      → HostList in_place (fresh_over before address port ttl interfaces mask).node (replicate 2048 0) events
+      → HostList in_place_form (fresh_over before address port ttl interfaces mask).node (replicate 2048 0) events
   -- the record as six numbers, which `grasp_fresh` filled; port and ttl have the widths of C's types
   pub numbers : (before address : List ℕ) (port ttl interfaces mask : ℕ) (events : List HostEvent)
       → ((fresh address port ttl interfaces mask).refusal ≢ 0 → before ≡ replicate 6 0) → Every EventFits events
