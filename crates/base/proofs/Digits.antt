@@ -1,6 +1,6 @@
 -- Numbers of n bytes, the most significant first: the laws of `big_endian` and `bytes_of`, once for every width.
 -- Assumes nothing.
-use mathlib.Core.Path.{◌≡◌, refl, sym, ◌∙◌, ap}
+use mathlib.Core.Path.{◌≡◌, refl, sym, ◌∙◌, ap, subst}
 use mathlib.Core.List.{List, [], ◌∷◌, ◌++◌, append_assoc}
 use Prim.Native.Nat.{ℕ, zero, suc, ◌+◌, ◌*◌, ◌/◌, ◌%◌, ◌^◌, ◌<◌, ◌≤◌}
 use native.Mathlib.Nat.{lt_of_lt_of_le, div-add-mod'}
@@ -33,12 +33,10 @@ unfolding big_endian bytes_of
 read_back zero v rest h = omega arith
 read_back (suc n) v rest h =
     let e : 8 * suc n ≡ 8 * n + 8 = omega arith in
-    rw (
-      append_assoc,
-      read_back n (v / 256) (v % 256 ∷ rest) (shr_lt (8 * n) 8 (rw e at h)),
-      get_or_at (bytes_of n (v / 256)) (v % 256) rest 0 n (length_bytes n (v / 256)),
-    )
-    (div-add-mod' v 256)
+    let last : bytes_of (suc n) v ++ rest ≡ bytes_of n (v / 256) ++ (v % 256 ∷ rest) = rw append_assoc in
+    let back = read_back n (v / 256) (v % 256 ∷ rest) (shr_lt (8 * n) 8 (rw e at h)) in
+    let end = get_or_at (bytes_of n (v / 256)) (v % 256) rest 0 n (length_bytes n (v / 256)) in
+    subst (λ (s : List ℕ). big_endian s (suc n) ≡ v) (sym last) (rw (back, end) (div-add-mod' v 256))
 
 -- bytes are those of the number that they are read as
 pub spelled : (n : ℕ) (s : List ℕ) → FirstBytes n s → n ≤ length s → bytes_of n (big_endian s n) ≡ take n s

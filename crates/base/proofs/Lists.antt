@@ -14,6 +14,7 @@ every_append P (x ∷ xs) ys =
 
 -- of one of them
 pub every_at : {A : Type 0} (P : A → Type 0) {x : A} {l : List A} → Every P l → Memᴰ x l → P x
+every_at P {l = []} h m = elim m [ ]
 every_at P {l = y ∷ ys} h (Memᴰ.head e) = subst P (sym e) h.0
 every_at P {l = y ∷ ys} h (Memᴰ.tail m) = every_at P {l = ys} h.1 m
 

@@ -1,2 +1,4 @@
 // What every layer shares, and nothing of the protocol.
+#![tactic(auto)]
+
 pub mod bytes;

@@ -1,4 +1,6 @@
 // CBOR (RFC 8949): heads, the first whole item of a slice, its tokens, and the shortest head written.
+#![tactic(auto)]
+
 pub mod head;
 pub mod item;
 pub mod put;

@@ -1,5 +1,7 @@
 // Runs the stored cases over `cbor`, a line for each. A case is a header of five bytes (operation, two parameters, the
 // content's length in two bytes) and the content.
+#![tactic(auto)]
+
 use cbor::head::HeadRead;
 use cbor::item::ItemRead;
 

@@ -1,5 +1,7 @@
 // What is to be written: a message described by numbers and by spans of a source, its locators or pairs as rows of a
 // list; and which descriptions speak of a message.
+#![tactic(auto)]
+
 use options::Span;
 use options::outcome::Outcome;
 

@@ -1,4 +1,6 @@
 // GRASP messages encoded (RFC 8990) from a description into a buffer that is lent, every head in its shortest form.
+#![tactic(auto)]
+
 ghost use Rattle.std.specs.Prelude.{◌≡◌, length, replicate};
 ghost use Rattle.rfc8990.specs.Encoding.{encode_msg};
 ghost use Rattle.description.specs.Meaning.{msg_of};

@@ -1,5 +1,7 @@
 // GRASP messages (RFC 8990): the eleven kinds and their shapes. What a message holds is told by numbers and by places
 // in its bytes.
+#![tactic(auto)]
+
 ghost use Rattle.std.specs.Prelude.{◌≡◌};
 ghost use Rattle.message.specs.Examined.{judged_shape, examined};
 

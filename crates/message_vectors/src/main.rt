@@ -1,5 +1,7 @@
 // Runs the stored cases over `reader::read`, a line for each: what the program `read_message` prints, and all that was
 // read. A case is the message's length in two bytes and the message.
+#![tactic(auto)]
+
 use message::fields::Session;
 use message::{Extra, Message, Series, Targets, fields};
 use options::Span;

@@ -1,4 +1,6 @@
 // A node's own names (rules 8.4): one CBOR array of texts, lent as bytes.
+#![tactic(auto)]
+
 ghost use Rattle.std.specs.Prelude.{◌≡◌, ◌≤◌, length};
 ghost use Rattle.names.specs.Names.{good_name, names_bad, array_bad, is_named};
 

@@ -1,4 +1,6 @@
 // Negotiation (rules 10): what a message does to the state of one session.
+#![tactic(auto)]
+
 ghost use Rattle.std.specs.Prelude.{◌≡◌};
 ghost use Rattle.negotiation.specs.Step.{move_of, other_side, same_side, fresh_step};
 ghost use Rattle.negotiation.specs.Step.{lower_step, turn_step, state_step, step};

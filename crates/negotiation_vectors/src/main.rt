@@ -1,6 +1,8 @@
 // Runs the stored lists over the negotiation step. An operation is a byte and what it takes: 1 begins a list with a
 // fresh state; 2 takes a step and prints a line, whether it was taken and the state after it; 3 puts another state in
 // the place of the one that is there.
+#![tactic(auto)]
+
 use negotiation::{Side, State, Stepped};
 
 const MOST_OPERATIONS: usize = 1_000_000;

@@ -1,4 +1,6 @@
 // The node (rules 9): the verdict on each message, and what it does to record and table.
+#![tactic(auto)]
+
 ghost use Rattle.std.specs.Prelude.{◌≡◌};
 ghost use Rattle.node.specs.declared.Reply.TheVariants.{Given};
 ghost use Rattle.node.specs.Call.{replies};

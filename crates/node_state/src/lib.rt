@@ -1,5 +1,7 @@
 // What a node keeps from call to call (rules 6, 7): its record, the relay table that it is lent, and the keys of the
 // table's rows.
+#![tactic(auto)]
+
 ghost use Rattle.std.specs.Prelude.{◌≡◌};
 ghost use Rattle.node_state.specs.Record.{record_bad, fresh, set_links};
 

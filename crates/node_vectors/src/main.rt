@@ -1,6 +1,8 @@
 // Runs the stored stories over the node. An operation is a byte and what it takes. 1 takes a fresh record and a fresh
 // table, 2 calls the node, 3 sets links: each prints a line, its answer and then the tally and the digest of record and
 // table. 4 puts a record, 5 a row of the table, 6 how many of the table's numbers are lent.
+#![tactic(auto)]
+
 mod digest;
 mod input;
 mod line;

@@ -2,6 +2,8 @@
 // accept and decline options, objective options, and the pairs of a Flood. A reader is handed the part of the message
 // that begins at its own head, and the place where that part stands in the message: answers hold places in the message,
 // and nothing is copied out.
+#![tactic(auto)]
+
 ghost use Rattle.std.specs.Prelude.{◌≡◌};
 ghost use Rattle.options.specs.Text.{bad_text, first_of};
 

@@ -1,4 +1,6 @@
 // Reads a message's raw bytes from standard input and prints one line: `kind 0` or `refused 7`.
+#![tactic(auto)]
+
 use text::line::Line;
 
 mod line;

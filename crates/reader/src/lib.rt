@@ -1,4 +1,6 @@
 // Reading GRASP messages (RFC 8990): the message that bytes are, or the number of the refusal.
+#![tactic(auto)]
+
 ghost use Rattle.std.specs.Prelude.{◌≡◌};
 ghost use Rattle.reader.specs.Read.{read_of};
 ghost use Rattle.reader.specs.Walk.{walked_first};

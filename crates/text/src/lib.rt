@@ -1,2 +1,4 @@
 // What is printed: numbers in decimal, and lines.
+#![tactic(auto)]
+
 pub mod line;

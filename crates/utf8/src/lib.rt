@@ -1,4 +1,6 @@
 // UTF-8 (RFC 3629).
+#![tactic(auto)]
+
 ghost use Rattle.std.specs.Prelude.{◌≡◌};
 ghost use Rattle.utf8.specs.Utf8.{tails_of, least_tail, greatest_tail, is_utf8};
 

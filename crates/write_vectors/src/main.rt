@@ -1,6 +1,8 @@
 // Runs the stored cases over the writer, a line for each: the length or the refusal, and the whole output afterwards. A
 // case is an operation and what it takes: 1 writes a description, 2 lowers a count, 3 answers, 4 reads a message and
 // writes it again.
+#![tactic(auto)]
+
 use description::Description;
 use forms::described;
 use forms::described::Described;

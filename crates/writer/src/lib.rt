@@ -1,6 +1,8 @@
 // GRASP messages written (RFC 8990), every head in its shortest form: from a description, from a message that is
 // relayed, and a node's answer.
 // What is written goes to the front of the output and the bytes after it stay; on a refusal all of the output stays.
+#![tactic(auto)]
+
 ghost use Rattle.std.specs.Prelude.{◌≡◌, ◌≤◌, length, ltb};
 ghost use Rattle.base.specs.Pick.{pick};
 ghost use Rattle.rfc8990.specs.Limits.{most_bytes};
