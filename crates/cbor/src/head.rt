@@ -4,14 +4,14 @@ ghost use Rattle.base.specs.BigEndian.{big_endian};
 ghost use Rattle.cbor.specs.Head.{width_of, least_of, initial_of, judged, head_of, head_from, head_at};
 
 // What stands at the start of a slice: a head of `len` bytes, or the refusal with its place.
-#[derive(Drop)]
+#[derive(Clone, Copy)]
 pub enum HeadRead {
     Head { major: u8, arg: u64, len: usize },
     Refused { number: u8, place: usize },
 }
 
 // What a head's first byte says: the major type and how many bytes of argument follow, or the refusal.
-#[derive(Drop)]
+#[derive(Clone, Copy)]
 pub enum Initial {
     Begins { major: u8, width: usize },
     Refused(u8),

@@ -10,7 +10,7 @@ use crate::head::HeadRead;
 pub const MOST_LEVELS: usize = 8;
 
 // The first whole item: where it ends, or the refusal with its place.
-#[derive(Drop)]
+#[derive(Clone, Copy)]
 pub enum ItemRead {
     Ends(usize),
     Refused { number: u8, place: usize },
@@ -18,7 +18,7 @@ pub enum ItemRead {
 
 // A head with its string: passed, `len` bytes with nothing inside; an array, a map or a tag opened, a head of `len`
 // bytes that holds n items, or n pairs of items; or the refusal.
-#[derive(Drop)]
+#[derive(Clone, Copy)]
 pub enum Step {
     Passed(usize),
     Opened { len: usize, n: u64, pairs: bool },
@@ -26,7 +26,7 @@ pub enum Step {
 }
 
 // A step with its items counted: an array, a map or a tag opened lacks n items.
-#[derive(Drop)]
+#[derive(Clone, Copy)]
 pub enum Turn {
     Passed(usize),
     Opened { len: usize, n: u64 },
@@ -35,7 +35,7 @@ pub enum Turn {
 
 // A head that most messages are made of: passed, `len` bytes with nothing inside; an array, a map or a tag opened, a
 // head of one byte that holds n items; or any other, of which nothing is said.
-#[derive(Drop)]
+#[derive(Clone, Copy)]
 pub enum Common {
     Passed(usize),
     Opened(u64),

@@ -8,7 +8,7 @@ use crate::{head, item};
 
 // The head at `at`: its major type and argument, where what it heads begins, and where the next head stands (after a
 // string's bytes, else after the head itself). Major type 8 where no whole head with its string is there.
-#[derive(Drop)]
+#[derive(Clone, Copy)]
 pub struct Token {
     pub at: usize,
     pub major: u8,

@@ -11,7 +11,7 @@ pub mod rows;
 pub mod spans;
 
 // An objective: its name and value are bytes of the source, and a value of 0 bytes is none.
-#[derive(Drop)]
+#[derive(Clone, Copy)]
 pub struct GivenObjective {
     pub name: Span,
     pub flags: u8,
@@ -20,7 +20,7 @@ pub struct GivenObjective {
 }
 
 // An objective that may be left out.
-#[derive(Drop)]
+#[derive(Clone, Copy)]
 pub enum GivenExtra {
     Without,
     With(GivenObjective),
@@ -31,7 +31,7 @@ pub enum GivenExtra {
 // address or text, protocol, port; for 106 protocol 0 and port 65,536 stand for null. A pair's row is twelve: place and
 // length of the name, flags, count, 0, place and length of the value, then the locator's five, or five zeros for none.
 // An item of 0 bytes is none.
-#[derive(Drop)]
+#[derive(Clone, Copy)]
 pub enum Description {
     Noop,
     Discovery {

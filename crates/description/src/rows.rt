@@ -9,7 +9,7 @@ use options::Span;
 pub const LOCATOR_ROW: usize = 5;
 
 // A locator: 103 to 106, its address or text, protocol and port; for 106 protocol 0 and port 65,536 stand for null.
-#[derive(Drop)]
+#[derive(Clone, Copy)]
 pub struct LocatorRow {
     pub kind: u64,
     pub content: Span,
@@ -23,7 +23,7 @@ pub const PAIR_ROW: usize = 12;
 pub const OBJECTIVE_ROW: usize = 7;
 
 // An objective as a row has it: numbers are written as they are, and the reader judges them.
-#[derive(Drop)]
+#[derive(Clone, Copy)]
 pub struct ObjectiveRow {
     pub name: Span,
     pub flags: u64,

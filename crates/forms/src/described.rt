@@ -11,14 +11,14 @@ use options::Span;
 use options::outcome::Outcome;
 
 // What a block says: nothing that could be written, or a description.
-#[derive(Drop)]
+#[derive(Clone, Copy)]
 pub enum Described {
     Nothing,
     As(Description),
 }
 
 // The numbers of a block that a message has in 32 or 8 bits.
-#[derive(Drop)]
+#[derive(Clone, Copy)]
 pub struct Narrow {
     pub session: u32,
     pub ttl: u32,

@@ -12,7 +12,7 @@ use options::pair::PairRead;
 use options::{locator, pair};
 
 // What a message's list has.
-#[derive(Drop)]
+#[derive(Clone, Copy)]
 pub enum Rows {
     Nothing,
     Locators(Series),

@@ -11,7 +11,7 @@ use node_state::{Record, RecordAnswer};
 // A node call's answer: the number of the refusal, 0 for none; the verdict's number (the header names them), whether
 // the message is handed up, the mask of the interfaces to send on, how many bytes to send, all 0 for a refusal; and the
 // record.
-#[derive(Drop)]
+#[derive(Clone, Copy)]
 pub struct CallNumbers {
     pub refusal: u8,
     pub verdict: u8,

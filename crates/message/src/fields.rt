@@ -6,7 +6,7 @@ use crate::{Extra, Message};
 use options::Span;
 
 // A session, which a Noop lacks.
-#[derive(Drop)]
+#[derive(Clone, Copy)]
 pub enum Session {
     Without,
     Number(u32),

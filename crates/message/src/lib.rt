@@ -24,28 +24,28 @@ mod shape;
 pub const MOST_BYTES: usize = 2_048;
 
 // So many items one after the other, the first at `at`.
-#[derive(Drop)]
+#[derive(Clone, Copy)]
 pub struct Series {
     pub at: usize,
     pub many: u64,
 }
 
 // What a Response points at: locators, or a divert's locators; the first of them, and the series of all.
-#[derive(Drop)]
+#[derive(Clone, Copy)]
 pub enum Targets {
     Locators { first: Locator, series: Series },
     Divert { first: Locator, series: Series },
 }
 
 // An objective that may be left out.
-#[derive(Drop)]
+#[derive(Clone, Copy)]
 pub enum Extra {
     Without,
     With(Objective),
 }
 
 // A Flood has its first pair beside the series of all, and Invalid an item of 0 bytes where it has none.
-#[derive(Drop)]
+#[derive(Clone, Copy)]
 pub enum Message {
     Noop,
     Discovery {
@@ -98,7 +98,7 @@ pub enum Message {
 }
 
 // A message, with the place where its parts end, or the refusal with its place.
-#[derive(Drop)]
+#[derive(Clone, Copy)]
 pub enum Examined {
     Refused { number: u8, place: usize },
     Accepted { message: Message, end: usize },

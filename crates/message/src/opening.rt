@@ -10,7 +10,7 @@ use options::Span;
 // The greatest session, ttl and waiting time.
 pub(crate) const MOST_NUMBER: u32 = 4_294_967_295;
 
-#[derive(Drop)]
+#[derive(Clone, Copy)]
 pub struct Opening {
     pub session: u32,
     pub initiator: Span,
@@ -18,7 +18,7 @@ pub struct Opening {
 }
 
 // The place of the first departure from the shape; or the three, with the place of the item after them.
-#[derive(Drop)]
+#[derive(Clone, Copy)]
 pub enum OpeningRead {
     Bad(usize),
     Got { opening: Opening, next: usize },

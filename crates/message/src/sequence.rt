@@ -7,7 +7,7 @@ use options::pair::PairRead;
 
 // The place of the first departure; or where the pairs end, and the places of the first text that isn't UTF-8 and of
 // the first name over 64 bytes, else 0.
-#[derive(Drop)]
+#[derive(Clone, Copy)]
 pub enum PairsRead {
     Bad(usize),
     Ran { end: usize, bad: usize, long: usize },

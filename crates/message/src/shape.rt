@@ -21,7 +21,7 @@ pub(crate) const OBJECTIVE_LEVELS: usize = 2;
 
 // The place of the first departure from the shape; or a message, with the place where its parts end, and those of its
 // first text that isn't UTF-8 and of its first name over 64 bytes, else 0.
-#[derive(Drop)]
+#[derive(Clone, Copy)]
 pub enum Shape {
     Bad(usize),
     Good {

@@ -9,14 +9,14 @@ use message::Message;
 use reader::Reading;
 
 // The two sides of a session.
-#[derive(Drop)]
+#[derive(Clone, Copy)]
 pub enum Side {
     Us,
     Them,
 }
 
 // An open state has its session, the count that the last Request or Negotiate brought, and the side with the turn.
-#[derive(Drop)]
+#[derive(Clone, Copy)]
 pub enum State {
     Fresh,
     Open { session: u32, count: u8, turn: Side },
@@ -24,14 +24,14 @@ pub enum State {
 }
 
 // The number of the refusal, which leaves the state as it is; or the state that the message leads to.
-#[derive(Drop)]
+#[derive(Clone, Copy)]
 pub enum Stepped {
     Refused(u8),
     Moved(State),
 }
 
 // What the step looks at in a message.
-#[derive(Drop)]
+#[derive(Clone, Copy)]
 enum Move {
     Request { session: u32, count: u8 },
     Negotiate { session: u32, count: u8 },

@@ -13,7 +13,7 @@ mod role;
 mod spread;
 
 // What a node does with a message (rules 9.2, 9.3).
-#[derive(Drop)]
+#[derive(Clone, Copy)]
 pub enum Verdict {
     Own,
     Answer,
@@ -28,7 +28,7 @@ pub enum Verdict {
 
 // What a node call answers (rules 8.2): the number of a refusal; or the verdict, whether the message is handed up
 // (given to the host), the mask of the interfaces to send on, and how many bytes to send.
-#[derive(Drop)]
+#[derive(Clone, Copy)]
 pub enum Reply {
     Refused(u8),
     Given {
@@ -40,7 +40,7 @@ pub enum Reply {
 }
 
 // The answer of a node call and the record after it.
-#[derive(Drop)]
+#[derive(Clone, Copy)]
 pub struct CallAnswer {
     pub reply: Reply,
     pub node: Record,

@@ -7,7 +7,7 @@ use options::Span;
 use options::objective::Objective;
 
 // A Discovery, or a Flood with its first objective.
-#[derive(Drop)]
+#[derive(Clone, Copy)]
 pub struct Spread {
     pub flood: bool,
     pub session: u32,
@@ -15,7 +15,7 @@ pub struct Spread {
     pub objective: Objective,
 }
 
-#[derive(Drop)]
+#[derive(Clone, Copy)]
 pub enum Role {
     Noop,
     Upward,

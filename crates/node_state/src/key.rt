@@ -4,7 +4,7 @@ ghost use Rattle.base.specs.BigEndian.{big_endian};
 ghost use Rattle.node_state.specs.Key.{tag_of, key_for};
 
 // What a used row is told by: session and tag, and the initiator in two numbers.
-#[derive(Drop)]
+#[derive(Clone, Copy)]
 pub struct Key {
     pub first: u64,
     pub second: u64,

@@ -12,7 +12,7 @@ pub mod table;
 // A node's record (rules 6.1). Bit i of `links` is set when interface i is up; `clock` is the last accepted clock in
 // ms; `tally` is the copies of all relays.
 #[repr(C)]
-#[derive(Drop)]
+#[derive(Clone, Copy)]
 pub struct Record {
     pub address: [u8; 16],
     pub port: u16,
@@ -24,7 +24,7 @@ pub struct Record {
 }
 
 // The number of the refusal, 0 for none, and the record.
-#[derive(Drop)]
+#[derive(Clone, Copy)]
 pub struct RecordAnswer {
     pub refusal: u8,
     pub node: Record,

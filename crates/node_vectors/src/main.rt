@@ -15,7 +15,7 @@ const MOST_NUMBERS: usize = 320;
 const MOST_OPERATIONS: usize = 1_000_000;
 
 // The record, and how many of the table's numbers are lent.
-#[derive(Drop)]
+#[derive(Clone, Copy)]
 pub struct State {
     pub node: Record,
     pub length: usize,

@@ -10,7 +10,7 @@ use cbor::token;
 // Something else, which 100 doesn't lead; the place of the first departure from the shape; or a divert of `size` bytes:
 // its first locator, the place where that stands and how many there are, with the place `bad` of the first text that
 // isn't UTF-8, else 0.
-#[derive(Drop)]
+#[derive(Clone, Copy)]
 pub enum DivertRead {
     Other,
     Bad(usize),

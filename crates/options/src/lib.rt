@@ -15,7 +15,7 @@ pub mod outcome;
 pub mod pair;
 
 // Bytes of a message: `len` of them, the first at `at`.
-#[derive(Drop)]
+#[derive(Clone, Copy)]
 pub struct Span {
     pub at: usize,
     pub len: usize,

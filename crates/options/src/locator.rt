@@ -24,7 +24,7 @@ const NO_PORT: u32 = 65_537;
 
 // Where a locator's address, domain name or URI stands in the message, its protocol and its port; a null protocol is 0,
 // a null port 65,536 (a URI's only).
-#[derive(Drop)]
+#[derive(Clone, Copy)]
 pub enum Locator {
     V6 { at: usize, protocol: u8, port: u32 },
     V4 { at: usize, protocol: u8, port: u32 },
@@ -34,7 +34,7 @@ pub enum Locator {
 
 // The place of the first departure from the shape; or a locator of `size` bytes, with the place `bad` of its text where
 // that isn't UTF-8, else 0.
-#[derive(Drop)]
+#[derive(Clone, Copy)]
 pub enum LocatorRead {
     Bad(usize),
     Got {

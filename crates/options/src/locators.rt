@@ -8,7 +8,7 @@ use cbor::token;
 
 // The place of the first departure; or the first of them, where they end in their part, how many items are left, and
 // the place of the first text that isn't UTF-8, else 0.
-#[derive(Drop)]
+#[derive(Clone, Copy)]
 pub enum LocatorsRead {
     Bad(usize),
     Ran {

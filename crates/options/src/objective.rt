@@ -10,7 +10,7 @@ use cbor::token::Token;
 pub const MOST_NAME: u64 = 64;
 
 // The head of the loop count begins at `count_at` and ends at `value.at`. A value of 0 bytes is none.
-#[derive(Drop)]
+#[derive(Clone, Copy)]
 pub struct Objective {
     pub name: Span,
     pub flags: u8,
@@ -21,7 +21,7 @@ pub struct Objective {
 
 // The place of the first departure from the shape; or an objective of `size` bytes, with the place `bad` of its name
 // where that isn't UTF-8, and `long` where it has over 64 bytes, else 0.
-#[derive(Drop)]
+#[derive(Clone, Copy)]
 pub enum ObjectiveRead {
     Bad(usize),
     Got {

@@ -6,7 +6,7 @@ use crate::Span;
 use cbor::token;
 
 // Accepted, declined, or declined with a reason.
-#[derive(Drop)]
+#[derive(Clone, Copy)]
 pub enum Outcome {
     Accept,
     Decline,
@@ -15,7 +15,7 @@ pub enum Outcome {
 
 // The place of the first departure from the shape; or an outcome of `size` bytes, with the place `bad` of its reason
 // where that isn't UTF-8, else 0.
-#[derive(Drop)]
+#[derive(Clone, Copy)]
 pub enum OutcomeRead {
     Bad(usize),
     Got {

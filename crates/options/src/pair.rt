@@ -12,14 +12,14 @@ use cbor::token::Token;
 const PAIR_LEVELS: usize = 3;
 
 // What a flooded objective is tagged with.
-#[derive(Drop)]
+#[derive(Clone, Copy)]
 pub enum Tag {
     Empty,
     At(Locator),
 }
 
 // An objective and its tag.
-#[derive(Drop)]
+#[derive(Clone, Copy)]
 pub struct Pair {
     pub objective: Objective,
     pub tag: Tag,
@@ -27,7 +27,7 @@ pub struct Pair {
 
 // The place of the first departure from the shape; or a pair of `size` bytes, with the places of its first text that
 // isn't UTF-8 and of a name over 64 bytes, else 0.
-#[derive(Drop)]
+#[derive(Clone, Copy)]
 pub enum PairRead {
     Bad(usize),
     Got {

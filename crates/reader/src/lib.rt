@@ -10,7 +10,7 @@ use cbor::item::ItemRead;
 use message::{Examined, MOST_BYTES, Message};
 
 // A message, or the number of the refusal.
-#[derive(Drop)]
+#[derive(Clone, Copy)]
 pub enum Reading {
     Refused(u8),
     Read(Message),

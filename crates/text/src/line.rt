@@ -4,7 +4,7 @@ ghost use Rattle.text.specs.Line.{numbered, with_text, kind_line, refused_line};
 ghost use Rattle.text.specs.Line.{};
 
 // A line of `len` bytes, its line feed included; the bytes after it are 0.
-#[derive(Drop)]
+#[derive(Clone, Copy)]
 pub struct Line {
     pub bytes: [u8; 12],
     pub len: usize,

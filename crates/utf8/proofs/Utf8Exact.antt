@@ -29,12 +29,18 @@ Rest (suc due) low high (t ∷ s) = (low ≤ t) × (t ≤ high) × Rest due 0x80
 -- a lead byte, its tails and a text
 
 joined_two : (b : ℕ) (s : List ℕ) → 0xC2 ≤ b → b < 0xE0 → Rest 1 (least_tail b) (greatest_tail b) s → Utf8 (b ∷ s)
+joined_two b [] l h r = elim r [ ]
 joined_two b (t ∷ s) l h (tl, th, r) = put (b ∷ t ∷ []) s (spells_two b t l h tl th) r
 
 joined_three : (b : ℕ) (s : List ℕ) → 0xE0 ≤ b → b < 0xF0 → Rest 2 (least_tail b) (greatest_tail b) s → Utf8 (b ∷ s)
+joined_three b [] l h r = elim r [ ]
+joined_three b (t ∷ []) l h (tl, th, r) = elim r [ ]
 joined_three b (t ∷ u ∷ s) l h (tl, th, (ul, uh, r)) = put (b ∷ t ∷ u ∷ []) s (spells_three b t u l h tl th ul uh) r
 
 joined_four : (b : ℕ) (s : List ℕ) → 0xF0 ≤ b → b < 0xF5 → Rest 3 (least_tail b) (greatest_tail b) s → Utf8 (b ∷ s)
+joined_four b [] l h r = elim r [ ]
+joined_four b (t ∷ []) l h (tl, th, r) = elim r [ ]
+joined_four b (t ∷ u ∷ []) l h (tl, th, (ul, uh, r)) = elim r [ ]
 joined_four b (t ∷ u ∷ v ∷ s) l h (tl, th, (ul, uh, (vl, vh, r))) = put (b ∷ t ∷ u ∷ v ∷ []) s (spells_four b t u v l h tl th ul uh vl vh) r
 
 joined : (b : ℕ) (s : List ℕ) → (tails_of b ≡ 0 → ⊥) → Rest (tails_of b) (least_tail b) (greatest_tail b) s → Utf8 (b ∷ s)

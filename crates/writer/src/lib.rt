@@ -18,7 +18,7 @@ pub mod answer;
 pub mod relay;
 
 // How many bytes were written, or the number of the refusal.
-#[derive(Drop)]
+#[derive(Clone, Copy)]
 pub enum Written {
     Refused(u8),
     Length(usize),

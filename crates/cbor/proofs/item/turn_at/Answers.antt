@@ -1,0 +1,29 @@
+-- `cbor::item::turn_at` meets its contract.
+use mathlib.Core.Path.{ap, ◌∙◌, subst}
+use mathlib.Core.Logic.{inl}
+use lib.ListN.{drop}
+use Rattle.base.proofs.Parts.{rest_is}
+use Rattle.cbor.specs.declared.item.Step.{Step}
+use Rattle.cbor.specs.Item.{step_at}
+use Rattle.cbor.specs.Turn.{Counts, TurnIs, CommonIs}
+use borrow.Author.Rules.{rules}
+use Rattle.cbor.proofs.item.turn_at.Goals as goal
+
+pub returns-in-Passed : goal.returns-in-Passed
+unfolding TurnIs CommonIs
+returns-in-Passed c =
+    let args = c.args in
+    subst (CommonIs args.left (drop args.at args.s.now)) c.common-1.given.1 c.common_at-common.ensures
+
+pub returns-in-Opened : goal.returns-in-Opened
+unfolding Counts TurnIs CommonIs
+returns-in-Opened c =
+    let args = c.args in
+    let (m, pairs, gives, many) = subst (CommonIs args.left (drop args.at args.s.now)) c.common-in-Opened-1.given.1
+    c.common_at-common.ensures in (m, pairs, gives, inl many)
+
+pub returns-in-Other : goal.returns-in-Other
+returns-in-Other c =
+    let args = c.args in
+    subst (λ (step : Step). TurnIs step c.turn_of.result) (c.step_at.ensures ∙ ap (step_at args.left) (rest_is args.at args.s.now))
+    c.turn_of.ensures

@@ -1,0 +1,27 @@
+-- `cbor::token::token_at` meets its contract.
+use native.Mathlib.Nat.{le_of_lt}
+use native.Mathlib.Omega.{arith}
+use Rattle.cbor.specs.declared.head.HeadRead.{HeadRead}
+use Rattle.cbor.specs.Token.{token_from}
+use Rattle.cbor.proofs.Tokens.{token_none, token_found, head_fits}
+use borrow.Author.Rules.{rules}
+use Rattle.cbor.proofs.token.token_at.Goals as goal
+
+pub returns-then-s-at : goal.returns-then-s-at
+returns-then-s-at c = token_none _ _ _ (le_of_lt c.if-s-at.true) c.nothing_at.ensures
+
+pub token_of-requires : goal.token_of-requires
+token_of-requires c =
+    let c7 = c in (
+      head_fits c7.args.s.now c7.args.at _ _ _ _ c.read-head.ensures c.head-1.given.1,
+      omega (arith, c7.well-formed, c.if-s-at.false),
+    )
+
+pub returns-in-Refused : goal.returns-in-Refused
+unfolding token_from
+returns-in-Refused c = token_found _ _ _ (HeadRead.Refused _ _) _ c.read-head.ensures c.enum_told-1.given.1 c.nothing_at-in-Refused.ensures
+
+pub returns-in-Head : goal.returns-in-Head
+unfolding token_from
+returns-in-Head c =
+    token_found _ _ _ (HeadRead.Head _ _ _) _ c.read-head.ensures c.head-1.given.1 c.token_of_lem.ensures
