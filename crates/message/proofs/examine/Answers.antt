@@ -1,10 +1,10 @@
 -- `message::examine` meets its contract.
-use mathlib.Core.Logic.{⊎_elim}
 use Rattle.message.specs.Examined.{examined}
 use Rattle.base.specs.Pick.{pick}
 use borrow.Author.Tests.{lt-ltb, le-ltb, eq-eqb, ne_eqb}
 use borrow.Author.Rules.{rules}
 use Rattle.message.proofs.examine.Goals as goal
+use Rattle.message.proofs.examine.Goals.{then-k-gt9+else-k-ne99, else-k-gt9}
 
 pub returns-then-items_in-eq0 : goal.returns-then-items_in-eq0
 unfolding examined pick
@@ -39,26 +39,26 @@ pub returns : goal.returns
 unfolding examined pick
 returns c =
     let c6 = c in
-    ⊎_elim
-    (λ w. rw (
-      ← c6.array_at-a.ensures.is,
-      ← c6.items_in.ensures,
-      ne_eqb _ _ c6.if-items_in-eq0.false,
-      ← c6.number_at-k.ensures.is,
-      eq-eqb _ _ c.if-k-ne0.false,
-      lt-ltb _ _ w.0.taken,
-      eq-eqb _ _ w.2.left,
-      ← c.by_kind.ensures,
-      ← c.judge.ensures,
-    ))
-    (λ w. rw (
-      ← c6.array_at-a.ensures.is,
-      ← c6.items_in.ensures,
-      ne_eqb _ _ c6.if-items_in-eq0.false,
-      ← c6.number_at-k.ensures.is,
-      eq-eqb _ _ c.if-k-ne0.false,
-      le-ltb _ _ w.left,
-      ← c.by_kind.ensures,
-      ← c.judge.ensures,
-    ))
-    c.if-k-gt9.branch
+    elim c.if-k-gt9.branch [
+      | then-k-gt9+else-k-ne99 w ↦ rw (
+        ← c6.array_at-a.ensures.is,
+        ← c6.items_in.ensures,
+        ne_eqb _ _ c6.if-items_in-eq0.false,
+        ← c6.number_at-k.ensures.is,
+        eq-eqb _ _ c.if-k-ne0.false,
+        lt-ltb _ _ w.if-k-gt9.true,
+        eq-eqb _ _ w.if-k-ne99.false,
+        ← c.by_kind.ensures,
+        ← c.judge.ensures,
+      )
+      | else-k-gt9 w ↦ rw (
+        ← c6.array_at-a.ensures.is,
+        ← c6.items_in.ensures,
+        ne_eqb _ _ c6.if-items_in-eq0.false,
+        ← c6.number_at-k.ensures.is,
+        eq-eqb _ _ c.if-k-ne0.false,
+        le-ltb _ _ w.if-k-gt9.false,
+        ← c.by_kind.ensures,
+        ← c.judge.ensures,
+      )
+    ]

@@ -1,7 +1,7 @@
 -- `message::opening::read_at` meets its contract.
 use Rattle.message.specs.Opening.{opening_at}
 use Rattle.base.specs.Pick.{pick}
-use borrow.Author.Tests.{lt-ltb, le-ltb, not-true, not-false}
+use borrow.Author.Tests.{lt-ltb, le-ltb}
 use borrow.Author.Rules.{rules}
 use Rattle.message.proofs.opening.read_at.Goals as goal
 
@@ -19,7 +19,7 @@ returns-then-not-is_initiator c =
       le-ltb _ _ c.if-session.false,
       ← c.string_at-j.ensures.is,
       ← c.is_initiator.ensures,
-      not-true c.is_initiator.result c.if-not-is_initiator.true,
+      c.if-not-is_initiator.true,
     )
 
 pub returns-then-ttl : goal.returns-then-ttl
@@ -32,7 +32,7 @@ returns-then-ttl c =
       le-ltb _ _ c4.if-session.false,
       ← c4.string_at-j.ensures.is,
       ← c4.is_initiator.ensures,
-      not-false c4.is_initiator.result c.if-not-is_initiator.false,
+      c.if-not-is_initiator.false,
       ← c.number_at-t.ensures.is,
       ← c.up_to-ttl.ensures,
       lt-ltb _ _ c.if-ttl.true,
@@ -48,7 +48,7 @@ returns c =
       le-ltb _ _ c5.if-session.false,
       ← c5.string_at-j.ensures.is,
       ← c5.is_initiator.ensures,
-      not-false c5.is_initiator.result c.if-not-is_initiator.false,
+      c.if-not-is_initiator.false,
       ← c.number_at-t.ensures.is,
       ← c.up_to-ttl.ensures,
       le-ltb _ _ c.if-ttl.false,

@@ -3,7 +3,7 @@ use native.Mathlib.Omega.{arith}
 use Rattle.base.specs.Pick.{pick}
 use Rattle.options.proofs.Fits.{objective_within}
 use Rattle.message.specs.Shape.{discovery_at, discovered}
-use borrow.Author.Tests.{lt-ltb, le-ltb, eq-eqb, ne_eqb, not-true, not-false}
+use borrow.Author.Tests.{lt-ltb, le-ltb, eq-eqb, ne_eqb}
 use borrow.Author.Rules.{rules}
 use Rattle.message.proofs.shape.discovery_at.Goals as goal
 
@@ -27,7 +27,7 @@ returns-then-not-is_initiator c =
       le-ltb _ _ c.if-session.false,
       ← c.string_at-j.ensures.is,
       ← c.is_initiator.ensures,
-      not-true c.is_initiator.result c.if-not-is_initiator.true,
+      c.if-not-is_initiator.true,
     )
 
 pub returns-in-Bad : goal.returns-in-Bad
@@ -41,7 +41,7 @@ returns-in-Bad c =
       le-ltb _ _ c6.if-session.false,
       ← c6.string_at-j.ensures.is,
       ← c6.is_initiator.ensures,
-      not-false c6.is_initiator.result c.if-not-is_initiator.false,
+      c.if-not-is_initiator.false,
       ← c.content_of-initiator.ensures,
       ← c.read_at-read.ensures,
       c.in-Bad.is,
@@ -69,7 +69,7 @@ returns-in-Got c =
       le-ltb _ _ c8.if-session.false,
       ← c8.string_at-j.ensures.is,
       ← c8.is_initiator.ensures,
-      not-false c8.is_initiator.result c.if-not-is_initiator.false,
+      c.if-not-is_initiator.false,
       ← c.content_of-initiator.ensures,
       ← c.read_at-read.ensures,
       c.in-Got.is,
