@@ -137,7 +137,8 @@ unfolding free_rows cell
 free_ahead now t zero i j h = refl
 free_ahead now t (suc n) i j h =
     let rest = free_ahead now t n i j (omega arith) in
-    both (λ (f : List ℕ). get_or f (4 * i + j) 0 ≡ get_or t (4 * i + j) 0) _ (put_apart (free_rows now t n) n no_key 0 (4 * i + j) (λ e. omega arith) ∙ rest) rest
+    both (λ (f : List ℕ). get_or f (4 * i + j) 0 ≡ get_or t (4 * i + j) 0) _
+    (put_apart (free_rows now t n) n no_key 0 (4 * i + j) (λ e. omega arith) ∙ rest) rest
 
 -- so a row is judged as it was
 free_judged : (now : ℕ) (t : List ℕ) (n : ℕ) → row_dead now (free_rows now t n) n ≡ row_dead now t n

@@ -1,5 +1,6 @@
 -- The relay table (rules 7): 64 rows of four numbers, one after the other.
-use Rattle.std.specs.Prelude.{ℕ, zero, suc, ◌+◌, ◌-◌, ◌*◌, ◌/◌, ◌%◌, ◌^◌, Bool, true, not, ◌&&◌, ◌||◌, List, length, get_or, set, replicate, ltb, leb, eqb}
+use Rattle.std.specs.Prelude.{ℕ, zero, suc, ◌+◌, ◌-◌, ◌*◌, ◌/◌, ◌%◌, ◌^◌, Bool, true, not, ◌&&◌, ◌||◌}
+use Rattle.std.specs.Prelude.{List, length, get_or, set, replicate, ltb, leb, eqb}
 use Rattle.base.specs.Pick.{pick}
 use Rattle.node_state.specs.declared.key.Key.{Key}
 use Rattle.node_state.specs.Key.{no_key}

@@ -79,8 +79,8 @@ pub(crate) fn read_in(s: &[u8], base: usize) -> LocatorRead
 
 // What a locator of this kind reaches, from `at` on: address, protocol and port.
 fn read_reached(s: &[u8], base: usize, kind: u64, at: usize) -> LocatorRead
-    requires fact_1 { base + length s.now < 2 ^ 63 }
-    requires fact_2 { at ≤ length s.now }
+    requires fits { base + length s.now < 2 ^ 63 }
+    requires within { at ≤ length s.now }
     ensures { result ≡ locator_reached base s.now kind at }
 {
     let b = token::string_at(s, at);

@@ -31,8 +31,8 @@ pub fn read_at(s: &[u8], at: usize, more: u64) -> LocatorsRead
 
 // The same at `from` of the part s, which stands at `base` of the message.
 pub(crate) fn read_in(s: &[u8], base: usize, from: usize, more: u64) -> LocatorsRead
-    requires fact_1 { base + length s.now < 2 ^ 63 }
-    requires fact_2 { from ≤ length s.now }
+    requires fits { base + length s.now < 2 ^ 63 }
+    requires within { from ≤ length s.now }
     ensures { result ≡ locators_in base s.now from more }
 {
     let read = locator::read_in(&s[from..], base + from);
@@ -53,8 +53,8 @@ fn read_more(
     from: usize,
     first_bad: usize,
 ) -> LocatorsRead
-    requires fact_1 { base + length s.now < 2 ^ 63 }
-    requires fact_2 { from ≤ length s.now }
+    requires fits { base + length s.now < 2 ^ 63 }
+    requires within { from ≤ length s.now }
     ensures { result ≡ locators_from base s.now first n from first_bad }
 {
     let mut left = n;

@@ -66,8 +66,8 @@ pub(crate) fn read_in(levels: usize, s: &[u8], base: usize) -> ObjectiveRead
 
 // An objective of so many items, 3 or 4, from its name on: flags, count and, in four items, a value.
 fn read_named(levels: usize, s: &[u8], base: usize, items: u64, n: Token) -> ObjectiveRead
-    requires fact_1 { base + length s.now < 2 ^ 63 }
-    requires fact_2 { (n.at ≤ length s.now) × (n.body ≤ n.next) × (n.next ≤ length s.now) }
+    requires fits { base + length s.now < 2 ^ 63 }
+    requires within { (n.at ≤ length s.now) × (n.body ≤ n.next) × (n.next ≤ length s.now) }
     ensures { result ≡ objective_named levels base s.now items n }
 {
     let f = token::number_at(s, n.next);

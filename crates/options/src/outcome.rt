@@ -78,8 +78,8 @@ pub(crate) fn read_in(s: &[u8], base: usize) -> OutcomeRead
 
 // A decline's reason, at `at` of its part.
 fn read_reason(s: &[u8], base: usize, at: usize) -> OutcomeRead
-    requires fact_1 { base + length s.now < 2 ^ 63 }
-    requires fact_2 { at ≤ length s.now }
+    requires fits { base + length s.now < 2 ^ 63 }
+    requires within { at ≤ length s.now }
     ensures { result ≡ reason_in base s.now at }
 {
     let t = token::string_at(s, at);

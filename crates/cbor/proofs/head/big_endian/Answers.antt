@@ -26,30 +26,20 @@ pub loop-i-init : goal.loop-i-init
 unfolding big_endian
 loop-i-init c = (omega arith, refl, omega arith)
 
-room : (c : goal.In-loop-i) → c.loop-i.i + 1 ≤ 8
-room c = omega arith
-
 pub overflow_mul-value : goal.overflow_mul-value
-overflow_mul-value c = omega (arith, below_word _ _ (room c) (below_more c.loop-i.i c.loop-i.value 0 c.loop-i.invariant.2 (lit< tt)))
-
--- the next byte makes a number of one byte more
-grown : (c : goal.After-shared_slice_known-in-loop-i-1) → c.loop-i.value * 256
-    + get_or c.args.s.now c.loop-i.i 0 < 2 ^ (8 * (c.loop-i.i + 1))
-grown c =
-    let at-loop = c.loop-i in
-    below_more at-loop.i at-loop.value _ at-loop.invariant.2 (c.shared_slice_known-in-loop-i-1.given at-loop.i).fits
+overflow_mul-value c = omega (arith, below_word _ _ (omega arith) (below_more c.loop-i.i c.loop-i.value 0 c.loop-i.invariant.2 (lit< tt)))
 
 pub overflow_cast-value : goal.overflow_cast-value
-overflow_cast-value c = omega (arith, c.shared_slice_known-in-loop-i-1.given c.loop-i.i)
+overflow_cast-value c = omega (arith, c.type_inv.s c.loop-i.i)
 
 pub overflow_add-value : goal.overflow_add-value
-overflow_add-value c = record { fits = below_word _ _ (room c) (grown c) }
+overflow_add-value c = record { fits = below_word _ _ (omega arith) (below_more c.loop-i.i c.loop-i.value _ c.loop-i.invariant.2 (c.type_inv.s c.loop-i.i).fits) }
 
 pub loop-i-preserved : goal.loop-i-preserved
 unfolding big_endian
 loop-i-preserved c =
     let e = c.loop-i.invariant.1 in
-    (omega arith, rw (add-one) (cc), grown c)
+    (omega arith, rw (add-one) (cc), below_more c.loop-i.i c.loop-i.value _ c.loop-i.invariant.2 (c.type_inv.s c.loop-i.i).fits)
 
 pub returns : goal.returns
 returns c =

@@ -6,15 +6,15 @@ use borrow.Author.Rules.{rules}
 use Rattle.cbor.proofs.head.read_from.Goals as goal
 
 pub read_argument-requires : goal.read_argument-requires
-read_argument-requires c = subst InitialOk (sym c.initial_byte-begun.ensures ∙ c.begun-in-Begins-1.given.1) (initial_ok _)
+read_argument-requires c = subst InitialOk (sym c.in-Begins.ensures) (initial_ok _)
 
 pub returns-in-Refused : goal.returns-in-Refused
 unfolding head_of head_by
 returns-in-Refused c = ap (head_by c.args.first c.args.rest.now)
-    (sym c.begun-1.given.1 ∙ c.initial_byte-begun.ensures)
+    c.in-Refused.ensures
 
 pub returns-in-Begins : goal.returns-in-Begins
 unfolding head_of head_by
 returns-in-Begins c = c.read_argument.ensures
     ∙ ap (head_by c.args.first c.args.rest.now)
-    (sym c.begun-in-Begins-1.given.1 ∙ c.initial_byte-begun.ensures)
+    c.in-Begins.ensures

@@ -13,14 +13,13 @@ pub returns-in-Passed : goal.returns-in-Passed
 unfolding TurnIs CommonIs
 returns-in-Passed c =
     let args = c.args in
-    subst (CommonIs args.left (drop args.at args.s.now)) c.common-1.given.1 c.common_at-common.ensures
+    c.in-Passed.ensures
 
 pub returns-in-Opened : goal.returns-in-Opened
 unfolding Counts TurnIs CommonIs
 returns-in-Opened c =
     let args = c.args in
-    let (m, pairs, gives, many) = subst (CommonIs args.left (drop args.at args.s.now)) c.common-in-Opened-1.given.1
-    c.common_at-common.ensures in (m, pairs, gives, inl many)
+    let (m, pairs, gives, many) = c.in-Opened.ensures in (m, pairs, gives, inl many)
 
 pub returns-in-Other : goal.returns-in-Other
 returns-in-Other c =

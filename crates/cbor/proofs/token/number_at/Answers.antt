@@ -11,7 +11,7 @@ pub returns-then-first-lt24 : goal.returns-then-first-lt24
 returns-then-first-lt24 c =
     let k = c in
     token_told k.args.s.now k.args.at _ _ _ _ _
-    (small_head k.args.s.now k.args.at c.if-at-s.true c.if-first-lt24.true) refl c.token_of_lem.ensures
+    (small_head k.args.s.now k.args.at c.if-at-s.true c.if-first-lt24.true) refl c.token_of.ensures
 
 pub overflow_cast-high : goal.overflow_cast-high
 overflow_cast-high c = omega (arith, c.shared_slice_known-then-room-gt1-1.given (c.args.at + 1))

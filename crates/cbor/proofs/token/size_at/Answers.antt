@@ -1,4 +1,5 @@
 -- `cbor::token::size_at` meets its contract.
+use mathlib.Core.Path.{refl}
 use native.Mathlib.Nat.{le_of_lt}
 use Rattle.cbor.specs.declared.item.ItemRead.{ItemRead}
 use Rattle.cbor.specs.Token.{size_from}
@@ -11,8 +12,8 @@ returns-then-s-at c = size_none _ _ _ (le_of_lt c.if-s-at.true)
 
 pub returns-in-Refused : goal.returns-in-Refused
 unfolding size_from
-returns-in-Refused c = size_found _ _ _ (ItemRead.Refused _ _) _ c.first-read.ensures c.enum_told-1.given.1
+returns-in-Refused c = size_found _ _ _ (ItemRead.Refused _ _) _ c.in-Refused.ensures refl
 
 pub returns-in-Ends : goal.returns-in-Ends
 unfolding size_from
-returns-in-Ends c = size_found _ _ _ (ItemRead.Ends _) _ c.first-read.ensures c.read-1.given.1
+returns-in-Ends c = size_found _ _ _ (ItemRead.Ends _) _ c.in-Ends.ensures refl

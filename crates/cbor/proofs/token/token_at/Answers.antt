@@ -1,4 +1,5 @@
 -- `cbor::token::token_at` meets its contract.
+use mathlib.Core.Path.{refl}
 use native.Mathlib.Nat.{le_of_lt}
 use native.Mathlib.Omega.{arith}
 use Rattle.cbor.specs.declared.head.HeadRead.{HeadRead}
@@ -13,15 +14,15 @@ returns-then-s-at c = token_none _ _ _ (le_of_lt c.if-s-at.true) c.nothing_at.en
 pub token_of-requires : goal.token_of-requires
 token_of-requires c =
     let c7 = c in (
-      head_fits c7.args.s.now c7.args.at _ _ _ _ c.read-head.ensures c.head-1.given.1,
-      omega (arith, c7.well-formed, c.if-s-at.false),
+      head_fits c7.args.s.now c7.args.at _ _ _ _ c.in-Head.ensures refl,
+      omega (arith, c7.well_formed, c.if-s-at.false),
     )
 
 pub returns-in-Refused : goal.returns-in-Refused
 unfolding token_from
-returns-in-Refused c = token_found _ _ _ (HeadRead.Refused _ _) _ c.read-head.ensures c.enum_told-1.given.1 c.nothing_at-in-Refused.ensures
+returns-in-Refused c = token_found _ _ _ (HeadRead.Refused _ _) _ c.in-Refused.ensures refl c.nothing_at-in-Refused.ensures
 
 pub returns-in-Head : goal.returns-in-Head
 unfolding token_from
 returns-in-Head c =
-    token_found _ _ _ (HeadRead.Head _ _ _) _ c.read-head.ensures c.head-1.given.1 c.token_of_lem.ensures
+    token_found _ _ _ (HeadRead.Head _ _ _) _ c.in-Head.ensures refl c.token_of.ensures
