@@ -9,8 +9,7 @@ use host::{call, records};
 // 0 and the record's numbers, the table, the output and the answer (verdict, handed up, mask, length) as the call
 // leaves them; or the number of the refusal, and all of them as they were. The table is lent as 2,048 bytes; another
 // length is 15 in its turn.
-#[unsafe(no_mangle)]
-pub extern "C" fn grasp_node_call(
+pub fn grasp_node_call(
     address: &[u8; 16],
     numbers: &mut [u64; 6],
     bytes: &mut [u8],

@@ -11,8 +11,7 @@ use host::{call, records};
 use node_state::Record;
 
 // 0 and a fresh record, or 12.
-#[unsafe(no_mangle)]
-pub extern "C" fn grasp_record_fresh(
+pub fn grasp_record_fresh(
     node: &mut Record,
     address: &[u8; 16],
     port: u16,
@@ -29,8 +28,7 @@ pub extern "C" fn grasp_record_fresh(
 }
 
 // 0 and the record with other links, or the number of the refusal.
-#[unsafe(no_mangle)]
-pub extern "C" fn grasp_record_set_links(node: &mut Record, links: u64) -> u8
+pub fn grasp_record_set_links(node: &mut Record, links: u64) -> u8
     ensures { keeps result node.new ≡ set_links node.old links }
 {
     let kept = (*node).set_links(links);
@@ -39,8 +37,7 @@ pub extern "C" fn grasp_record_set_links(node: &mut Record, links: u64) -> u8
 }
 
 // 0 and the record, the table, the output and the answer as the node call leaves them, or the number of the refusal.
-#[unsafe(no_mangle)]
-pub extern "C" fn grasp_record_call(
+pub fn grasp_record_call(
     node: &mut Record,
     bytes: &mut [u8],
     clock: u64,

@@ -6,8 +6,7 @@ use host::states;
 use negotiation::{Side, State, Stepped};
 
 // 0 and the state that the message leads to, or the number of the refusal and the state as it was.
-#[unsafe(no_mangle)]
-pub extern "C" fn grasp_step(state: &mut [u64; 4], message: &[u8], side: u64) -> u8
+pub fn grasp_step(state: &mut [u64; 4], message: &[u8], side: u64) -> u8
     ensures value { result ≡ step_number state.old message.now side }
     ensures state_after { state.new ≡ state_after state.old message.now side }
 {

@@ -8,8 +8,7 @@ use options::pair::PairRead;
 use reader::Reading;
 
 // 0 and the message's block, or the number of the refusal and the block as it was.
-#[unsafe(no_mangle)]
-pub extern "C" fn grasp_read(bytes: &[u8], fields: &mut [u64; 19]) -> u8
+pub fn grasp_read(bytes: &[u8], fields: &mut [u64; 19]) -> u8
     ensures value { result ≡ read_number bytes.now }
     ensures fields_after { fields.new ≡ read_block bytes.now fields.old }
 {
@@ -24,8 +23,7 @@ pub extern "C" fn grasp_read(bytes: &[u8], fields: &mut [u64; 19]) -> u8
 }
 
 // The place after the locator at `at` and its block, or 0 and the block as it was where no locator is there.
-#[unsafe(no_mangle)]
-pub extern "C" fn grasp_locator(bytes: &[u8], at: usize, fields: &mut [u64; 5]) -> usize
+pub fn grasp_locator(bytes: &[u8], at: usize, fields: &mut [u64; 5]) -> usize
     ensures value { result ≡ locator_end bytes.now at }
     ensures fields_after { fields.new ≡ locator_after bytes.now at fields.old }
 {
@@ -40,8 +38,7 @@ pub extern "C" fn grasp_locator(bytes: &[u8], at: usize, fields: &mut [u64; 5]) 
 }
 
 // The place after the pair at `at` and its block, or 0 and the block as it was where no pair is there.
-#[unsafe(no_mangle)]
-pub extern "C" fn grasp_pair(bytes: &[u8], at: usize, fields: &mut [u64; 12]) -> usize
+pub fn grasp_pair(bytes: &[u8], at: usize, fields: &mut [u64; 12]) -> usize
     ensures value { result ≡ pair_end bytes.now at }
     ensures fields_after { fields.new ≡ pair_after bytes.now at fields.old }
 {

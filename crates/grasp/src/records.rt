@@ -8,8 +8,7 @@ use host::records;
 use node_state::Record;
 
 // 0 and the numbers of a fresh record, or 12 and the numbers as they were.
-#[unsafe(no_mangle)]
-pub extern "C" fn grasp_fresh(
+pub fn grasp_fresh(
     address: &[u8; 16],
     port: u16,
     ttl: u32,
@@ -26,8 +25,7 @@ pub extern "C" fn grasp_fresh(
 }
 
 // 0 and the numbers with other links, or the number of the refusal and the numbers as they were.
-#[unsafe(no_mangle)]
-pub extern "C" fn grasp_set_links(address: &[u8; 16], numbers: &mut [u64; 6], links: u64) -> u8
+pub fn grasp_set_links(address: &[u8; 16], numbers: &mut [u64; 6], links: u64) -> u8
     ensures value { result ≡ (set_links (node_of address.now numbers.old) links).refusal }
     ensures numbers_after { numbers.new ≡ numbers_after
         (set_links (node_of address.now numbers.old) links) numbers.old }

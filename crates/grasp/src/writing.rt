@@ -7,8 +7,7 @@ use forms::described::Described;
 use writer::Written;
 
 // 0 with the length and the encoding at the front of `out`, or the number of the refusal with both as they were.
-#[unsafe(no_mangle)]
-pub extern "C" fn grasp_write(
+pub fn grasp_write(
     source: &[u8],
     list: &[u64],
     fields: &[u64; 19],

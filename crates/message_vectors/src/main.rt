@@ -10,80 +10,95 @@ use options::objective::Objective;
 use options::outcome::Outcome;
 use options::pair::{PairRead, Tag};
 use reader::Reading;
+use std::io::{self, BufReader, BufWriter, Read, Write};
 
 const MOST_CASES: usize = 1_000_000;
 
-fn main() {
+fn main(rt: HostRuntime) -> io::Result<()> {
+    let mut from = BufReader::new(rt.alloc(), rt.reader())?;
+    let mut to = BufWriter::new(rt.alloc(), io::writer(&rt))?;
+    run_all(&mut from, &mut to)?;
+    to.flush()
+}
+
+fn run_all(from: &mut impl Read, to: &mut impl Write) -> io::Result<()> {
     for _ in 0..MOST_CASES {
-        if !run_next() {
-            return;
+        if !run_next(from, to)? {
+            return Ok(());
         }
     }
+    Ok(())
 }
 
 // Reads a case and runs it; whether there was one.
-fn run_next() -> bool {
+fn run_next(from: &mut impl Read, to: &mut impl Write) -> io::Result<bool> {
     let mut header = [0u8; 2];
-    let got = io::read_full(0, &mut header);
+    let got = streams::read_full(from, &mut header)?;
     if got < 2 {
-        return false;
+        return Ok(false);
     }
     let mut content = [0u8; 4096];
-    run_content(&mut content, number(header[0], header[1]));
-    true
+    run_content(from, to, &mut content, number(header[0], header[1]))?;
+    Ok(true)
 }
 
 fn number(high: u8, low: u8) -> usize {
     high as usize * 256 + low as usize
 }
 
-fn run_content(content: &mut [u8], len: usize) {
+fn run_content(
+    from: &mut impl Read,
+    to: &mut impl Write,
+    content: &mut [u8],
+    len: usize,
+) -> io::Result<()> {
     if content.len() < len {
-        return;
+        return Ok(());
     }
-    io::read_full(0, &mut content[..len]);
-    run(&content[..len]);
+    streams::read_full(from, &mut content[..len])?;
+    run(to, &content[..len])
 }
 
-fn run(s: &[u8]) {
+fn run(to: &mut impl Write, s: &[u8]) -> io::Result<()> {
     let reading = reader::read(s);
     match reading {
-        Reading::Refused(n) => print_number(b"refused", n as u64),
+        Reading::Refused(n) => print_number(to, b"refused", n as u64)?,
         Reading::Read(m) => {
-            print_number(b"kind", fields::kind_of(m) as u64);
-            print_session(fields::session_of(m));
-            print_message(s, m);
+            print_number(to, b"kind", fields::kind_of(m) as u64)?;
+            print_session(to, fields::session_of(m))?;
+            print_message(to, s, m)?;
         }
     }
-    io::write_all(1, b"\n");
+    to.write_all(b"\n")
 }
 
 // A word and a number.
-fn print_number(word: &[u8], n: u64) {
-    io::write_all(1, word);
-    io::write_all(1, b" ");
-    io::print_decimal(1, n);
+fn print_number(to: &mut impl Write, word: &[u8], n: u64) -> io::Result<()> {
+    to.write_all(word)?;
+    to.write_all(b" ")?;
+    write!(to, "{n}")
 }
 
-fn print_session(session: Session) {
+fn print_session(to: &mut impl Write, session: Session) -> io::Result<()> {
     match session {
         Session::Without => {}
-        Session::Number(n) => print_number(b" session", n as u64),
+        Session::Number(n) => print_number(to, b" session", n as u64)?,
     }
+    Ok(())
 }
 
-fn print_span(word: &[u8], span: Span) {
-    print_number(word, span.at as u64);
-    print_number(b"", span.len as u64);
+fn print_span(to: &mut impl Write, word: &[u8], span: Span) -> io::Result<()> {
+    print_number(to, word, span.at as u64)?;
+    print_number(to, b"", span.len as u64)
 }
 
-fn print_opening(initiator: Span, ttl: u32) {
-    print_span(b" initiator", initiator);
-    print_number(b" ttl", ttl as u64);
+fn print_opening(to: &mut impl Write, initiator: Span, ttl: u32) -> io::Result<()> {
+    print_span(to, b" initiator", initiator)?;
+    print_number(to, b" ttl", ttl as u64)
 }
 
 // What a message has after its session.
-fn print_message(s: &[u8], m: Message) {
+fn print_message(to: &mut impl Write, s: &[u8], m: Message) -> io::Result<()> {
     match m {
         Message::Noop => {}
         Message::Discovery {
@@ -91,8 +106,8 @@ fn print_message(s: &[u8], m: Message) {
             objective,
             ..
         } => {
-            print_span(b" initiator", initiator);
-            print_objective(objective);
+            print_span(to, b" initiator", initiator)?;
+            print_objective(to, objective)?;
         }
         Message::Response {
             initiator,
@@ -101,38 +116,39 @@ fn print_message(s: &[u8], m: Message) {
             extra,
             ..
         } => {
-            print_opening(initiator, ttl);
-            print_targets(s, targets);
-            print_extra(extra);
+            print_opening(to, initiator, ttl)?;
+            print_targets(to, s, targets)?;
+            print_extra(to, extra)?;
         }
-        Message::RequestNegotiation { objective, .. } => print_objective(objective),
-        Message::RequestSynchronization { objective, .. } => print_objective(objective),
-        Message::Negotiate { objective, .. } => print_objective(objective),
-        Message::End { outcome, .. } => print_outcome(outcome),
-        Message::Wait { time, .. } => print_number(b" wait", time as u64),
-        Message::Synch { objective, .. } => print_objective(objective),
+        Message::RequestNegotiation { objective, .. } => print_objective(to, objective)?,
+        Message::RequestSynchronization { objective, .. } => print_objective(to, objective)?,
+        Message::Negotiate { objective, .. } => print_objective(to, objective)?,
+        Message::End { outcome, .. } => print_outcome(to, outcome)?,
+        Message::Wait { time, .. } => print_number(to, b" wait", time as u64)?,
+        Message::Synch { objective, .. } => print_objective(to, objective)?,
         Message::Flood {
             initiator,
             ttl,
             pairs,
             ..
         } => {
-            print_opening(initiator, ttl);
-            print_pairs(s, pairs);
+            print_opening(to, initiator, ttl)?;
+            print_pairs(to, s, pairs)?;
         }
-        Message::Invalid { item, .. } => print_item(item),
+        Message::Invalid { item, .. } => print_item(to, item)?,
     }
+    Ok(())
 }
 
-fn print_objective(o: Objective) {
-    print_span(b" objective", o.name);
-    print_number(b"", o.flags as u64);
-    print_number(b"", o.count as u64);
+fn print_objective(to: &mut impl Write, o: Objective) -> io::Result<()> {
+    print_span(to, b" objective", o.name)?;
+    print_number(to, b"", o.flags as u64)?;
+    print_number(to, b"", o.count as u64)?;
     let count_at = o.count_at;
     let value_at = o.value.at;
-    print_number(b"", count_at as u64);
-    print_number(b"", between(count_at, value_at));
-    print_span(b"", o.value);
+    print_number(to, b"", count_at as u64)?;
+    print_number(to, b"", between(count_at, value_at))?;
+    print_span(to, b"", o.value)
 }
 
 // How far it is from one place to another.
@@ -143,140 +159,142 @@ fn between(a: usize, b: usize) -> u64 {
     0
 }
 
-fn print_extra(extra: Extra) {
+fn print_extra(to: &mut impl Write, extra: Extra) -> io::Result<()> {
     match extra {
         Extra::Without => {}
-        Extra::With(objective) => print_objective(objective),
+        Extra::With(objective) => print_objective(to, objective)?,
     }
+    Ok(())
 }
 
-fn print_outcome(outcome: Outcome) {
+fn print_outcome(to: &mut impl Write, outcome: Outcome) -> io::Result<()> {
     match outcome {
-        Outcome::Accept => {
-            io::write_all(1, b" accept");
-        }
-        Outcome::Decline => {
-            io::write_all(1, b" decline");
-        }
-        Outcome::Reason(span) => print_span(b" decline", span),
+        Outcome::Accept => to.write_all(b" accept")?,
+        Outcome::Decline => to.write_all(b" decline")?,
+        Outcome::Reason(span) => print_span(to, b" decline", span)?,
     }
+    Ok(())
 }
 
-fn print_item(item: Span) {
+fn print_item(to: &mut impl Write, item: Span) -> io::Result<()> {
     if item.len != 0 {
-        print_span(b" item", item);
+        print_span(to, b" item", item)?;
     }
+    Ok(())
 }
 
-fn print_targets(s: &[u8], targets: Targets) {
+fn print_targets(to: &mut impl Write, s: &[u8], targets: Targets) -> io::Result<()> {
     match targets {
         Targets::Locators { series, .. } => {
-            print_number(b" locators", series.many);
-            print_locators(s, series);
+            print_number(to, b" locators", series.many)?;
+            print_locators(to, s, series)?;
         }
         Targets::Divert { series, .. } => {
-            print_number(b" divert", series.many);
-            print_locators(s, series);
+            print_number(to, b" divert", series.many)?;
+            print_locators(to, s, series)?;
         }
     }
+    Ok(())
 }
 
-fn print_locators(s: &[u8], series: Series) {
+fn print_locators(to: &mut impl Write, s: &[u8], series: Series) -> io::Result<()> {
     let mut at = series.at;
     let many = series.many;
     for _ in 0..many {
-        at = print_locator_at(s, at);
+        at = print_locator_at(to, s, at)?;
     }
+    Ok(())
 }
 
 // The place after the locator at `at`.
-fn print_locator_at(s: &[u8], at: usize) -> usize {
+fn print_locator_at(to: &mut impl Write, s: &[u8], at: usize) -> io::Result<usize> {
     let read = options::locator::read_at(s, at);
     match read {
-        LocatorRead::Bad(_) => at,
+        LocatorRead::Bad(_) => Ok(at),
         LocatorRead::Got { locator, size, .. } => {
-            print_locator(locator);
-            sum(at, size)
+            print_locator(to, locator)?;
+            Ok(sum(at, size))
         }
     }
 }
 
-fn print_locator(l: Locator) {
+fn print_locator(to: &mut impl Write, l: Locator) -> io::Result<()> {
     match l {
         Locator::V6 { at, protocol, port } => {
-            print_number(b" v6", at as u64);
-            print_transport(protocol, port);
+            print_number(to, b" v6", at as u64)?;
+            print_transport(to, protocol, port)?;
         }
         Locator::V4 { at, protocol, port } => {
-            print_number(b" v4", at as u64);
-            print_transport(protocol, port);
+            print_number(to, b" v4", at as u64)?;
+            print_transport(to, protocol, port)?;
         }
         Locator::Domain {
             name,
             protocol,
             port,
         } => {
-            print_span(b" domain", name);
-            print_transport(protocol, port);
+            print_span(to, b" domain", name)?;
+            print_transport(to, protocol, port)?;
         }
         Locator::Uri {
             uri,
             protocol,
             port,
         } => {
-            print_span(b" uri", uri);
-            print_transport(protocol, port);
+            print_span(to, b" uri", uri)?;
+            print_transport(to, protocol, port)?;
         }
     }
+    Ok(())
 }
 
-fn print_transport(protocol: u8, port: u32) {
-    print_or_null(protocol as u64, 0);
-    print_or_null(port as u64, 65_536);
+fn print_transport(to: &mut impl Write, protocol: u8, port: u32) -> io::Result<()> {
+    print_or_null(to, protocol as u64, 0)?;
+    print_or_null(to, port as u64, 65_536)
 }
 
-fn print_or_null(n: u64, null: u64) {
+fn print_or_null(to: &mut impl Write, n: u64, null: u64) -> io::Result<()> {
     if n == null {
-        io::write_all(1, b" null");
-        return;
+        to.write_all(b" null")?;
+        return Ok(());
     }
-    print_number(b"", n);
+    print_number(to, b"", n)
 }
 
-fn print_pairs(s: &[u8], series: Series) {
+fn print_pairs(to: &mut impl Write, s: &[u8], series: Series) -> io::Result<()> {
     let mut at = series.at;
     let many = series.many;
-    print_number(b" pairs", many);
+    print_number(to, b" pairs", many)?;
     for _ in 0..many {
-        at = print_pair_at(s, at);
+        at = print_pair_at(to, s, at)?;
     }
+    Ok(())
 }
 
 // The place after the pair at `at`.
-fn print_pair_at(s: &[u8], at: usize) -> usize {
+fn print_pair_at(to: &mut impl Write, s: &[u8], at: usize) -> io::Result<usize> {
     let read = options::pair::read_at(s, at);
     match read {
-        PairRead::Bad(_) => at,
+        PairRead::Bad(_) => Ok(at),
         PairRead::Got {
             objective,
             tag,
             size,
             ..
         } => {
-            print_objective(objective);
-            print_tag(tag);
-            sum(at, size)
+            print_objective(to, objective)?;
+            print_tag(to, tag)?;
+            Ok(sum(at, size))
         }
     }
 }
 
-fn print_tag(tag: Tag) {
+fn print_tag(to: &mut impl Write, tag: Tag) -> io::Result<()> {
     match tag {
-        Tag::Empty => {
-            io::write_all(1, b" nowhere");
-        }
-        Tag::At(locator) => print_locator(locator),
+        Tag::Empty => to.write_all(b" nowhere")?,
+        Tag::At(locator) => print_locator(to, locator)?,
     }
+    Ok(())
 }
 
 // A place further on, as far as places go.

@@ -4,142 +4,156 @@
 #![tactic(auto)]
 
 use negotiation::{Side, State, Stepped};
+use std::io::{self, BufReader, BufWriter, Read, Write};
 
 const MOST_OPERATIONS: usize = 1_000_000;
 
-fn main() {
+fn main(rt: HostRuntime) -> io::Result<()> {
+    let mut from = BufReader::new(rt.alloc(), rt.reader())?;
+    let mut to = BufWriter::new(rt.alloc(), io::writer(&rt))?;
+    run_all(&mut from, &mut to)?;
+    to.flush()
+}
+
+fn run_all(from: &mut impl Read, to: &mut impl Write) -> io::Result<()> {
     let mut state = State::Fresh;
     for _ in 0..MOST_OPERATIONS {
         let mut operation = [0u8; 1];
-        let got = io::read_full(0, &mut operation);
+        let got = streams::read_full(from, &mut operation)?;
         if got < 1 {
-            return;
+            return Ok(());
         }
-        state = run(state, operation[0]);
+        state = run(from, to, state, operation[0])?;
     }
+    Ok(())
 }
 
 // The state after an operation.
-fn run(state: State, operation: u8) -> State {
+fn run(
+    from: &mut impl Read,
+    to: &mut impl Write,
+    state: State,
+    operation: u8,
+) -> io::Result<State> {
     if operation == 2 {
-        return run_step(state);
+        return run_step(from, to, state);
     }
     if operation == 3 {
-        return next_state();
+        return next_state(from);
     }
-    State::Fresh
+    Ok(State::Fresh)
 }
 
 // The next bytes of the input as numbers, the most significant first.
-fn next_byte() -> u8 {
+fn next_byte(from: &mut impl Read) -> io::Result<u8> {
     let mut b = [0u8; 1];
-    io::read_full(0, &mut b);
-    b[0]
+    streams::read_full(from, &mut b)?;
+    Ok(b[0])
 }
 
-fn next_two() -> u16 {
-    let high = next_byte();
-    let low = next_byte();
-    high as u16 * 256 + low as u16
+fn next_two(from: &mut impl Read) -> io::Result<u16> {
+    let high = next_byte(from)?;
+    let low = next_byte(from)?;
+    Ok(high as u16 * 256 + low as u16)
 }
 
-fn next_four() -> u32 {
-    let high = next_two();
-    let low = next_two();
-    high as u32 * 65_536 + low as u32
+fn next_four(from: &mut impl Read) -> io::Result<u32> {
+    let high = next_two(from)?;
+    let low = next_two(from)?;
+    Ok(high as u32 * 65_536 + low as u32)
 }
 
-fn next_side() -> Side {
-    if next_byte() == 0 {
-        return Side::Us;
+fn next_side(from: &mut impl Read) -> io::Result<Side> {
+    if next_byte(from)? == 0 {
+        return Ok(Side::Us);
     }
-    Side::Them
+    Ok(Side::Them)
 }
 
 // A phase, a session, a count and a turn.
-fn next_state() -> State {
-    let phase = next_byte();
-    let session = next_four();
-    let count = next_byte();
-    let turn = next_side();
+fn next_state(from: &mut impl Read) -> io::Result<State> {
+    let phase = next_byte(from)?;
+    let session = next_four(from)?;
+    let count = next_byte(from)?;
+    let turn = next_side(from)?;
     if phase == 0 {
-        return State::Fresh;
+        return Ok(State::Fresh);
     }
     if phase == 1 {
-        return State::Open {
+        return Ok(State::Open {
             session,
             count,
             turn,
-        };
+        });
     }
-    State::Closed
+    Ok(State::Closed)
 }
 
-fn run_step(state: State) -> State {
-    let sender = next_side();
+fn run_step(from: &mut impl Read, to: &mut impl Write, state: State) -> io::Result<State> {
+    let sender = next_side(from)?;
     let mut message = [0u8; 4_096];
-    step_in(state, &mut message, sender)
+    step_in(from, to, state, &mut message, sender)
 }
 
-fn step_in(state: State, message: &mut [u8], sender: Side) -> State {
-    let len = next_two() as usize;
+fn step_in(
+    from: &mut impl Read,
+    to: &mut impl Write,
+    state: State,
+    message: &mut [u8],
+    sender: Side,
+) -> io::Result<State> {
+    let len = next_two(from)? as usize;
     if message.len() < len {
-        return state;
+        return Ok(state);
     }
-    io::read_full(0, &mut message[..len]);
-    step(state, &message[..len], sender)
+    streams::read_full(from, &mut message[..len])?;
+    step(to, state, &message[..len], sender)
 }
 
-fn step(state: State, message: &[u8], sender: Side) -> State {
+fn step(to: &mut impl Write, state: State, message: &[u8], sender: Side) -> io::Result<State> {
     let stepped = negotiation::step(state, message, sender);
     match stepped {
         Stepped::Refused(number) => {
-            print_number(b"refused", number as u64);
-            print_state(state);
-            state
+            print_number(to, b"refused", number as u64)?;
+            print_state(to, state)?;
+            Ok(state)
         }
         Stepped::Moved(after) => {
-            io::write_all(1, b"taken");
-            print_state(after);
-            after
+            to.write_all(b"taken")?;
+            print_state(to, after)?;
+            Ok(after)
         }
     }
 }
 
-fn print_state(state: State) {
+fn print_state(to: &mut impl Write, state: State) -> io::Result<()> {
     match state {
-        State::Fresh => {
-            io::write_all(1, b" fresh\n");
-        }
+        State::Fresh => to.write_all(b" fresh\n")?,
         State::Open {
             session,
             count,
             turn,
         } => {
-            print_number(b" open", session as u64);
-            print_number(b"", count as u64);
-            print_turn(turn);
+            print_number(to, b" open", session as u64)?;
+            print_number(to, b"", count as u64)?;
+            print_turn(to, turn)?;
         }
-        State::Closed => {
-            io::write_all(1, b" closed\n");
-        }
+        State::Closed => to.write_all(b" closed\n")?,
     }
+    Ok(())
 }
 
-fn print_turn(turn: Side) {
+fn print_turn(to: &mut impl Write, turn: Side) -> io::Result<()> {
     match turn {
-        Side::Us => {
-            io::write_all(1, b" 0\n");
-        }
-        Side::Them => {
-            io::write_all(1, b" 1\n");
-        }
+        Side::Us => to.write_all(b" 0\n")?,
+        Side::Them => to.write_all(b" 1\n")?,
     }
+    Ok(())
 }
 
 // A word and a number.
-fn print_number(word: &[u8], n: u64) {
-    io::write_all(1, word);
-    io::write_all(1, b" ");
-    io::print_decimal(1, n);
+fn print_number(to: &mut impl Write, word: &[u8], n: u64) -> io::Result<()> {
+    to.write_all(word)?;
+    to.write_all(b" ")?;
+    write!(to, "{n}")
 }

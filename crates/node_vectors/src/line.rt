@@ -3,25 +3,38 @@ ghost use Rattle.std.specs.Prelude.{◌≤◌};
 
 use crate::{State, digest};
 use node::{Reply, Verdict};
+use std::io;
+use std::io::Write;
 
 // The line of a fresh record and of a setting of links.
-pub(crate) fn print_kept(refusal: u8, state: State, table: &[u64]) {
+pub(crate) fn print_kept(
+    to: &mut impl Write,
+    refusal: u8,
+    state: State,
+    table: &[u64],
+) -> io::Result<()> {
     if refusal == 0 {
-        io::write_all(1, b"done");
+        to.write_all(b"done")?;
     } else {
-        print_number(b"refused ", refusal as u64);
+        print_number(to, b"refused ", refusal as u64)?;
     }
-    print_state(state, table);
-    io::write_all(1, b"\n");
+    print_state(to, state, table)?;
+    to.write_all(b"\n")
 }
 
 // The line of a node call; the last number counts the other bytes of the output that have changed.
-pub(crate) fn print_called(reply: Reply, state: State, table: &[u64], out: &[u8]) {
+pub(crate) fn print_called(
+    to: &mut impl Write,
+    reply: Reply,
+    state: State,
+    table: &[u64],
+    out: &[u8],
+) -> io::Result<()> {
     match reply {
         Reply::Refused(number) => {
-            print_number(b"refused ", number as u64);
-            print_state(state, table);
-            print_number(b" ", touched(out, 0));
+            print_number(to, b"refused ", number as u64)?;
+            print_state(to, state, table)?;
+            print_number(to, b" ", touched(out, 0))?;
         }
         Reply::Given {
             verdict,
@@ -29,15 +42,15 @@ pub(crate) fn print_called(reply: Reply, state: State, table: &[u64], out: &[u8]
             mask,
             length,
         } => {
-            print_number(b"verdict ", number_of(verdict));
-            print_number(b" ", mask as u64);
-            print_number(b" ", handed_up as u64);
-            print_state(state, table);
-            print_number(b" ", touched(out, length));
-            print_written(out, length);
+            print_number(to, b"verdict ", number_of(verdict))?;
+            print_number(to, b" ", mask as u64)?;
+            print_number(to, b" ", handed_up as u64)?;
+            print_state(to, state, table)?;
+            print_number(to, b" ", touched(out, length))?;
+            print_written(to, out, length)?;
         }
     }
-    io::write_all(1, b"\n");
+    to.write_all(b"\n")
 }
 
 fn number_of(verdict: Verdict) -> u64 {
@@ -55,14 +68,14 @@ fn number_of(verdict: Verdict) -> u64 {
 }
 
 // The tally, and the digest of the record and of the numbers that are lent.
-fn print_state(state: State, table: &[u64]) {
+fn print_state(to: &mut impl Write, state: State, table: &[u64]) -> io::Result<()> {
     let length = state.length;
     if table.len() < length {
-        return;
+        return Ok(());
     }
     let node = state.node;
-    print_number(b" ", node.tally);
-    print_number(b" ", digest::digest_of(node, &table[..length]) as u64);
+    print_number(to, b" ", node.tally)?;
+    print_number(to, b" ", digest::digest_of(node, &table[..length]) as u64)
 }
 
 // How many bytes from a place on have changed.
@@ -84,24 +97,25 @@ fn changed(b: u8) -> u64
     1
 }
 
-fn print_written(out: &[u8], length: usize) {
-    io::write_all(1, b" ");
+fn print_written(to: &mut impl Write, out: &[u8], length: usize) -> io::Result<()> {
+    to.write_all(b" ")?;
     if out.len() < length {
-        return;
+        return Ok(());
     }
-    print_bytes(&out[..length]);
+    print_bytes(to, &out[..length])
 }
 
-fn print_bytes(s: &[u8]) {
+fn print_bytes(to: &mut impl Write, s: &[u8]) -> io::Result<()> {
     for i in 0..s.len() {
-        print_byte(s[i]);
+        print_byte(to, s[i])?;
     }
+    Ok(())
 }
 
 // A byte as two hexadecimal digits.
-fn print_byte(b: u8) {
+fn print_byte(to: &mut impl Write, b: u8) -> io::Result<()> {
     let digits = [digit(b / 16), digit(b)];
-    io::write_all(1, &digits);
+    to.write_all(&digits)
 }
 
 // The lower half of a byte as a hexadecimal digit.
@@ -114,7 +128,7 @@ fn digit(b: u8) -> u8 {
 }
 
 // A word and a number.
-fn print_number(word: &[u8], n: u64) {
-    io::write_all(1, word);
-    io::print_decimal(1, n);
+fn print_number(to: &mut impl Write, word: &[u8], n: u64) -> io::Result<()> {
+    to.write_all(word)?;
+    write!(to, "{n}")
 }

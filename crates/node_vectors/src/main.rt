@@ -8,6 +8,7 @@ mod input;
 mod line;
 
 use node_state::Record;
+use std::io::{self, BufReader, BufWriter, Read, Write};
 
 // The most numbers of a table that is lent: 80 rows.
 const MOST_NUMBERS: usize = 320;
@@ -21,24 +22,28 @@ pub struct State {
     pub length: usize,
 }
 
-fn main() {
+fn main(rt: HostRuntime) -> io::Result<()> {
+    let mut from = BufReader::new(rt.alloc(), rt.reader())?;
+    let mut to = BufWriter::new(rt.alloc(), io::writer(&rt))?;
     let mut table = [0u64; MOST_NUMBERS];
-    run_all(&mut table);
+    run_all(&mut from, &mut to, &mut table)?;
+    to.flush()
 }
 
-fn run_all(table: &mut [u64]) {
+fn run_all(from: &mut impl Read, to: &mut impl Write, table: &mut [u64]) -> io::Result<()> {
     let mut state = State {
         node: blank(),
         length: 256,
     };
     for _ in 0..MOST_OPERATIONS {
         let mut operation = [0u8; 1];
-        let got = io::read_full(0, &mut operation);
+        let got = streams::read_full(from, &mut operation)?;
         if got < 1 {
-            return;
+            return Ok(());
         }
-        state = run(state, table, operation[0]);
+        state = run(from, to, state, table, operation[0])?;
     }
+    Ok(())
 }
 
 // All zeros.
@@ -55,42 +60,48 @@ fn blank() -> Record {
 }
 
 // The state after an operation.
-fn run(state: State, table: &mut [u64], operation: u8) -> State {
+fn run(
+    from: &mut impl Read,
+    to: &mut impl Write,
+    state: State,
+    table: &mut [u64],
+    operation: u8,
+) -> io::Result<State> {
     if operation == 1 {
-        return run_fresh(table);
+        return run_fresh(from, to, table);
     }
     if operation == 2 {
-        return run_call(state, table);
+        return run_call(from, to, state, table);
     }
     if operation == 3 {
-        return run_links(state, table);
+        return run_links(from, to, state, table);
     }
     if operation == 4 {
-        return put_record(state);
+        return put_record(from, state);
     }
     if operation == 5 {
-        put_row(table);
-        return state;
+        put_row(from, table)?;
+        return Ok(state);
     }
     if operation == 6 {
-        return put_length(state);
+        return put_length(from, state);
     }
-    state
+    Ok(state)
 }
 
-fn run_fresh(table: &mut [u64]) -> State {
+fn run_fresh(from: &mut impl Read, to: &mut impl Write, table: &mut [u64]) -> io::Result<State> {
     let mut address = [0u8; 16];
-    io::read_full(0, &mut address);
-    let port = input::next_two();
-    let ttl = input::next_four();
-    let interfaces = input::next_eight();
-    let mask = input::next_eight();
+    streams::read_full(from, &mut address)?;
+    let port = input::next_two(from)?;
+    let ttl = input::next_four(from)?;
+    let interfaces = input::next_eight(from)?;
+    let mask = input::next_eight(from)?;
     clear(table);
     let kept = Record::fresh(address, port, ttl, interfaces, mask);
     let node = kept.node;
     let state = State { node, length: 256 };
-    line::print_kept(kept.refusal, state, table);
-    state
+    line::print_kept(to, kept.refusal, state, table)?;
+    Ok(state)
 }
 
 fn clear(table: &mut [u64]) {
@@ -99,8 +110,13 @@ fn clear(table: &mut [u64]) {
     }
 }
 
-fn run_links(state: State, table: &[u64]) -> State {
-    let mask = input::next_eight();
+fn run_links(
+    from: &mut impl Read,
+    to: &mut impl Write,
+    state: State,
+    table: &[u64],
+) -> io::Result<State> {
+    let mask = input::next_eight(from)?;
     let before = state.node;
     let kept = before.set_links(mask);
     let node = kept.node;
@@ -108,17 +124,24 @@ fn run_links(state: State, table: &[u64]) -> State {
         node,
         length: state.length,
     };
-    line::print_kept(kept.refusal, after, table);
-    after
+    line::print_kept(to, kept.refusal, after, table)?;
+    Ok(after)
 }
 
-fn run_call(state: State, table: &mut [u64]) -> State {
-    let clock = input::next_eight();
-    let interface = input::next_eight();
+fn run_call(
+    from: &mut impl Read,
+    to: &mut impl Write,
+    state: State,
+    table: &mut [u64],
+) -> io::Result<State> {
+    let clock = input::next_eight(from)?;
+    let interface = input::next_eight(from)?;
     let mut names = [0u8; 4_096];
     let mut message = [0u8; 4_096];
     let mut out = [0xaau8; 2_100];
     call_in(
+        from,
+        to,
         state,
         table,
         clock,
@@ -130,6 +153,8 @@ fn run_call(state: State, table: &mut [u64]) -> State {
 }
 
 fn call_in(
+    from: &mut impl Read,
+    to: &mut impl Write,
     state: State,
     table: &mut [u64],
     clock: u64,
@@ -137,22 +162,23 @@ fn call_in(
     names: &mut [u8],
     message: &mut [u8],
     out: &mut [u8],
-) -> State {
-    let named = input::next_two() as usize;
+) -> io::Result<State> {
+    let named = input::next_two(from)? as usize;
     if names.len() < named {
-        return state;
+        return Ok(state);
     }
-    io::read_full(0, &mut names[..named]);
-    let len = input::next_two() as usize;
+    streams::read_full(from, &mut names[..named])?;
+    let len = input::next_two(from)? as usize;
     if message.len() < len {
-        return state;
+        return Ok(state);
     }
-    io::read_full(0, &mut message[..len]);
-    let size = input::next_two() as usize;
+    streams::read_full(from, &mut message[..len])?;
+    let size = input::next_two(from)? as usize;
     if out.len() < size {
-        return state;
+        return Ok(state);
     }
     call(
+        to,
         state,
         table,
         clock,
@@ -164,6 +190,7 @@ fn call_in(
 }
 
 fn call(
+    to: &mut impl Write,
     state: State,
     table: &mut [u64],
     clock: u64,
@@ -171,10 +198,10 @@ fn call(
     names: &[u8],
     message: &[u8],
     out: &mut [u8],
-) -> State {
+) -> io::Result<State> {
     let length = state.length;
     if table.len() < length {
-        return state;
+        return Ok(state);
     }
     let before = state.node;
     let called = node::call::node_call(
@@ -189,20 +216,20 @@ fn call(
     let node = called.node;
     let reply = called.reply;
     let after = State { node, length };
-    line::print_called(reply, after, table, out);
-    after
+    line::print_called(to, reply, after, table, out)?;
+    Ok(after)
 }
 
-fn put_record(state: State) -> State {
+fn put_record(from: &mut impl Read, state: State) -> io::Result<State> {
     let mut address = [0u8; 16];
-    io::read_full(0, &mut address);
-    let port = input::next_two();
-    let ttl = input::next_four();
-    let interfaces = input::next_byte();
-    let links = input::next_byte();
-    let clock = input::next_eight();
-    let tally = input::next_eight();
-    State {
+    streams::read_full(from, &mut address)?;
+    let port = input::next_two(from)?;
+    let ttl = input::next_four(from)?;
+    let interfaces = input::next_byte(from)?;
+    let links = input::next_byte(from)?;
+    let clock = input::next_eight(from)?;
+    let tally = input::next_eight(from)?;
+    Ok(State {
         node: Record {
             address,
             port,
@@ -213,22 +240,22 @@ fn put_record(state: State) -> State {
             tally,
         },
         length: state.length,
-    }
+    })
 }
 
 // A row's number, then its four numbers.
-fn put_row(table: &mut [u64]) {
-    let row = input::next_byte() as usize;
+fn put_row(from: &mut impl Read, table: &mut [u64]) -> io::Result<()> {
+    let row = input::next_byte(from)? as usize;
     let at = 4 * row;
     let end = at + 4;
     if table.len() < end {
-        return;
+        return Ok(());
     }
-    input::next_numbers(&mut table[at..end]);
+    input::next_numbers(from, &mut table[at..end])
 }
 
-fn put_length(state: State) -> State {
+fn put_length(from: &mut impl Read, state: State) -> io::Result<State> {
     let node = state.node;
-    let length = input::next_two() as usize;
-    State { node, length }
+    let length = input::next_two(from)? as usize;
+    Ok(State { node, length })
 }

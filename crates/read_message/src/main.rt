@@ -1,25 +1,27 @@
 // Reads a message's raw bytes from standard input and prints one line: `kind 0` or `refused 7`.
 #![tactic(auto)]
 
+use std::io::{self, Write};
 use text::line::Line;
 
 mod line;
 
-fn main() {
+fn main(rt: HostRuntime) -> io::Result<()> {
     // One byte more than a message has at most, so that a longer input is seen to be longer.
     let mut input = [0u8; 2_049];
-    let n = io::read_full(0, &mut input);
-    print(line::line_of(&input[..n]));
+    let n = streams::read_full(&mut rt.stdin(), &mut input)?;
+    print(&mut rt.stdout(), line::line_of(&input[..n]))
 }
 
-fn print(line: Line) {
+fn print(to: &mut impl Write, line: Line) -> io::Result<()> {
     let bytes = line.bytes;
     let len = line.len;
-    print_front(&bytes, len);
+    print_front(to, &bytes, len)
 }
 
-fn print_front(bytes: &[u8], len: usize) {
+fn print_front(to: &mut impl Write, bytes: &[u8], len: usize) -> io::Result<()> {
     if len <= bytes.len() {
-        io::write_all(1, &bytes[..len]);
+        to.write_all(&bytes[..len])?;
     }
+    Ok(())
 }

@@ -8,238 +8,318 @@ use forms::described;
 use forms::described::Described;
 use message::Message;
 use reader::Reading;
+use std::io::{self, BufReader, BufWriter, Read, Write};
 use writer::Written;
 
 const MOST_CASES: usize = 1_000_000;
 
-fn main() {
-    for _ in 0..MOST_CASES {
-        let mut operation = [0u8; 1];
-        let got = io::read_full(0, &mut operation);
-        if got < 1 {
-            return;
-        }
-        run(operation[0]);
-    }
+fn main(rt: HostRuntime) -> io::Result<()> {
+    let mut from = BufReader::new(rt.alloc(), rt.reader())?;
+    let mut to = BufWriter::new(rt.alloc(), io::writer(&rt))?;
+    run_all(&mut from, &mut to)?;
+    to.flush()
 }
 
-fn run(operation: u8) {
+fn run_all(from: &mut impl Read, to: &mut impl Write) -> io::Result<()> {
+    for _ in 0..MOST_CASES {
+        let mut operation = [0u8; 1];
+        let got = streams::read_full(from, &mut operation)?;
+        if got < 1 {
+            return Ok(());
+        }
+        run(from, to, operation[0])?;
+    }
+    Ok(())
+}
+
+fn run(from: &mut impl Read, to: &mut impl Write, operation: u8) -> io::Result<()> {
     if operation == 1 {
-        run_write();
+        run_write(from, to)?;
     }
     if operation == 2 {
-        run_lower();
+        run_lower(from, to)?;
     }
     if operation == 3 {
-        run_answer();
+        run_answer(from, to)?;
     }
     if operation == 4 {
-        run_rewrite();
+        run_rewrite(from, to)?;
     }
-    io::write_all(1, b"\n");
+    to.write_all(b"\n")
 }
 
 // The next bytes of the input as numbers, the most significant first.
-fn next_byte() -> u8 {
+fn next_byte(from: &mut impl Read) -> io::Result<u8> {
     let mut b = [0u8; 1];
-    io::read_full(0, &mut b);
-    b[0]
+    streams::read_full(from, &mut b)?;
+    Ok(b[0])
 }
 
-fn next_two() -> u16 {
-    let high = next_byte();
-    let low = next_byte();
-    high as u16 * 256 + low as u16
+fn next_two(from: &mut impl Read) -> io::Result<u16> {
+    let high = next_byte(from)?;
+    let low = next_byte(from)?;
+    Ok(high as u16 * 256 + low as u16)
 }
 
-fn next_four() -> u32 {
-    let high = next_two();
-    let low = next_two();
-    high as u32 * 65_536 + low as u32
+fn next_four(from: &mut impl Read) -> io::Result<u32> {
+    let high = next_two(from)?;
+    let low = next_two(from)?;
+    Ok(high as u32 * 65_536 + low as u32)
 }
 
-fn next_eight() -> u64 {
-    let high = next_four();
-    let low = next_four();
-    high as u64 * 0x1_0000_0000 + low as u64
+fn next_eight(from: &mut impl Read) -> io::Result<u64> {
+    let high = next_four(from)?;
+    let low = next_four(from)?;
+    Ok(high as u64 * 0x1_0000_0000 + low as u64)
 }
 
-fn next_numbers(list: &mut [u64]) {
+fn next_numbers(from: &mut impl Read, list: &mut [u64]) -> io::Result<()> {
     for i in 0..list.len() {
-        list[i] = next_eight();
+        list[i] = next_eight(from)?;
     }
+    Ok(())
 }
 
-fn run_write() {
+fn run_write(from: &mut impl Read, to: &mut impl Write) -> io::Result<()> {
     let mut fields = [0u64; 19];
-    next_numbers(&mut fields);
+    next_numbers(from, &mut fields)?;
     let mut list = [0u64; 2_000];
     let mut source = [0u8; 4_096];
     let mut out = [0xaau8; 2_100];
-    write_in(&fields, &mut list, &mut source, &mut out);
+    write_in(from, to, &fields, &mut list, &mut source, &mut out)
 }
 
-fn write_in(fields: &[u64; 19], list: &mut [u64], source: &mut [u8], out: &mut [u8]) {
-    let many = next_two() as usize;
+fn write_in(
+    from: &mut impl Read,
+    to: &mut impl Write,
+    fields: &[u64; 19],
+    list: &mut [u64],
+    source: &mut [u8],
+    out: &mut [u8],
+) -> io::Result<()> {
+    let many = next_two(from)? as usize;
     if list.len() < many {
-        return;
+        return Ok(());
     }
-    next_numbers(&mut list[..many]);
-    let len = next_two() as usize;
+    next_numbers(from, &mut list[..many])?;
+    let len = next_two(from)? as usize;
     if source.len() < len {
-        return;
+        return Ok(());
     }
-    io::read_full(0, &mut source[..len]);
-    let size = next_two() as usize;
+    streams::read_full(from, &mut source[..len])?;
+    let size = next_two(from)? as usize;
     if out.len() < size {
-        return;
+        return Ok(());
     }
-    write(&source[..len], &list[..many], fields, &mut out[..size]);
+    write(to, &source[..len], &list[..many], fields, &mut out[..size])
 }
 
-fn write(source: &[u8], list: &[u64], fields: &[u64; 19], out: &mut [u8]) {
+fn write(
+    to: &mut impl Write,
+    source: &[u8],
+    list: &[u64],
+    fields: &[u64; 19],
+    out: &mut [u8],
+) -> io::Result<()> {
     let described = described::described_by(fields, list.len());
     match described {
         Described::Nothing => {
-            print_number(b"refused ", 18);
-            print_bytes(out);
+            print_number(to, b"refused ", 18)?;
+            print_bytes(to, out)?;
         }
-        Described::As(description) => write_described(source, list, description, out),
+        Described::As(description) => write_described(to, source, list, description, out)?,
     }
+    Ok(())
 }
 
-fn write_described(source: &[u8], list: &[u64], description: Description, out: &mut [u8]) {
-    print_written(writer::write(source, list, description, out));
-    print_bytes(out);
+fn write_described(
+    to: &mut impl Write,
+    source: &[u8],
+    list: &[u64],
+    description: Description,
+    out: &mut [u8],
+) -> io::Result<()> {
+    print_written(to, writer::write(source, list, description, out))?;
+    print_bytes(to, out)
 }
 
-fn run_lower() {
+fn run_lower(from: &mut impl Read, to: &mut impl Write) -> io::Result<()> {
     let mut message = [0u8; 4_096];
     let mut out = [0xaau8; 2_100];
-    lower_in(&mut message, &mut out);
+    lower_in(from, to, &mut message, &mut out)
 }
 
-fn lower_in(message: &mut [u8], out: &mut [u8]) {
-    let len = next_two() as usize;
+fn lower_in(
+    from: &mut impl Read,
+    to: &mut impl Write,
+    message: &mut [u8],
+    out: &mut [u8],
+) -> io::Result<()> {
+    let len = next_two(from)? as usize;
     if message.len() < len {
-        return;
+        return Ok(());
     }
-    io::read_full(0, &mut message[..len]);
-    let at = next_two() as usize;
-    let end = next_two() as usize;
-    let count = next_byte();
-    let size = next_two() as usize;
+    streams::read_full(from, &mut message[..len])?;
+    let at = next_two(from)? as usize;
+    let end = next_two(from)? as usize;
+    let count = next_byte(from)?;
+    let size = next_two(from)? as usize;
     if out.len() < size {
-        return;
+        return Ok(());
     }
-    lower(&message[..len], at, end, count, &mut out[..size]);
+    lower(to, &message[..len], at, end, count, &mut out[..size])
 }
 
-fn lower(message: &[u8], at: usize, end: usize, count: u8, out: &mut [u8]) {
-    print_written(writer::relay::lower(message, at, end, count, out));
-    print_bytes(out);
+fn lower(
+    to: &mut impl Write,
+    message: &[u8],
+    at: usize,
+    end: usize,
+    count: u8,
+    out: &mut [u8],
+) -> io::Result<()> {
+    print_written(to, writer::relay::lower(message, at, end, count, out))?;
+    print_bytes(to, out)
 }
 
-fn run_answer() {
-    let session = next_four();
+fn run_answer(from: &mut impl Read, to: &mut impl Write) -> io::Result<()> {
+    let session = next_four(from)?;
     let mut initiator = [0u8; 256];
     let mut out = [0xaau8; 2_100];
-    answer_in(session, &mut initiator, &mut out);
+    answer_in(from, to, session, &mut initiator, &mut out)
 }
 
-fn answer_in(session: u32, initiator: &mut [u8], out: &mut [u8]) {
-    let len = next_byte() as usize;
+fn answer_in(
+    from: &mut impl Read,
+    to: &mut impl Write,
+    session: u32,
+    initiator: &mut [u8],
+    out: &mut [u8],
+) -> io::Result<()> {
+    let len = next_byte(from)? as usize;
     if initiator.len() < len {
-        return;
+        return Ok(());
     }
-    io::read_full(0, &mut initiator[..len]);
-    let ttl = next_four();
+    streams::read_full(from, &mut initiator[..len])?;
+    let ttl = next_four(from)?;
     let mut address = [0u8; 16];
-    io::read_full(0, &mut address);
-    let port = next_two();
-    let size = next_two() as usize;
+    streams::read_full(from, &mut address)?;
+    let port = next_two(from)?;
+    let size = next_two(from)? as usize;
     if out.len() < size {
-        return;
+        return Ok(());
     }
     answer(
+        to,
         session,
         &initiator[..len],
         ttl,
         &address,
         port,
         &mut out[..size],
-    );
+    )
 }
 
-fn answer(session: u32, initiator: &[u8], ttl: u32, address: &[u8; 16], port: u16, out: &mut [u8]) {
-    print_written(writer::answer::answer(session, initiator, ttl, address, port, out));
-    print_bytes(out);
+fn answer(
+    to: &mut impl Write,
+    session: u32,
+    initiator: &[u8],
+    ttl: u32,
+    address: &[u8; 16],
+    port: u16,
+    out: &mut [u8],
+) -> io::Result<()> {
+    print_written(
+        to,
+        writer::answer::answer(session, initiator, ttl, address, port, out),
+    )?;
+    print_bytes(to, out)
 }
 
-fn run_rewrite() {
+fn run_rewrite(from: &mut impl Read, to: &mut impl Write) -> io::Result<()> {
     let mut message = [0u8; 4_096];
     let mut list = [0u64; 4_096];
     let mut out = [0xaau8; 2_100];
-    rewrite_in(&mut message, &mut list, &mut out);
+    rewrite_in(from, to, &mut message, &mut list, &mut out)
 }
 
-fn rewrite_in(message: &mut [u8], list: &mut [u64], out: &mut [u8]) {
-    let len = next_two() as usize;
+fn rewrite_in(
+    from: &mut impl Read,
+    to: &mut impl Write,
+    message: &mut [u8],
+    list: &mut [u64],
+    out: &mut [u8],
+) -> io::Result<()> {
+    let len = next_two(from)? as usize;
     if message.len() < len {
-        return;
+        return Ok(());
     }
-    io::read_full(0, &mut message[..len]);
-    let size = next_two() as usize;
+    streams::read_full(from, &mut message[..len])?;
+    let size = next_two(from)? as usize;
     if out.len() < size {
-        return;
+        return Ok(());
     }
-    rewrite(&message[..len], list, &mut out[..size]);
+    rewrite(to, &message[..len], list, &mut out[..size])
 }
 
-fn rewrite(message: &[u8], list: &mut [u64], out: &mut [u8]) {
+fn rewrite(
+    to: &mut impl Write,
+    message: &[u8],
+    list: &mut [u64],
+    out: &mut [u8],
+) -> io::Result<()> {
     let reading = reader::read(message);
     match reading {
         Reading::Refused(number) => {
-            print_number(b"refused ", number as u64);
-            print_bytes(out);
+            print_number(to, b"refused ", number as u64)?;
+            print_bytes(to, out)?;
         }
-        Reading::Read(m) => write_again(message, m, list, out),
+        Reading::Read(m) => write_again(to, message, m, list, out)?,
     }
+    Ok(())
 }
 
-fn write_again(message: &[u8], m: Message, list: &mut [u64], out: &mut [u8]) {
+fn write_again(
+    to: &mut impl Write,
+    message: &[u8],
+    m: Message,
+    list: &mut [u64],
+    out: &mut [u8],
+) -> io::Result<()> {
     let many = forms::rows::fill(message, m, list);
     if list.len() < many {
-        return;
+        return Ok(());
     }
     let d = forms::describe::description_of(m);
-    print_written(writer::write(message, &list[..many], d, out));
-    print_bytes(out);
+    print_written(to, writer::write(message, &list[..many], d, out))?;
+    print_bytes(to, out)
 }
 
-fn print_written(written: Written) {
+fn print_written(to: &mut impl Write, written: Written) -> io::Result<()> {
     match written {
-        Written::Refused(number) => print_number(b"refused ", number as u64),
-        Written::Length(n) => print_number(b"length ", n as u64),
+        Written::Refused(number) => print_number(to, b"refused ", number as u64)?,
+        Written::Length(n) => print_number(to, b"length ", n as u64)?,
     }
+    Ok(())
 }
 
-fn print_number(word: &[u8], n: u64) {
-    io::write_all(1, word);
-    io::print_decimal(1, n);
-    io::write_all(1, b" ");
+fn print_number(to: &mut impl Write, word: &[u8], n: u64) -> io::Result<()> {
+    to.write_all(word)?;
+    write!(to, "{n}")?;
+    to.write_all(b" ")
 }
 
-fn print_bytes(s: &[u8]) {
+fn print_bytes(to: &mut impl Write, s: &[u8]) -> io::Result<()> {
     for i in 0..s.len() {
-        print_byte(s[i]);
+        print_byte(to, s[i])?;
     }
+    Ok(())
 }
 
 // A byte as two hexadecimal digits.
-fn print_byte(b: u8) {
+fn print_byte(to: &mut impl Write, b: u8) -> io::Result<()> {
     let digits = [digit(b / 16), digit(b)];
-    io::write_all(1, &digits);
+    to.write_all(&digits)
 }
 
 // The lower half of a byte as a hexadecimal digit.
