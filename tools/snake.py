@@ -77,7 +77,9 @@ def renames(names):
         dashed = [old for old in olds if "-" in old]
         if len(dashed) < len(olds):
             for old in dashed:
-                turned[old] = new + "_lem"
+                # a constructor is named behind its type
+                if old != "is-null":
+                    turned[old] = new + "_lem"
     return turned
 
 

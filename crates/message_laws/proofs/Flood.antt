@@ -145,7 +145,7 @@ pairs_complete {p = p} a d PairItems.empty bad long = (p, bad, long, refl)
 pairs_complete {s} {p} a d (PairItems.more {xs = xs} i is) bad long =
     let c = split a in
     let (o, t, bad', long', same, _) = pair_read c.first (omega arith) i in
-    passed s p (count xs) bad long same (omega (arith, c.first.end)) (pairs_complete c.rest (omega arith) is (first_of bad bad') (first_of long long'))
+    passed s p (count xs) bad long same (omega (arith, c.first.end)) (pairs_complete {p = (split a).mid} c.rest (omega arith) is (first_of bad bad') (first_of long long'))
 
 -- the first pair, and then others
 first_passed : (s : List ℕ) (p parts : ℕ) (opening : Opening) {n m size bad long : ℕ} {o : Objective} {t : Tag} → parts - 1 ≡ n → p + size ≡ m
@@ -161,7 +161,7 @@ flooded_complete {s} {p} {parts = parts} opening a d counted (PairItems.more {xs
     let c = split a in
     let (o, t, bad, long, same, _) = pair_read c.first (omega arith) i in
     first_passed s p parts opening {n = count xs} {m = c.mid} (omega arith) (omega (arith, c.first.end)) same
-    (pairs_complete c.rest (omega arith) is bad long)
+    (pairs_complete {p = (split a).mid} c.rest (omega arith) is bad long)
 
 -- there is a pair
 some_pairs : {xs : Items} {pair : Pair Value} {ps : List (Pair Value)} → PairItems xs (pair ∷ ps) → 1 ≤ count xs

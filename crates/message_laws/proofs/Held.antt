@@ -121,7 +121,7 @@ locators_hold {p = p} a (LocatorItems.more i is) =
       after = omega (arith, c.first.end);
       holds = locator_holds described;
     })
-    (locators_hold c.rest is)
+    (locators_hold {p = (split a).mid} c.rest is)
 
 -- pairs
 pairs_hold : {s : List ℕ} {p e : ℕ} {xs : Items} {ps : List (Pair Value)} → depths xs ≤ left_under 1 → StandAll s p e xs → PairItems xs ps
@@ -142,7 +142,7 @@ pairs_hold {p = p} d a (PairItems.more i is) =
       after = omega (arith, c.first.end);
       holds = pair_holds described;
     })
-    (pairs_hold (omega (arith, d)) c.rest is)
+    (pairs_hold {p = (split a).mid} (omega (arith, d)) c.rest is)
 
 -- a series of locators
 series_holds : {s : List ℕ} {e : ℕ} {series : Series} {ls : List Loc} → SeriesIs s series e (λ xs. LocatorItems xs ls) → SeriesHolds (LocatorReads s) series ls

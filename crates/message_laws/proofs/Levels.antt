@@ -22,7 +22,7 @@ port_flat (Port.port h) = refl
 -- nor null
 or_null_flat : {P : Item → ℕ → Type 0} {x : Item} {n : Option ℕ} → ((m : ℕ) → P x m → depth x ≡ 0) → OrNull P x n → depth x ≡ 0
 unfolding depth
-or_null_flat f OrNull.is_null_lem = refl
+or_null_flat f OrNull.is_null = refl
 or_null_flat f (OrNull.is {n = n} i) = f n i
 
 -- a locator has one

@@ -49,7 +49,7 @@ pub data Shape : Item → Type 0 where
       → Shape (array w (uint k kind ∷ Item.string t u a ∷ x ∷ y ∷ []))
 
 of_uri : {P : Item → ℕ → Type 0} (for_null : ℕ) {x : Item} {n : Option ℕ} → OrNull P x n → (k : ℕ) × OfKind P for_null 106 x k
-of_uri for_null OrNull.is_null_lem = (for_null, OfKind.missing refl)
+of_uri for_null OrNull.is_null = (for_null, OfKind.missing refl)
 of_uri for_null (OrNull.is i) = (_, OfKind.given i)
 
 -- every locator has this shape
@@ -67,12 +67,12 @@ uri_protocol : {kind n : ℕ} {x : Item} → OfKind Protocol 0 kind x n → OrNu
 unfolding or_null pick
 uri_protocol (OfKind.given Protocol.tcp) = OrNull.is Protocol.tcp
 uri_protocol (OfKind.given Protocol.udp) = OrNull.is Protocol.udp
-uri_protocol (OfKind.missing e) = OrNull.is_null_lem
+uri_protocol (OfKind.missing e) = OrNull.is_null
 
 uri_port : {kind n : ℕ} {x : Item} → OfKind Port 65536 kind x n → OrNull Port x (or_null 65536 n)
 unfolding or_null pick
 uri_port {n = n} (OfKind.given (Port.port h)) = rw (ne_eqb n 65536 (omega arith)) (OrNull.is (Port.port h))
-uri_port (OfKind.missing e) = OrNull.is_null_lem
+uri_port (OfKind.missing e) = OrNull.is_null
 
 -- the locator with such an address, protocol and port
 unfoldable pub loc_with : {kind : ℕ} {t : Bool} {a : List ℕ} → Address kind t a → ℕ → ℕ → Loc

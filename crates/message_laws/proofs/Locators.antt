@@ -204,7 +204,7 @@ module _ (s : List ℕ) (base : ℕ) where
   locators_complete first {p} a (LocatorItems.more {xs = xs} i is) r bad =
       let c = split a in
       let (l', bad', same) = part_read c.first i in
-      let (bad'', rest) = locators_complete first c.rest is r (first_of bad bad') in
+      let (bad'', rest) = locators_complete first {p = (split a).mid} c.rest is r (first_of bad bad') in
       let step : p + (c.mid - p) ≡ c.mid = omega (arith, c.first.end) in
       let more : suc (count xs) + r ≡ suc (count xs + r) = omega arith in (
         bad'',
@@ -222,7 +222,7 @@ module _ (s : List ℕ) (base : ℕ) where
   located_complete {p} {xs = xs} a i is r =
       let c = split a in
       let (first, bad, same) = part_read c.first i in
-      let (bad', rest) = locators_complete first c.rest is r bad in
+      let (bad', rest) = locators_complete first {p = (split a).mid} c.rest is r bad in
       let step : p + (c.mid - p) ≡ c.mid = omega (arith, c.first.end) in (
         first,
         bad',

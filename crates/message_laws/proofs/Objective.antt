@@ -80,10 +80,9 @@ located m base n f c {q} {u} {i} {j} opened named end flagged few counted byte v
 
 -- ---- sound
 -- an item that is an objective: its limits, and how many items it has
-limits : {w u i j flags number : ℕ} {name : List ℕ} {v : Value} {xs : Items}
-    → ObjectiveItem (Item.array w (Items.more (text u name) (Items.more (uint i flags) (Items.more (uint j number) xs))))
-    (record { name = name; flags = flags; count = number; value = v })
-    → (flags ≤ 15) × (number ≤ 255) × (suc (suc (suc (count xs))) ≡ items_with v)
+limits : {w u i j flags number : ℕ} {name : List ℕ} {o : Obj Value} {xs : Items}
+    → ObjectiveItem (Item.array w (Items.more (text u name) (Items.more (uint i flags) (Items.more (uint j number) xs)))) o
+    → (flags ≤ 15) × (number ≤ 255) × (suc (suc (suc (count xs))) ≡ items_with o.value)
 unfolding count
 limits (ObjectiveItem.bare few byte) = (few, byte, refl)
 limits (ObjectiveItem.valued few byte) = (few, byte, refl)

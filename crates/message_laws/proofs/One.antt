@@ -17,11 +17,15 @@ port_one (Port.port _) (Port.port _) = refl
 
 -- null is neither
 uri_protocol_one : {x : Item} {n n' : Option ℕ} → OrNull Protocol x n → OrNull Protocol x n' → n ≡ n'
-uri_protocol_one OrNull.is_null_lem OrNull.is_null_lem = refl
+uri_protocol_one OrNull.is_null OrNull.is_null = refl
+uri_protocol_one OrNull.is_null (OrNull.is i) = elim i [ ]
+uri_protocol_one (OrNull.is i) OrNull.is_null = elim i [ ]
 uri_protocol_one (OrNull.is i) (OrNull.is i') = ap some (protocol_one i i')
 
 uri_port_one : {x : Item} {n n' : Option ℕ} → OrNull Port x n → OrNull Port x n' → n ≡ n'
-uri_port_one OrNull.is_null_lem OrNull.is_null_lem = refl
+uri_port_one OrNull.is_null OrNull.is_null = refl
+uri_port_one OrNull.is_null (OrNull.is i) = elim i [ ]
+uri_port_one (OrNull.is i) OrNull.is_null = elim i [ ]
 uri_port_one (OrNull.is i) (OrNull.is i') = ap some (port_one i i')
 
 -- an item is one locator at most
@@ -39,6 +43,8 @@ objective_one (ObjectiveItem.valued _ _) (ObjectiveItem.valued _ _) = refl
 -- one pair
 pair_one : {x : Item} {p p' : Pair Value} → PairItem x p → PairItem x p' → p ≡ p'
 pair_one (PairItem.untagged i) (PairItem.untagged i') = ap (λ (o : Obj Value). (o, none)) (objective_one i i')
+pair_one (PairItem.untagged i) (PairItem.tagged i' j') = elim j' [ ]
+pair_one (PairItem.tagged i j) (PairItem.untagged i') = elim j [ ]
 pair_one (PairItem.tagged i j) (PairItem.tagged i' j') = ap₂ (λ (o : Obj Value) (l : Loc). (o, some l)) (objective_one i i') (locator_one j j')
 
 -- items are one list of locators at most

@@ -49,7 +49,7 @@ use Rattle.message_laws.proofs.Divert.{DivertStands, DivertSound, divert_sound, 
 -- xs stand, and then ys
 join_all : {s : List ℕ} {p m e : ℕ} {xs ys : Items} → StandAll s p m xs → StandAll s m e ys → StandAll s p e (joined xs ys)
 join_all {s} {e = e} {xs = Items.done} {ys} a b = subst (λ (k : ℕ). StandAll s k e ys) (none_end a) b
-join_all {xs = Items.more x xs} a b = let c = split a in join c.first (join_all c.rest b)
+join_all {s = s} {p = p} {m = m} {e = e} {xs = Items.more x xs} {ys = ys} a b = let c = split a in join c.first (join_all {p = (split a).mid} {xs = xs} c.rest b)
 
 -- there are so many
 pub count_joined : (xs ys : Items) → count (joined xs ys) ≡ count xs + count ys
@@ -183,9 +183,9 @@ response_sound {n = n} k = past_case _ (λ e. response_by_sound k (ltb-false n 5
 -- xs stand, and then ys
 split_all : {s : List ℕ} {p e : ℕ} (xs ys : Items) → StandAll s p e (joined xs ys) → (m : ℕ) × StandAll s p m xs × StandAll s m e ys
 split_all {p = p} Items.done ys a = (p, no_items (omega (arith, a.end, a.within)), a)
-split_all (Items.more x xs) ys a =
+split_all {s = s} {p = p} {e = e} (Items.more x xs) ys a =
     let c = split a in
-    let (m, first, rest) = split_all xs ys c.rest in
+    let (m, first, rest) = split_all {p = (split a).mid} xs ys c.rest in
     (m, join c.first first, rest)
 
 -- ys are no deeper than both

@@ -43,7 +43,7 @@ pub data Port : Item → ℕ → Type 0 where
 
 -- rule / null
 pub data OrNull (P : Item → ℕ → Type 0) : Item → Option ℕ → Type 0 where
-  is_null_lem : OrNull P null none
+  is_null : OrNull P null none
   is : {x : Item} {n : ℕ} → P x n → OrNull P x (some n)
 
 -- [O_IPv6_LOCATOR, ..], [O_IPv4_LOCATOR, ..], [O_FQDN_LOCATOR, ..], [O_URI_LOCATOR, ..]

@@ -73,7 +73,7 @@ port_encodes g (Port.port _) = short_head tt g
 -- or null, in one byte
 or_null_encodes : {P : Item → ℕ → Type 0} {x : Item} {n : Option ℕ} → ((m : ℕ) → P x m → encode x ≡ head 0 m) → OrNull P x n → encode x ≡ number_or_null n
 unfolding encode head_bytes info_of bytes_of pick number_or_null
-or_null_encodes f OrNull.is_null_lem = refl
+or_null_encodes f OrNull.is_null = refl
 or_null_encodes f (OrNull.is {n = n} i) = f n i
 
 -- each of the four locators

@@ -38,7 +38,7 @@ port_small (Port.port h) = omega arith
 
 -- or null
 or_null_small : {P : Item → ℕ → Type 0} {x : Item} {n : Option ℕ} → ((m : ℕ) → P x m → Small m) → OrNull P x n → Each Small n
-or_null_small f OrNull.is_null_lem = tt
+or_null_small f OrNull.is_null = tt
 or_null_small f (OrNull.is {n = n} i) = f n i
 
 -- a locator's

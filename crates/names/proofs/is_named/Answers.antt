@@ -1,0 +1,53 @@
+-- `names::is_named` meets its contract. The loop's invariant: the name is one of those from here on exactly if it is
+-- one of all.
+use mathlib.Core.Bool.{false}
+use mathlib.Core.Path.{◌≡◌, refl, sym, ◌∙◌}
+use native.Mathlib.Omega.{arith}
+use borrow.Author.Tests.{lt-ltb, le-ltb}
+use Rattle.base.specs.Pick.{pick}
+use Rattle.names.specs.Names.{is_named, named_from}
+use Rattle.names.proofs.Walks.{named_here, named_next}
+use Rattle.names.proofs.is_named.Goals as goal
+
+pub returns-then-a-gt-MOST_NAMES : goal.returns-then-a-gt-MOST_NAMES
+unfolding is_named pick
+returns-then-a-gt-MOST_NAMES c = rw (sym c.token_at-a.ensures.is, lt-ltb 16 _ c.if-a-gt-MOST_NAMES.true) refl
+
+pub loop-left-init : goal.loop-left-init
+loop-left-init c = refl
+
+pub slice_bounds-are_same-count : goal.slice_bounds-are_same-count
+slice_bounds-are_same-count c = c.token_at-t.ensures.start
+
+pub slice_bounds-are_same-start : goal.slice_bounds-are_same-start
+slice_bounds-are_same-start c = c.token_at-t.ensures.start
+
+pub slice_bounds-are_same-end : goal.slice_bounds-are_same-end
+slice_bounds-are_same-end c = c.token_at-t.ensures.end
+
+pub returns-then-are_same : goal.returns-then-are_same
+unfolding is_named pick
+returns-then-are_same c =
+    let c5 = c in
+    rw (
+      sym c5.token_at-a.ensures.is,
+      le-ltb 16 _ c5.if-a-gt-MOST_NAMES.false,
+      sym c5.loop-left.invariant ∙ named_here c5.args.s.now c5.loop-left.at
+          c5.loop-left.left _ c.token_at-t.ensures.is c.loop-left-test.true
+          c5.args.name.now (sym c.are_same.ensures ∙ c.if-are_same.true),
+    ) refl
+
+pub loop-left-preserved : goal.loop-left-preserved
+loop-left-preserved c =
+    let c5 = c in
+    sym (named_next c5.args.s.now c5.loop-left.at c5.loop-left.left _
+    c.token_at-t.ensures.is c5.args.name.now
+    (sym c.are_same.ensures ∙ c.if-are_same.false)) ∙ c5.loop-left.invariant
+
+pub returns : goal.returns
+unfolding is_named named_from pick
+returns c =
+    let c7 = c in
+    let done : c.loop-left.left ≡ 0 = omega arith in
+    let none : named_from c7.args.s.now c7.args.name.now c.loop-left.left c.loop-left.at ≡ false = rw done refl in
+    rw (sym c.token_at-a.ensures.is, le-ltb 16 _ c.if-a-gt-MOST_NAMES.false, sym c.loop-left.invariant ∙ none) refl
