@@ -52,6 +52,7 @@ def crates():
             group = line.removeprefix("# -- ")
         elif line and not line.startswith("#"):
             name, rests_on = line.split(":")
+            name = name.split()[0]
             found[name] = (group, [crate for crate in rests_on.split() if crate not in KIT])
     return found
 

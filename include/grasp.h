@@ -1,7 +1,7 @@
 /*
  * Copperladle: a proved GRASP (RFC 8990) node, for C.
  *
- * Link with libgrasp.a (`rt staticlib grasp` writes target/staticlib/libgrasp.a);
+ * Link with libgrasp.a (`bash tools/archive` writes target/staticlib/libgrasp.a);
  * grasp.pc has the flags for pkg-config. grasp_text.h has words for logs,
  * examples/ring.c is a small host. The headers are C11 or C++11.
  *

@@ -1,5 +1,5 @@
 //! Says where libgrasp.a is: in the folder that GRASP_ARCHIVE_DIR names, or else where
-//! `rt staticlib grasp` writes it.
+//! `tools/archive` writes it.
 
 use std::env;
 use std::path::PathBuf;
