@@ -28,7 +28,8 @@ use Rattle.forms.proofs.Taken.{described_exactly, block_long}
 response_cleared : (session : ℕ) (i : Span) (ttl : ℕ) (targets : Targets) (extra : Extra)
     → cleared (response_block session i ttl targets extra)
     ≡ block_for (D.Response session i ttl (is_divert targets) (given_extra extra)) (row_numbers (target_rows targets))
-unfolding cleared pick response_block targets_block with_extra with_objective front_block with_series block_for is_divert given_extra given_of target_rows row_numbers
+unfolding cleared pick response_block targets_block with_extra with_objective front_block with_series block_for is_divert given_extra
+    given_of target_rows row_numbers
 response_cleared session i ttl (Targets.Locators first series) Extra.Without = rw (mul-div_cancel_left series.many {n = 5} (lit< tt))
 response_cleared session i ttl (Targets.Locators first series) (Extra.With o) = rw (mul-div_cancel_left series.many {n = 5} (lit< tt))
 response_cleared session i ttl (Targets.Divert first series) Extra.Without = rw (mul-div_cancel_left series.many {n = 5} (lit< tt))
@@ -90,7 +91,8 @@ cleared_block (M.Flood session i ttl first pairs) = rw (mul-div_cancel_left pair
 cleared_block (M.Invalid session item) = invalid_cleared session item
 
 -- So it is taken as that description, whose numbers have the widths of their types.
-pub cleared_described : (m : Message) → DescriptionFits (description_of m) → described_by (cleared (block_of m)) (row_numbers (rows_in m)) ≡ As (description_of m)
+pub cleared_described : (m : Message) → DescriptionFits (description_of m)
+    → described_by (cleared (block_of m)) (row_numbers (rows_in m)) ≡ As (description_of m)
 cleared_described m fits =
     let numbers = row_numbers (rows_in m) in
     let is = cleared_block m in
