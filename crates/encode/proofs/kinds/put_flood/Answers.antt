@@ -7,6 +7,5 @@ use Rattle.encode.proofs.kinds.put_flood.Goals as goal
 pub returns : goal.returns
 unfolding encode_msg
 returns c =
-    let c10 = c in
-    rw (length_pairs) (then (then (then c10.put_preamble-a.ensures c10.part_string-b.ensures)
+    rw (length_pairs) (then (then (then c.put_preamble-a.ensures c.part_string-b.ensures)
     c.head-c.ensures) c.put_pairs.ensures)

@@ -6,6 +6,5 @@ use Rattle.encode.proofs.kinds.put_reason.Goals as goal
 pub returns : goal.returns
 unfolding encode_msg encode_outc
 returns c =
-    let c10 = c in
-    then c10.put_preamble-a.ensures
-    (then (then c10.head-b.ensures c.head-c.ensures) c.part_string.ensures)
+    then c.put_preamble-a.ensures
+    (then (then c.head-b.ensures c.head-c.ensures) c.part_string.ensures)

@@ -14,8 +14,6 @@ overflow_add-targets-2 c = omega (arith, targets_few _ _ _ _ c.target_items-targ
 pub returns : goal.returns
 unfolding encode_msg
 returns c =
-    let c10 = c in
-    let c18 = c10 in
-    rw (← targets_many, ← extra_many, ← c18.target_items-targets.ensures, ← c18.how_many-more.ensures)
-    (then (then (then (then c18.put_preamble-a.ensures c10.part_string-b.ensures) c10.head-c.ensures)
+    rw (← targets_many, ← extra_many, ← c.target_items-targets.ensures, ← c.how_many-more.ensures)
+    (then (then (then (then c.put_preamble-a.ensures c.part_string-b.ensures) c.head-c.ensures)
     c.put_targets-d.ensures) c.put_extra.ensures)

@@ -8,9 +8,8 @@ use Rattle.encode.proofs.kinds.put_targets.Goals as goal
 pub returns-then-divert : goal.returns-then-divert
 unfolding encode_targets targets_of
 returns-then-divert c =
-    let c10 = c in
-    rw (c10.if-divert.true, length_locs)
-    (then (then c10.head-a.ensures c.head-b.ensures) c.put_rows.ensures)
+    rw (c.if-divert.true, length_locs)
+    (then (then c.head-a.ensures c.head-b.ensures) c.put_rows.ensures)
 
 pub returns : goal.returns
 unfolding encode_targets targets_of

@@ -26,10 +26,9 @@ returns-then-kind-eq105 c = rw (
 pub returns : goal.returns
 unfolding encode_loc locator_row_loc pick
 returns c =
-    let c10 = c in
     rw (
-      ne_eqb _ _ c10.if-kind-eq103.false,
-      ne_eqb _ _ c10.if-kind-eq104.false,
-      ne_eqb _ _ c10.if-kind-eq105.false,
-    ) (then (then c10.put_reached-a.ensures c.put_or_null-b.ensures)
+      ne_eqb _ _ c.if-kind-eq103.false,
+      ne_eqb _ _ c.if-kind-eq104.false,
+      ne_eqb _ _ c.if-kind-eq105.false,
+    ) (then (then c.put_reached-a.ensures c.put_or_null-b.ensures)
     c.put_or_null.ensures)

@@ -17,7 +17,6 @@ overflow_add-more c = omega (
 pub returns : goal.returns
 unfolding encode_obj obj_of
 returns c =
-    let c10 = c in
-    rw (← c10.one_more-more.ensures) (then (then (then
-    (then c10.head-a.ensures c10.part_string-b.ensures)
-    c10.head-c.ensures) c.head-d.ensures) c.part.ensures)
+    rw (← c.one_more-more.ensures) (then (then (then
+    (then c.head-a.ensures c.part_string-b.ensures)
+    c.head-c.ensures) c.head-d.ensures) c.part.ensures)
