@@ -23,11 +23,11 @@ overflow_cast-interface c =
 pub take-requires : goal.take-requires
 take-requires c =
     let c6 = c in
-    let args = c6.args in (
-      passed args.node args.table.now args.clock args.interface args.names.now (length args.out.now)
-          (sym c6.barred_by-refusal.ensures ∙ c6.if-refusal-ne0.false),
-      record { is = _; read = sym c6.read-read.ensures ∙ c.in-Read.is; plays = sym c.role_of.ensures },
-    )
+    let args = c6.args in record {
+      passed = passed args.node args.table.now args.clock args.interface args.names.now (length args.out.now)
+          (sym c6.barred_by-refusal.ensures ∙ c6.if-refusal-ne0.false);
+      read = record { is = _; read = sym c6.read-read.ensures ∙ c.in-Read.is; plays = sym c.role_of.ensures };
+    }
 
 pub returns-in-Refused : goal.returns-in-Refused
 returns-in-Refused c =
@@ -40,7 +40,7 @@ pub returns-in-Read : goal.returns-in-Read
 returns-in-Read c =
     let c9 = c in
     let args = c9.args in
-    taken_outcome args.node args.table-1.now (call_of args.clock args.interface args.names.now args.message.now args.out-1.now) _
+    taken_outcome args.node args.table.now (call_of args.clock args.interface args.names.now args.message.now args.out.now) _
     c9.barred_by-refusal.ensures c9.if-refusal-ne0.false _ _
     (sym c9.read-read.ensures ∙ c9.in-Read.is)
     (rw (← c.role_of.ensures) c.take.ensures)

@@ -16,12 +16,12 @@ unfolding clocked
 judge-requires c =
     let c7 = c in
     let args = c7.args in
-    let pre = c7.requires in (
-      subst (λ (t : List ℕ). Ready (clocked args.node args.clock) t args.interface (length args.out.now))
-          (sym (passed_freed pre.0 c7.free_dead.ensures))
-          (readied args.node args.table-1.now args.clock args.interface (length args.out.now) pre.0),
-      subst (RoleIn args.message.now) c.in-Spreads.is pre.1,
-    )
+    let pre = c7.requires in record {
+      ready = subst (λ (t : List ℕ). Ready (clocked args.node args.clock) t args.interface (length args.out.now))
+          (sym (passed_freed pre.passed c7.free_dead.ensures))
+          (readied args.node args.table.now args.clock args.interface (length args.out.now) pre.passed);
+      read = subst (RoleIn args.message.now) c.in-Spreads.is pre.read;
+    }
 
 pub returns-in-Noop : goal.returns-in-Noop
 unfolding taken quiet clocked

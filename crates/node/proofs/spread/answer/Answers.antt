@@ -5,10 +5,10 @@ use borrow.Author.Rules.{rules}
 use Rattle.node.proofs.spread.answer.Goals as goal
 
 pub returns : goal.returns
-returns c = (
-  rw (
+returns c = record {
+  value = rw (
     one_bit 8 c.args.interface c.requires.small,
     c.put_response-length.ensures.value,
-  ) refl,
-  c.put_response-length.ensures.out_after,
-)
+  ) refl;
+  out_after = c.put_response-length.ensures.out_after;
+}

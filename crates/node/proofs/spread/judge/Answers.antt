@@ -29,16 +29,17 @@ is_named-requires c =
 pub answer-requires : goal.answer-requires
 answer-requires c =
     let c9 = c in
-    let args = c9.args in (
-      up_below 8 args.node.links args.interface (omega (arith, c9.well_formed)) c9.requires.ready.up,
-      (c9.requires.ready.fits, (role_spreading args.message.now args.s c9.requires.read).within),
-    )
+    let args = c9.args in record {
+      small = up_below 8 args.node.links args.interface (omega (arith, c9.well_formed)) c9.requires.ready.up;
+      fits = c9.requires.ready.fits;
+      within = (role_spreading args.message.now args.s c9.requires.read).within;
+    }
 
 pub returns-then-is_named : goal.returns-then-is_named
 returns-then-is_named c =
     let c4 = c in
     let args = c4.args in
-    answer_outcome args.node args.table.now (call_of args.node.clock args.interface args.names.now args.message.now args.out-1.now)
+    answer_outcome args.node args.table.now (call_of args.node.clock args.interface args.names.now args.message.now args.out.now)
     args.s (sym c4.is_own.ensures ∙ c4.if-is_own.false) _ _ c.answer.ensures.value
     c.answer.ensures.out_after (sym c4.is_named.ensures ∙ c4.if-is_named.true)
 
@@ -62,9 +63,9 @@ unfolding later_verdict
 returns c =
     let c10 = c in
     let args = c10.args in
-    later_outcome args.node args.table-1.now (call_of args.node.clock args.interface args.names.now args.message.now args.out.now)
+    later_outcome args.node args.table.now (call_of args.node.clock args.interface args.names.now args.message.now args.out.now)
     args.s (sym c10.is_own.ensures ∙ c10.if-is_own.false)
-    (sym c10.is_named.ensures ∙ c10.if-is_named.false) _ (ap (λ k. is_known k args.table-1.now) (sym c10.key_in-key.ensures)
+    (sym c10.is_named.ensures ∙ c10.if-is_named.false) _ (ap (λ k. is_known k args.table.now) (sym c10.key_in-key.ensures)
     ∙ sym (of_sized _ _ _ c10.requires.ready.sized)
     ∙ sym c.knows.ensures
     ∙ c.if-knows.false)

@@ -7,20 +7,21 @@ use Rattle.node.specs.Call.{response}
 use Rattle.node.proofs.Sends.{held_sized, part_held, response_given}
 use Rattle.node.proofs.Outcomes.{sent_length}
 use borrow.Author.Rules.{rules}
+use Rattle.base.proofs.Clauses.{value_out}
 use Rattle.node.proofs.spread.put_response.Goals as goal
 
 pub returns : goal.returns
 unfolding response
 returns c =
     let args = c.args in
-    sent_length _ _ (response args.node args.message.now args.s) args.out-1.now
-    (c.answer-sent.ensures.0
-    ∙ ap (λ (z : List ℕ). answer_answer args.s.session z args.node.ttl args.node.address args.node.port args.out-1.now)
+    value_out (sent_length _ _ (response args.node args.message.now args.s) args.out.now
+    (c.answer-sent.ensures.value
+    ∙ ap (λ (z : List ℕ). answer_answer args.s.session z args.node.ttl args.node.address args.node.port args.out.now)
     (part_held args.message.now args.s.initiator))
-    (c.answer-sent.ensures.1
-    ∙ ap (λ (z : List ℕ). answer_out args.s.session z args.node.ttl args.node.address args.node.port args.out-1.now)
+    (c.answer-sent.ensures.out_after
+    ∙ ap (λ (z : List ℕ). answer_out args.s.session z args.node.ttl args.node.address args.node.port args.out.now)
     (part_held args.message.now args.s.initiator))
-    (response_given args.node args.message.now args.out-1.now args.s (search rules)
+    (response_given args.node args.message.now args.out.now args.s (search rules)
     (held_sized c.requires.within)
     c.requires.fits)
-    c.len.ensures
+    c.len.ensures)

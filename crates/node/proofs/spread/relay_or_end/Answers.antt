@@ -25,8 +25,8 @@ unfolding others
 returns-then-row-ge-ROWS c =
     λ names. let c6 = c in
     let args = c6.args in
-    norow_outcome args.node args.table-1.now (call_of args.node.clock args.interface names args.message.now args.out.now) args.s
-    c6.if-s-le1.false (λ e. c6.if-mask-eq0.false (c6.others-mask.ensures ∙ e)) _ _ _ c.fill_lowest-row.ensures
+    norow_outcome args.node args.table.now (call_of args.node.clock args.interface names args.message.now args.out.now) args.s
+    c6.if-s-le1.false (λ e. c6.if-mask-eq0.false (c6.others-mask.ensures ∙ e)) _ _ _ (c.fill_lowest-row.ensures.value, c.fill_lowest-row.ensures.table_after)
     c6.requires.ready.sized _ c.quiet-then-row-ge-ROWS.ensures c.if-row-ge-ROWS.true
 
 pub returns : goal.returns
@@ -35,7 +35,7 @@ returns c =
     λ names. let c3 = c in
     let c11 = c3 in
     let args = c11.args in
-    relay_outcome args.node args.table-1.now (call_of args.node.clock args.interface names args.message.now args.out-1.now) args.s
+    relay_outcome args.node args.table.now (call_of args.node.clock args.interface names args.message.now args.out.now) args.s
     c11.if-s-le1.false (λ e. c3.if-mask-eq0.false (c11.others-mask.ensures ∙ e)) _ _ _
-    c3.fill_lowest-row.ensures c11.requires.read.1 _ _
+    (c3.fill_lowest-row.ensures.value, c3.fill_lowest-row.ensures.table_after) c11.requires.key _ _
     (rw (← c11.others-mask.ensures, ← c3.put_onward-length.ensures.value) c.relayed.ensures) c3.put_onward-length.ensures.out_after c3.if-row-ge-ROWS.false
