@@ -12,7 +12,7 @@ use Rattle.cbor.specs.Put.{head}
 use Rattle.cbor.specs.Tree.{head_bytes}
 use Rattle.rfc8990.specs.Limits.{most_bytes}
 use Rattle.rfc8990.specs.Message.{Loc, Obj, Pair, Tgts, Outc, Msg}
-use Rattle.rfc8990.specs.Encoding.{string, number_or_null, reached, fixed, encode_loc, one_more, encode_obj, maybe_obj, how_many, loc_or_empty}
+use Rattle.rfc8990.specs.Encoding.{number_or_null, reached, fixed, encode_loc, one_more, encode_obj, maybe_obj, how_many, loc_or_empty}
 use Rattle.rfc8990.specs.Encoding.{encode_pair, target_items, encode_targets, encode_outc, preamble, exchange, encode_msg}
 use Rattle.description.proofs.Items.{more_le}
 use Rattle.writer_laws.proofs.Script.{Small, Piece, spell, spells, Like, Valued, array_rest, array_next, number_next, string_next, array_none}
