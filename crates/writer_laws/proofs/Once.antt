@@ -257,7 +257,8 @@ pair_ext : (p p' : Pair (List ℕ)) → p.0 ≡ p'.0 → p.1 ≡ p'.1 → p ≡ 
 pair_ext p p' a b = ap₂ (λ (o : Obj (List ℕ)) (l : Option Loc). (o, l)) a b
 
 -- a pair passed
-pair_next_lem : {p p' : Pair (List ℕ)} {ts ts' : List Piece} → SmallPair p → ValuedPair p → ValuedPair p' → Like (pair p ts) (pair p' ts') → (p ≡ p') × Like ts ts'
+pair_next_lem : {p p' : Pair (List ℕ)} {ts ts' : List Piece} → SmallPair p → ValuedPair p → ValuedPair p' → Like (pair p ts) (pair p' ts')
+    → (p ≡ p') × Like ts ts'
 pair_next_lem {p} {p'} (ho, ht) v v' l =
     let (same, l₁) = objective_next ho v v' (array_rest l) in
     let (tag, l₂) = tagged_next p.1 p'.1 ht l₁ in

@@ -134,4 +134,5 @@ module _ (s : List ℕ) where
       let c = split a in
       let (o, tag, bad, long, read, described) = pair_read c.first (omega (arith, d)) i in
       let (rows, more) = pairs_rows {p = (split a).mid} (omega (arith, d)) c.rest is in
-      (R.pair_cells o tag ∷ rows, Chain.step {rows = rows} (pair_twelve o tag) (λ i list. pair_row_lem p i list read) (pair_told described) (pair_next_lem p read) more)
+      let step = Chain.step {rows = rows} (pair_twelve o tag) (λ i list. pair_row_lem p i list read) (pair_told described) (pair_next_lem p read) more in
+      (R.pair_cells o tag ∷ rows, step)
