@@ -8,7 +8,6 @@ use Rattle.message.specs.Opening.{most_number}
 use Rattle.description.specs.declared.GivenObjective.{GivenObjective}
 use Rattle.description.specs.declared.GivenExtra.{GivenExtra}
 use Rattle.options.specs.declared.outcome.Outcome.{Outcome}
-use Rattle.description.specs.declared.Description.{Description}
 use Rattle.description.specs.declared.Description.TheVariants as D
 use Rattle.description.specs.Meaning.{locator_row, pair_row}
 use Rattle.description.specs.Judge.{all_from}

@@ -21,7 +21,7 @@ use Rattle.options.specs.declared.pair.Tag.{Tag}
 use Rattle.options.specs.declared.pair.PairRead.{PairRead}
 use Rattle.options.specs.Locator.{locator_at}
 use Rattle.options.specs.Pair.{pair_at}
-use Rattle.options.specs.Text.{span_of, held}
+use Rattle.options.specs.Text.{span_of}
 use Rattle.rfc8990.specs.Message.{Loc, Obj, Pair, Tgts, Outc, Msg}
 use Rattle.rfc8990.specs.Cddl.{LocatorItem, LocatorItems, PairItem, PairItems, OutcItem, MessageItem, Value}
 use Rattle.rfc8990.specs.Accepted.{IsMessage}

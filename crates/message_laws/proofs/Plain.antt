@@ -16,8 +16,6 @@ use Rattle.message_laws.specs.Stands.{StandAll, ValueIs}
 use Rattle.message_laws.proofs.Bridge.{join, none as no_items, last, only, stands_within}
 use Rattle.message_laws.proofs.Sizes.{sized_item, item_sized}
 use Rattle.options.specs.declared.outcome.OutcomeRead.{OutcomeRead}
-use Rattle.message.specs.declared.Message.TheVariants as M
-use Rattle.message.specs.declared.shape.Shape.TheVariants as S
 use Rattle.message.specs.Opening.{most_number}
 use Rattle.message.specs.Shape.{noop_at, wait_at, invalid_at, ended, end_at}
 use Rattle.message_laws.specs.Describes.{Describes}

@@ -37,13 +37,12 @@ returns-then-k-ne99 c =
 pub returns : goal.returns
 unfolding examined pick
 returns c =
-    let c6 = c in
     elim c.if-k-gt9.branch [
       | then-k-gt9+else-k-ne99 w ↦ rw (
-        ← c6.array_at-a.ensures.is,
-        ← c6.items_in.ensures,
-        ne_eqb _ _ c6.if-items_in-eq0.false,
-        ← c6.number_at-k.ensures.is,
+        ← c.array_at-a.ensures.is,
+        ← c.items_in.ensures,
+        ne_eqb _ _ c.if-items_in-eq0.false,
+        ← c.number_at-k.ensures.is,
         eq-eqb _ _ c.if-k-ne0.false,
         lt-ltb _ _ w.if-k-gt9.true,
         eq-eqb _ _ w.if-k-ne99.false,
@@ -51,10 +50,10 @@ returns c =
         ← c.judge.ensures,
       )
       | else-k-gt9 w ↦ rw (
-        ← c6.array_at-a.ensures.is,
-        ← c6.items_in.ensures,
-        ne_eqb _ _ c6.if-items_in-eq0.false,
-        ← c6.number_at-k.ensures.is,
+        ← c.array_at-a.ensures.is,
+        ← c.items_in.ensures,
+        ne_eqb _ _ c.if-items_in-eq0.false,
+        ← c.number_at-k.ensures.is,
         eq-eqb _ _ c.if-k-ne0.false,
         le-ltb _ _ w.if-k-gt9.false,
         ← c.by_kind.ensures,

@@ -30,21 +30,19 @@ is_good-requires c = (c.token_at-t.ensures.start, c.token_at-t.ensures.end)
 pub returns-then-not-is_good : goal.returns-then-not-is_good
 unfolding array_bad
 returns-then-not-is_good c =
-    let c4 = c in
     rw (
-      sym c4.token_at-a.ensures.is,
-      eq-eqb _ 4 c4.if-a-ne4.false,
-      le-ltb 16 _ c4.if-a-gt-MOST_NAMES.false,
-      sym c4.loop-left.invariant ∙ good_stop c4.args.s.now c4.loop-left.at
-          c4.loop-left.left _ c.token_at-t.ensures.is c.loop-left-test.true
+      sym c.token_at-a.ensures.is,
+      eq-eqb _ 4 c.if-a-ne4.false,
+      le-ltb 16 _ c.if-a-gt-MOST_NAMES.false,
+      sym c.loop-left.invariant ∙ good_stop c.args.s.now c.loop-left.at
+          c.loop-left.left _ c.token_at-t.ensures.is c.loop-left-test.true
           (sym c.is_good.ensures ∙ c.if-not-is_good.true),
     ) refl
 
 pub loop-left-preserved : goal.loop-left-preserved
 loop-left-preserved c =
-    let c4 = c in
-    sym (good_next c4.args.s.now c4.loop-left.at c4.loop-left.left _
-    c.token_at-t.ensures.is (sym c.is_good.ensures ∙ c.if-not-is_good.false)) ∙ c4.loop-left.invariant
+    sym (good_next c.args.s.now c.loop-left.at c.loop-left.left _
+    c.token_at-t.ensures.is (sym c.is_good.ensures ∙ c.if-not-is_good.false)) ∙ c.loop-left.invariant
 
 pub returns : goal.returns
 unfolding array_bad good_names

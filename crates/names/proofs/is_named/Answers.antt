@@ -28,26 +28,23 @@ slice_bounds-are_same-end c = c.token_at-t.ensures.end
 pub returns-then-are_same : goal.returns-then-are_same
 unfolding is_named pick
 returns-then-are_same c =
-    let c5 = c in
     rw (
-      sym c5.token_at-a.ensures.is,
-      le-ltb 16 _ c5.if-a-gt-MOST_NAMES.false,
-      sym c5.loop-left.invariant ∙ named_here c5.args.s.now c5.loop-left.at
-          c5.loop-left.left _ c.token_at-t.ensures.is c.loop-left-test.true
-          c5.args.name.now (sym c.are_same.ensures ∙ c.if-are_same.true),
+      sym c.token_at-a.ensures.is,
+      le-ltb 16 _ c.if-a-gt-MOST_NAMES.false,
+      sym c.loop-left.invariant ∙ named_here c.args.s.now c.loop-left.at
+          c.loop-left.left _ c.token_at-t.ensures.is c.loop-left-test.true
+          c.args.name.now (sym c.are_same.ensures ∙ c.if-are_same.true),
     ) refl
 
 pub loop-left-preserved : goal.loop-left-preserved
 loop-left-preserved c =
-    let c5 = c in
-    sym (named_next c5.args.s.now c5.loop-left.at c5.loop-left.left _
-    c.token_at-t.ensures.is c5.args.name.now
-    (sym c.are_same.ensures ∙ c.if-are_same.false)) ∙ c5.loop-left.invariant
+    sym (named_next c.args.s.now c.loop-left.at c.loop-left.left _
+    c.token_at-t.ensures.is c.args.name.now
+    (sym c.are_same.ensures ∙ c.if-are_same.false)) ∙ c.loop-left.invariant
 
 pub returns : goal.returns
 unfolding is_named named_from pick
 returns c =
-    let c7 = c in
     let done : c.loop-left.left ≡ 0 = omega arith in
-    let none : named_from c7.args.s.now c7.args.name.now c.loop-left.left c.loop-left.at ≡ false = rw done refl in
+    let none : named_from c.args.s.now c.args.name.now c.loop-left.left c.loop-left.at ≡ false = rw done refl in
     rw (sym c.token_at-a.ensures.is, le-ltb 16 _ c.if-a-gt-MOST_NAMES.false, sym c.loop-left.invariant ∙ none) refl

@@ -2,7 +2,6 @@
 use Rattle.base.specs.Pick.{pick}
 use borrow.Author.Tests.{eq-eqb, ne_eqb}
 use Rattle.negotiation.specs.Step.{fresh_step}
-use borrow.Author.Rules.{rules}
 use Rattle.negotiation.proofs.fresh_step.Goals as goal
 
 pub returns-then-count-eq0 : goal.returns-then-count-eq0

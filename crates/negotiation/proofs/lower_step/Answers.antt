@@ -2,7 +2,6 @@
 use Rattle.base.specs.Pick.{pick}
 use borrow.Author.Tests.{eq-eqb, ne_eqb}
 use Rattle.negotiation.specs.Step.{lower_step}
-use borrow.Author.Rules.{rules}
 use Rattle.negotiation.proofs.lower_step.Goals as goal
 
 pub returns-then-lower-eq0 : goal.returns-then-lower-eq0

@@ -1,7 +1,6 @@
 -- `negotiation::move_of` meets its contract.
 use mathlib.Core.Path.{sym, ap}
 use Rattle.negotiation.specs.Step.{move_of}
-use borrow.Author.Rules.{rules}
 use Rattle.negotiation.proofs.move_of.Goals as goal
 
 pub returns-in-Noop : goal.returns-in-Noop

@@ -1,6 +1,5 @@
 -- `negotiation::step` meets its contract.
 use Rattle.negotiation.specs.Step.{reading_step, step}
-use borrow.Author.Rules.{rules}
 use Rattle.negotiation.proofs.step.Goals as goal
 
 pub returns-in-Refused : goal.returns-in-Refused

@@ -2,7 +2,6 @@
 use Rattle.base.specs.Pick.{pick}
 use borrow.Author.Tests.{eq-eqb, ne_eqb}
 use Rattle.negotiation.specs.Step.{turn_step}
-use borrow.Author.Rules.{rules}
 use Rattle.negotiation.proofs.turn_step.Goals as goal
 
 pub returns-then-named-session : goal.returns-then-named-session

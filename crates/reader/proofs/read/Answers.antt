@@ -5,7 +5,6 @@ use mathlib.Core.Logic.{inl, inr}
 use Rattle.rfc8990.specs.Refusals.{Row}
 use Rattle.reader.proofs.Refused.{row_given}
 use Rattle.reader.proofs.Answers.{read_whole, read_over, read_refused}
-use borrow.Author.Rules.{rules}
 use Rattle.reader.proofs.read.Goals as goal
 
 pub returns-then-s-eq0 : goal.returns-then-s-eq0

@@ -2,7 +2,6 @@
 use Rattle.base.specs.Pick.{pick}
 use Rattle.reader.specs.Walk.{walked_by, walked_first}
 use borrow.Author.Tests.{eq-eqb, ne_eqb}
-use borrow.Author.Rules.{rules}
 use Rattle.reader.proofs.walk.Goals as goal
 
 pub returns-then-end-s : goal.returns-then-end-s

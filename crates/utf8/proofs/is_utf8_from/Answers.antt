@@ -63,41 +63,34 @@ loop-at-init c = (search rules, refl)
 
 pub returns-then-due-eq0-2 : goal.returns-then-due-eq0-2
 returns-then-due-eq0-2 c =
-    let k = c in
-    no_lead _ _ _ _ _ _ (front _ _ _ _ _ _ k.loop-at-test.true k.loop-at.invariant.1) _ c.if-due-eq0.true
+    no_lead _ _ _ _ _ _ (front _ _ _ _ _ _ c.loop-at-test.true c.loop-at.invariant.1) _ c.if-due-eq0.true
     c.if-b-ge128.true
     c.tails-due.ensures c.if-due-eq0-2.true
 
 pub loop-at-preserved-then-b-ge128 : goal.loop-at-preserved-then-b-ge128
 loop-at-preserved-then-b-ge128 c =
-    let k = c in
-    let at-loop = k in
     let next =
-    led _ _ _ _ _ _ (front _ _ _ _ _ _ at-loop.loop-at-test.true at-loop.loop-at.invariant.1) _ _ _ k.if-due-eq0.true
-    k.tails-due.ensures c.if-due-eq0-2.false c.least-low.ensures c.greatest-high.ensures in
+    led _ _ _ _ _ _ (front _ _ _ _ _ _ c.loop-at-test.true c.loop-at.invariant.1) _ _ _ c.if-due-eq0.true
+    c.tails-due.ensures c.if-due-eq0-2.false c.least-low.ensures c.greatest-high.ensures in
     (search rules, next)
 
 pub loop-at-preserved-else-b-ge128 : goal.loop-at-preserved-else-b-ge128
 loop-at-preserved-else-b-ge128 c =
-    let k = c in
-    (search rules, ascii _ _ _ _ _ _ (front _ _ _ _ _ _ k.loop-at-test.true k.loop-at.invariant.1) c.if-due-eq0.true c.if-b-ge128.false)
+    (search rules, ascii _ _ _ _ _ _ (front _ _ _ _ _ _ c.loop-at-test.true c.loop-at.invariant.1) c.if-due-eq0.true c.if-b-ge128.false)
 
 pub returns-then-b-low : goal.returns-then-b-low
 returns-then-b-low c =
-    let k = c in
-    below _ _ _ _ _ _ (front _ _ _ _ _ _ k.loop-at-test.true k.loop-at.invariant.1) c.if-due-eq0.false c.if-b-low.true
+    below _ _ _ _ _ _ (front _ _ _ _ _ _ c.loop-at-test.true c.loop-at.invariant.1) c.if-due-eq0.false c.if-b-low.true
 
 pub returns-then-high-b : goal.returns-then-high-b
 returns-then-high-b c =
-    let k = c in
-    above _ _ _ _ _ _ (front _ _ _ _ _ _ k.loop-at-test.true k.loop-at.invariant.1) c.if-due-eq0.false c.if-high-b.true
+    above _ _ _ _ _ _ (front _ _ _ _ _ _ c.loop-at-test.true c.loop-at.invariant.1) c.if-due-eq0.false c.if-high-b.true
 
 pub loop-at-preserved : goal.loop-at-preserved
-loop-at-preserved c =
-    let k = c in (
-      search rules,
-      tail _ _ _ _ _ _ (front _ _ _ _ _ _ k.loop-at-test.true k.loop-at.invariant.1) c.if-due-eq0.false c.if-b-low.false c.if-high-b.false,
-    )
+loop-at-preserved c = (
+  search rules,
+  tail _ _ _ _ _ _ (front _ _ _ _ _ _ c.loop-at-test.true c.loop-at.invariant.1) c.if-due-eq0.false c.if-b-low.false c.if-high-b.false,
+)
 
 pub returns : goal.returns
 unfolding goes_on

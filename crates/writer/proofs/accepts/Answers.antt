@@ -1,7 +1,6 @@
 -- `writer::accepts` meets its contract.
 use mathlib.Core.Path.{ap, ◌∙◌}
 use Rattle.writer.specs.Write.{accepts, accepted}
-use borrow.Author.Rules.{rules}
 use Rattle.writer.proofs.accepts.Goals as goal
 
 pub returns : goal.returns

@@ -2,7 +2,6 @@
 use mathlib.Core.Path.{refl}
 use Rattle.encode.proofs.Puts.{all_in}
 use Rattle.writer.proofs.Answers.{pass_not, pass_put, in_length}
-use borrow.Author.Rules.{rules}
 use Rattle.base.proofs.Clauses.{value_out}
 use Rattle.writer.proofs.hand.Goals as goal
 

@@ -4,11 +4,9 @@ use native.Mathlib.Omega.{arith}
 use mathlib.Core.Path.{sym}
 use lib.ListN.{length-replicate}
 use lib.Seq.{length-take-le}
-use borrow.Author.Tests.{not-true, not-false}
 use Rattle.encode.proofs.Puts.{front_step}
 use Rattle.writer.specs.Write.{draft_of}
 use Rattle.writer.proofs.Answers.{not_described, described, pass_long, passed, few}
-use borrow.Author.Rules.{rules}
 use Rattle.base.proofs.Clauses.{value_out}
 use Rattle.writer.proofs.write.Goals as goal
 
@@ -33,8 +31,7 @@ hand-requires c = few _ _ c.if-len-gt-MOST_BYTES.false
 pub returns : goal.returns
 unfolding draft_of
 returns c =
-    let c9 = c in
-    value_out (described _ _ _ _ _ c9.ok_described.ensures (c9.if-not-ok_described.false)
-    (passed (front_step c9.message-len.ensures.value c9.message-len.ensures.out_after)
+    value_out (described _ _ _ _ _ c.ok_described.ensures (c.if-not-ok_described.false)
+    (passed (front_step c.message-len.ensures.value c.message-len.ensures.out_after)
     (rw (length-replicate {A = ℕ} 2048 0) c.if-len-gt-MOST_BYTES.false) _
     c.accepts-accepted.ensures c.hand.ensures.value c.hand.ensures.out_after))

@@ -16,8 +16,7 @@ returns-then-a-i c = same_differ c.args.a.now c.args.b.now
 
 pub loop-i-preserved : goal.loop-i-preserved
 loop-i-preserved c =
-    let c4 = c in
-    same_next c4.args.a.now c4.args.b.now c4.loop-i.i c4.if-a-b.false c.if-a-i.false c4.loop-i.invariant
+    same_next c.args.a.now c.args.b.now c.loop-i.i c.if-a-b.false c.if-a-i.false c.loop-i.invariant
 
 pub returns : goal.returns
 returns c = same_end c.args.a.now c.args.b.now c.loop-i.i c.if-a-b.false

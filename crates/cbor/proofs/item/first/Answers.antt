@@ -13,14 +13,12 @@ loop-lacking-init c =
 
 pub returns-then-depth-eq0 : goal.returns-then-depth-eq0
 returns-then-depth-eq0 c =
-    let l = c in
-    done _ l.args.s.now _ l.loop-lacking.outer l.loop-lacking.depth l.loop-lacking.lacking l.loop-lacking.at l.loop-lacking.invariant
+    done _ c.args.s.now _ c.loop-lacking.outer c.loop-lacking.depth c.loop-lacking.lacking c.loop-lacking.at c.loop-lacking.invariant
     c.if-lacking-eq0.true c.if-depth-eq0.true
 
 pub loop-lacking-preserved-then-lacking-eq0 : goal.loop-lacking-preserved-then-lacking-eq0
 loop-lacking-preserved-then-lacking-eq0 c =
-    let l = c in
-    closed _ l.args.s.now _ l.loop-lacking.outer l.loop-lacking.depth l.loop-lacking.lacking l.loop-lacking.at l.loop-lacking.invariant (l.loop-lacking.depth - 1)
+    closed _ c.args.s.now _ c.loop-lacking.outer c.loop-lacking.depth c.loop-lacking.lacking c.loop-lacking.at c.loop-lacking.invariant (c.loop-lacking.depth - 1)
     c.if-lacking-eq0.true (omega arith)
 
 pub overflow_add-place : goal.overflow_add-place

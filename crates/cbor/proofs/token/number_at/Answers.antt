@@ -8,25 +8,21 @@ use Rattle.cbor.proofs.token.number_at.Goals as goal
 
 pub returns-then-first-lt24 : goal.returns-then-first-lt24
 returns-then-first-lt24 c =
-    let k = c in
-    token_told k.args.s.now k.args.at _ _ _ _ _
-    (small_head k.args.s.now k.args.at c.if-at-s.true c.if-first-lt24.true) refl c.token_of.ensures
+    token_told c.args.s.now c.args.at _ _ _ _ _
+    (small_head c.args.s.now c.args.at c.if-at-s.true c.if-first-lt24.true) refl c.token_of.ensures
 
 pub overflow_cast-high : goal.overflow_cast-high
 overflow_cast-high c = omega (arith, c.shared_slice_known-then-room-gt1-1.given (c.args.at + 1))
 
 pub returns-then-high-ge24 : goal.returns-then-high-ge24
 returns-then-high-ge24 c =
-    let k = c in
-    token_told k.args.s.now k.args.at _ _ _ _ _
-    (two_bytes k.args.s.now k.args.at c.if-first-eq24.true c.if-high-ge24.true) refl c.token_of-then-high-ge24.ensures
+    token_told c.args.s.now c.args.at _ _ _ _ _
+    (two_bytes c.args.s.now c.args.at c.if-first-eq24.true c.if-high-ge24.true) refl c.token_of-then-high-ge24.ensures
 
 pub returns-then-high-gt0 : goal.returns-then-high-gt0
 returns-then-high-gt0 c =
-    let c6 = c in
-    let k = c6 in
-    token_told k.args.s.now k.args.at _ _ _ _ _
-    (three_bytes k.args.s.now k.args.at (omega arith) c6.if-first-eq25.true c.if-high-gt0.true) c.two.ensures
+    token_told c.args.s.now c.args.at _ _ _ _ _
+    (three_bytes c.args.s.now c.args.at (omega arith) c.if-first-eq25.true c.if-high-gt0.true) c.two.ensures
     c.token_of-then-high-gt0.ensures
 
 pub returns : goal.returns

@@ -11,11 +11,10 @@ pub returns-then-s-at : goal.returns-then-s-at
 returns-then-s-at c = token_none _ _ _ (le_of_lt c.if-s-at.true) c.nothing_at.ensures
 
 pub token_of-requires : goal.token_of-requires
-token_of-requires c =
-    let c7 = c in (
-      head_fits c7.args.s.now c7.args.at _ _ _ _ c.in-Head.ensures refl,
-      omega (arith, c7.well_formed, c.if-s-at.false),
-    )
+token_of-requires c = (
+  head_fits c.args.s.now c.args.at _ _ _ _ c.in-Head.ensures refl,
+  omega (arith, c.well_formed, c.if-s-at.false),
+)
 
 pub returns-in-Refused : goal.returns-in-Refused
 unfolding token_from

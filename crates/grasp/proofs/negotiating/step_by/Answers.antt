@@ -1,7 +1,6 @@
 -- `grasp::negotiating::step_by` meets its contract.
 use Rattle.base.specs.Pick.{pick}
 use borrow.Author.Tests.{lt-ltb, le-ltb}
-use borrow.Author.Rules.{rules}
 use Rattle.grasp.specs.Negotiating.{step_by}
 use Rattle.grasp.proofs.negotiating.step_by.Goals as goal
 

@@ -1,7 +1,6 @@
 -- `host::call::answer_from` meets its contract.
 use mathlib.Core.Path.{refl}
 use Rattle.host.specs.Call.{reply_numbers, answer_from}
-use borrow.Author.Rules.{rules}
 use Rattle.host.proofs.call.answer_from.Goals as goal
 
 pub returns-in-Refused : goal.returns-in-Refused

@@ -3,7 +3,6 @@ use mathlib.Core.Path.{refl}
 use borrow.Author.Tests.{eq-eqb, ne_eqb}
 use Rattle.base.specs.Pick.{pick}
 use Rattle.host.specs.Records.{fresh_over}
-use borrow.Author.Rules.{rules}
 use Rattle.host.proofs.records.fresh_over.Goals as goal
 
 pub returns-then-refusal-ne0 : goal.returns-then-refusal-ne0

@@ -2,7 +2,6 @@
 use borrow.Author.Tests.{lt-ltb, le-ltb}
 use Rattle.base.specs.Pick.{pick}
 use Rattle.host.specs.Records.{node_of}
-use borrow.Author.Rules.{rules}
 use Rattle.host.proofs.records.node_of.Goals as goal
 
 pub returns-then-port-gt65535 : goal.returns-then-port-gt65535

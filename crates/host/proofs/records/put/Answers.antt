@@ -3,7 +3,6 @@ use mathlib.Core.Path.{refl, sym}
 use borrow.Author.Tests.{eq-eqb, ne_eqb}
 use Rattle.base.specs.Pick.{pick}
 use Rattle.host.specs.Records.{numbers_after}
-use borrow.Author.Rules.{rules}
 use Rattle.host.proofs.records.put.Goals as goal
 
 pub returns-then-refusal-ne0 : goal.returns-then-refusal-ne0

@@ -1,6 +1,5 @@
 -- `host::states::numbers_of` meets its contract.
 use Rattle.host.specs.States.{state_numbers}
-use borrow.Author.Rules.{rules}
 use Rattle.host.proofs.states.numbers_of.Goals as goal
 
 pub returns-in-Fresh : goal.returns-in-Fresh

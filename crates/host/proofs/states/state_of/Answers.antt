@@ -2,7 +2,6 @@
 use Rattle.base.specs.Pick.{pick}
 use borrow.Author.Tests.{lt-ltb, le-ltb, eq-eqb, ne_eqb}
 use Rattle.host.specs.States.{state_of}
-use borrow.Author.Rules.{rules}
 use Rattle.host.proofs.states.state_of.Goals as goal
 
 pub returns-then-session-gt4294967295 : goal.returns-then-session-gt4294967295

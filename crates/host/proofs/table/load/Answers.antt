@@ -1,13 +1,9 @@
 -- `host::table::load` meets its contract. The loop's invariant: with the numbers that are left the table is the whole
 -- one.
-use mathlib.Core.Path.{◌≡◌}
-use Prim.Native.Nat.{◌-◌, ◌%◌, ◌≤◌}
 use native.Mathlib.Nat.{le_antisymm}
 use native.Mathlib.Omega.{arith}
-use borrow.Author.Rules.{rules}
-use lib.ListN.{length, length-set}
-use Rattle.node_state.specs.Table.{table_numbers}
-use Rattle.host.proofs.Numbers.{Loading, load_begun, load_turn, load_done}
+use lib.ListN.{length-set}
+use Rattle.host.proofs.Numbers.{load_begun, load_turn, load_done}
 use Rattle.host.proofs.table.load.Goals as goal
 
 pub loop-i-init : goal.loop-i-init
@@ -15,27 +11,27 @@ loop-i-init c = (omega arith, omega arith, c.requires.numbers, load_begun _ _ c.
 
 pub number_at-requires-in-loop-i : goal.number_at-requires-in-loop-i
 number_at-requires-in-loop-i c = record {
-      bytes = omega arith;
-      within = omega arith;
-    }
+  bytes = omega arith;
+  within = omega arith;
+}
 
 pub bounds-table-i-in-loop-i : goal.bounds-table-i-in-loop-i
 bounds-table-i-in-loop-i c = simp length-set (omega arith)
 
 pub number_at-requires-in-loop-i-2 : goal.number_at-requires-in-loop-i-2
 number_at-requires-in-loop-i-2 c = record {
-      bytes = omega arith;
-      within = omega arith;
-    }
+  bytes = omega arith;
+  within = omega arith;
+}
 
 pub bounds-table-i-in-loop-i-2 : goal.bounds-table-i-in-loop-i-2
 bounds-table-i-in-loop-i-2 c = simp length-set (omega arith)
 
 pub number_at-requires-in-loop-i-3 : goal.number_at-requires-in-loop-i-3
 number_at-requires-in-loop-i-3 c = record {
-      bytes = omega arith;
-      within = omega arith;
-    }
+  bytes = omega arith;
+  within = omega arith;
+}
 
 pub bounds-table-i-in-loop-i-3 : goal.bounds-table-i-in-loop-i-3
 bounds-table-i-in-loop-i-3 c = simp length-set (omega arith)

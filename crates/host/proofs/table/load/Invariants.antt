@@ -2,12 +2,9 @@
 -- one.
 use mathlib.Core.Path.{◌≡◌}
 use Prim.Native.Nat.{◌-◌, ◌%◌, ◌≤◌}
-use native.Mathlib.Nat.{le_antisymm}
-use native.Mathlib.Omega.{arith}
-use borrow.Author.Rules.{rules}
-use lib.ListN.{length, length-set}
+use lib.ListN.{length}
 use Rattle.node_state.specs.Table.{table_numbers}
-use Rattle.host.proofs.Numbers.{Loading, load_begun, load_turn, load_done}
+use Rattle.host.proofs.Numbers.{Loading}
 use Rattle.host.proofs.table.load.Given as goal
 
 abbrev pub invariant-loop-i : goal.invariant-loop-i

@@ -3,7 +3,6 @@ use native.Mathlib.Nat.{add-zero}
 use native.Mathlib.Omega.{arith}
 use lib.Seq.{get_or-drop}
 use Rattle.base.specs.BigEndian.{big_endian}
-use borrow.Author.Rules.{rules}
 use Rattle.host.proofs.table.number_at.Goals as goal
 
 pub returns : goal.returns

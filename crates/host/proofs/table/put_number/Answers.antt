@@ -5,7 +5,6 @@ use lib.ListN.{length-set}
 use native.Mathlib.Nat.{div-div-eq-div-mul}
 use native.Mathlib.Numerals.{towards_suc}
 use Rattle.base.specs.BigEndian.{bytes_of}
-use borrow.Author.Rules.{rules}
 use Rattle.host.proofs.table.put_number.Goals as goal
 
 pub bounds-bytes-at-2 : goal.bounds-bytes-at-2

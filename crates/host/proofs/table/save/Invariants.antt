@@ -2,13 +2,10 @@
 -- the whole table's.
 use mathlib.Core.Path.{◌≡◌}
 use Prim.Native.Nat.{◌-◌, ◌%◌, ◌≤◌}
-use native.Mathlib.Nat.{le_antisymm}
-use native.Mathlib.Omega.{arith}
-use borrow.Author.Rules.{rules}
 use lib.ListN.{length}
 use Rattle.node_state.specs.Table.{table_numbers}
 use Rattle.host.specs.Table.{table_bytes}
-use Rattle.host.proofs.Numbers.{Saving, save_begun, save_turn, save_done}
+use Rattle.host.proofs.Numbers.{Saving}
 use Rattle.host.proofs.table.save.Given as goal
 
 abbrev pub invariant-loop-i : goal.invariant-loop-i

@@ -6,8 +6,7 @@ use Rattle.message.proofs.flood.flooded_at.Goals as goal
 
 pub overflow_add-at : goal.overflow_add-at
 overflow_add-at c =
-    let c6 = c in
-    omega (arith, c6.well_formed, pair_within c6.args.s.now _ c6.args.at _ _ c.read_at-read.ensures c.in-Got.is)
+    omega (arith, c.well_formed, pair_within c.args.s.now _ c.args.at _ _ c.read_at-read.ensures c.in-Got.is)
 
 pub returns-in-Bad : goal.returns-in-Bad
 unfolding flooded_at flooded_of flooded_by

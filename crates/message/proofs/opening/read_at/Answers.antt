@@ -24,13 +24,12 @@ returns-then-not-is_initiator c =
 pub returns-then-ttl : goal.returns-then-ttl
 unfolding opening_at pick
 returns-then-ttl c =
-    let c4 = c in
     rw (
-      ← c4.number_at-i.ensures.is,
-      ← c4.up_to-session.ensures,
-      le-ltb _ _ c4.if-session.false,
-      ← c4.string_at-j.ensures.is,
-      ← c4.is_initiator.ensures,
+      ← c.number_at-i.ensures.is,
+      ← c.up_to-session.ensures,
+      le-ltb _ _ c.if-session.false,
+      ← c.string_at-j.ensures.is,
+      ← c.is_initiator.ensures,
       c.if-not-is_initiator.false,
       ← c.number_at-t.ensures.is,
       ← c.up_to-ttl.ensures,
@@ -40,13 +39,12 @@ returns-then-ttl c =
 pub returns : goal.returns
 unfolding opening_at pick
 returns c =
-    let c5 = c in
     rw (
-      ← c5.number_at-i.ensures.is,
-      ← c5.up_to-session.ensures,
-      le-ltb _ _ c5.if-session.false,
-      ← c5.string_at-j.ensures.is,
-      ← c5.is_initiator.ensures,
+      ← c.number_at-i.ensures.is,
+      ← c.up_to-session.ensures,
+      le-ltb _ _ c.if-session.false,
+      ← c.string_at-j.ensures.is,
+      ← c.is_initiator.ensures,
       c.if-not-is_initiator.false,
       ← c.number_at-t.ensures.is,
       ← c.up_to-ttl.ensures,

@@ -7,17 +7,15 @@ use Rattle.message.proofs.response.located_at.Goals as goal
 
 pub overflow_sub-series : goal.overflow_sub-series
 overflow_sub-series c =
-    let c5 = c in
-    omega (arith, c5.requires, locators_within c5.args.s.now c5.args.at _ _ _ c.read_at-read.ensures c.in-Ran.is)
+    omega (arith, c.requires, locators_within c.args.s.now c.args.at _ _ _ c.read_at-read.ensures c.in-Ran.is)
 
 pub overflow_add-at : goal.overflow_add-at
 overflow_add-at c =
-    let c5 = c in
     omega (
       arith,
-      c5.well_formed,
-      length-drop c5.args.at c5.args.s.now,
-      locators_within c5.args.s.now c5.args.at _ _ _ c.read_at-read.ensures c.in-Ran.is,
+      c.well_formed,
+      length-drop c.args.at c.args.s.now,
+      locators_within c.args.s.now c.args.at _ _ _ c.read_at-read.ensures c.in-Ran.is,
     )
 
 pub returns-in-Bad : goal.returns-in-Bad

@@ -13,11 +13,10 @@ returns-then-left-eq0 c =
 
 pub overflow_add-result : goal.overflow_add-result
 overflow_add-result c =
-    let c7 = c in
     omega (
       arith,
-      c7.well_formed,
-      objective_within 2 c7.args.s.now _ c7.args.at _ _ c.read_at-read.ensures c.in-Got.is,
+      c.well_formed,
+      objective_within 2 c.args.s.now _ c.args.at _ _ c.read_at-read.ensures c.in-Got.is,
     )
 
 pub returns-then-left-ne1 : goal.returns-then-left-ne1
@@ -32,11 +31,10 @@ returns-then-left-ne1 c =
 
 pub overflow_add-result-in-Got : goal.overflow_add-result-in-Got
 overflow_add-result-in-Got c =
-    let c8 = c in
     omega (
       arith,
-      c8.well_formed,
-      objective_within 2 c8.args.s.now _ c8.args.at _ _ c.read_at-read.ensures
+      c.well_formed,
+      objective_within 2 c.args.s.now _ c.args.at _ _ c.read_at-read.ensures
           c.in-Got.is,
     )
 

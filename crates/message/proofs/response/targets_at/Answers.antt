@@ -7,12 +7,11 @@ use Rattle.message.proofs.response.targets_at.Goals as goal
 
 pub overflow_add-at : goal.overflow_add-at
 overflow_add-at c =
-    let c5 = c in
     omega (
       arith,
-      c5.well_formed,
-      length-drop c5.args.at c5.args.s.now,
-      divert_within c5.args.s.now c5.args.at _ _ c.read_at-read.ensures c.in-Got.is,
+      c.well_formed,
+      length-drop c.args.at c.args.s.now,
+      divert_within c.args.s.now c.args.at _ _ c.read_at-read.ensures c.in-Got.is,
     )
 
 pub returns-in-Other : goal.returns-in-Other

@@ -16,11 +16,10 @@ returns-in-Bad c =
 
 pub overflow_add-at : goal.overflow_add-at
 overflow_add-at c =
-    let c7 = c in
     omega (
       arith,
-      c7.well_formed,
-      pair_within c7.args.s.now _ c.loop-left.at _ _ c.read_at-read.ensures
+      c.well_formed,
+      pair_within c.args.s.now _ c.loop-left.at _ _ c.read_at-read.ensures
           c.in-Got.is,
     )
 

@@ -18,13 +18,12 @@ returns-then-session c =
 
 pub overflow_add-result : goal.overflow_add-result
 overflow_add-result c =
-    let c7 = c in
-    let args = c7 in
+    let args = c in
     omega (
       arith,
-      c7.number_at-i.ensures,
+      c.number_at-i.ensures,
       args.well_formed,
-      outcome_within args.args.s.now _ c7.number_at-i.result.next _ _ c.read_at-read.ensures
+      outcome_within args.args.s.now _ c.number_at-i.result.next _ _ c.read_at-read.ensures
           c.in-Got.is,
     )
 

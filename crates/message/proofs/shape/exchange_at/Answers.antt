@@ -30,12 +30,11 @@ returns-in-Bad c =
 
 pub overflow_add-result : goal.overflow_add-result
 overflow_add-result c =
-    let c9 = c in
     omega (
       arith,
-      c9.number_at-i.ensures,
-      c9.well_formed,
-      objective_within 2 c9.args.s.now _ c9.number_at-i.result.next _ _
+      c.number_at-i.ensures,
+      c.well_formed,
+      objective_within 2 c.args.s.now _ c.number_at-i.result.next _ _
           c.read_at-read.ensures c.in-Got.is,
     )
 

@@ -3,7 +3,6 @@ use mathlib.Core.Path.{refl, sym, ◌∙◌}
 use borrow.Author.Tests.{lt-ltb, le-ltb}
 use Rattle.base.specs.Pick.{pick}
 use Rattle.node.specs.Call.{barred}
-use borrow.Author.Rules.{rules}
 use Rattle.node.proofs.call.barred_by.Goals as goal
 
 pub returns-then-is_bad : goal.returns-then-is_bad

@@ -4,7 +4,6 @@ use native.Mathlib.Omega.{arith}
 use borrow.Author.Tests.{le-leb, lt-leb}
 use Rattle.node_state.specs.Record.{arrival_bad}
 use Rattle.node_state.proofs.Masks.{record_links}
-use borrow.Author.Rules.{rules}
 use Rattle.node.proofs.call.is_bad_arrival.Goals as goal
 
 pub returns-then-node-interface : goal.returns-then-node-interface

@@ -1,7 +1,6 @@
 -- `node::role::role_of` meets its contract.
 use mathlib.Core.Path.{refl}
 use Rattle.node.specs.Role.{role_of}
-use borrow.Author.Rules.{rules}
 use Rattle.node.proofs.role.role_of.Goals as goal
 
 pub returns-in-Noop : goal.returns-in-Noop

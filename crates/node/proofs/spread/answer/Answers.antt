@@ -1,7 +1,6 @@
 -- `node::spread::answer` meets its contract.
 use mathlib.Core.Path.{refl}
 use Rattle.node_state.proofs.Masks.{one_bit}
-use borrow.Author.Rules.{rules}
 use Rattle.node.proofs.spread.answer.Goals as goal
 
 pub returns : goal.returns

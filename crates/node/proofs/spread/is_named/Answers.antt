@@ -2,7 +2,6 @@
 use mathlib.Core.Path.{ap, ◌∙◌}
 use Rattle.names.specs.Names.{is_named}
 use Rattle.node.proofs.Sends.{part_held}
-use borrow.Author.Rules.{rules}
 use Rattle.node.proofs.spread.is_named.Goals as goal
 
 pub returns : goal.returns

@@ -4,7 +4,6 @@ use mathlib.Core.List.{List}
 use Prim.Native.Nat.{ℕ}
 use Rattle.base.specs.Bytes.{same_bytes}
 use Rattle.node.proofs.Sends.{part_held}
-use borrow.Author.Rules.{rules}
 use Rattle.node.proofs.spread.is_own.Goals as goal
 
 pub returns : goal.returns

@@ -2,7 +2,6 @@
 use Rattle.writer.specs.Lower.{onward}
 use Rattle.node.proofs.Sends.{onward_given}
 use Rattle.node.proofs.Outcomes.{sent_length}
-use borrow.Author.Rules.{rules}
 use Rattle.base.proofs.Clauses.{value_out}
 use Rattle.node.proofs.spread.put_onward.Goals as goal
 

@@ -4,7 +4,6 @@ use native.Mathlib.Omega.{arith}
 use Rattle.node_state.specs.Record.{others}
 use Rattle.node.specs.Call.{call_of}
 use Rattle.node.proofs.Outcomes.{last_outcome, nowhere_outcome, norow_outcome, relay_outcome}
-use borrow.Author.Rules.{rules}
 use Rattle.node.proofs.spread.relay_or_end.Goals as goal
 
 pub returns-then-s-le1 : goal.returns-then-s-le1
@@ -23,19 +22,18 @@ returns-then-mask-eq0 c =
 pub returns-then-row-ge-ROWS : goal.returns-then-row-ge-ROWS
 unfolding others
 returns-then-row-ge-ROWS c =
-    λ names. let c6 = c in
-    let args = c6.args in
+    λ names.
+    let args = c.args in
     norow_outcome args.node args.table.now (call_of args.node.clock args.interface names args.message.now args.out.now) args.s
-    c6.if-s-le1.false (λ e. c6.if-mask-eq0.false (c6.others-mask.ensures ∙ e)) _ _ _ (c.fill_lowest-row.ensures.value, c.fill_lowest-row.ensures.table_after)
-    c6.requires.ready.sized _ c.quiet-then-row-ge-ROWS.ensures c.if-row-ge-ROWS.true
+    c.if-s-le1.false (λ e. c.if-mask-eq0.false (c.others-mask.ensures ∙ e)) _ _ _ (c.fill_lowest-row.ensures.value, c.fill_lowest-row.ensures.table_after)
+    c.requires.ready.sized _ c.quiet-then-row-ge-ROWS.ensures c.if-row-ge-ROWS.true
 
 pub returns : goal.returns
 unfolding others
 returns c =
-    λ names. let c3 = c in
-    let c11 = c3 in
-    let args = c11.args in
+    λ names.
+    let args = c.args in
     relay_outcome args.node args.table.now (call_of args.node.clock args.interface names args.message.now args.out.now) args.s
-    c11.if-s-le1.false (λ e. c3.if-mask-eq0.false (c11.others-mask.ensures ∙ e)) _ _ _
-    (c3.fill_lowest-row.ensures.value, c3.fill_lowest-row.ensures.table_after) c11.requires.key _ _
-    (rw (← c11.others-mask.ensures, ← c3.put_onward-length.ensures.value) c.relayed.ensures) c3.put_onward-length.ensures.out_after c3.if-row-ge-ROWS.false
+    c.if-s-le1.false (λ e. c.if-mask-eq0.false (c.others-mask.ensures ∙ e)) _ _ _
+    (c.fill_lowest-row.ensures.value, c.fill_lowest-row.ensures.table_after) c.requires.key _ _
+    (rw (← c.others-mask.ensures, ← c.put_onward-length.ensures.value) c.relayed.ensures) c.put_onward-length.ensures.out_after c.if-row-ge-ROWS.false

@@ -13,10 +13,9 @@ returns-then-is_bad c = rw (sym c.is_bad.ensures ∙ c.if-is_bad.true) refl
 pub returns-then-are_bad : goal.returns-then-are_bad
 unfolding set_links linked pick
 returns-then-are_bad c =
-    let c3 = c in
     rw (
-      sym c3.is_bad.ensures ∙ c3.if-is_bad.false,
-      (let f = record_links _ (sym c3.is_bad.ensures ∙ c3.if-is_bad.false) in sym (links_wide _ _ f.some f.most))
+      sym c.is_bad.ensures ∙ c.if-is_bad.false,
+      (let f = record_links _ (sym c.is_bad.ensures ∙ c.if-is_bad.false) in sym (links_wide _ _ f.some f.most))
           ∙ sym c.are_bad.ensures ∙ c.if-are_bad.true,
     ) refl
 
@@ -31,9 +30,8 @@ overflow_cast-node c =
 pub returns : goal.returns
 unfolding set_links linked pick
 returns c =
-    let c3 = c in
     rw (
-      sym c3.is_bad.ensures ∙ c3.if-is_bad.false,
-      (let f = record_links _ (sym c3.is_bad.ensures ∙ c3.if-is_bad.false) in sym (links_wide _ _ f.some f.most))
+      sym c.is_bad.ensures ∙ c.if-is_bad.false,
+      (let f = record_links _ (sym c.is_bad.ensures ∙ c.if-is_bad.false) in sym (links_wide _ _ f.some f.most))
           ∙ sym c.are_bad.ensures ∙ c.if-are_bad.false,
     ) refl

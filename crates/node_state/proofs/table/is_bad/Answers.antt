@@ -17,9 +17,8 @@ loop-i-init c = (omega arith, refl)
 pub returns-then-is_bad_row : goal.returns-then-is_bad_row
 unfolding table_bad
 returns-then-is_bad_row c =
-    let c3 = c in
-    rw (eq-eqb _ 256 c3.if-table.false) (some_here (row_bad c3.args.clock c3.args.table.now)
-    c3.loop-i.i c.loop-i-test.true (sym c.is_bad_row.ensures ∙ c.if-is_bad_row.true) c3.loop-i.invariant.1)
+    rw (eq-eqb _ 256 c.if-table.false) (some_here (row_bad c.args.clock c.args.table.now)
+    c.loop-i.i c.loop-i-test.true (sym c.is_bad_row.ensures ∙ c.if-is_bad_row.true) c.loop-i.invariant.1)
 
 pub loop-i-preserved : goal.loop-i-preserved
 loop-i-preserved c =

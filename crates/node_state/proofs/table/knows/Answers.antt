@@ -16,9 +16,8 @@ loop-i-init c = (omega arith, refl)
 pub returns-then-has_key : goal.returns-then-has_key
 unfolding is_known
 returns-then-has_key c =
-    let c3 = c in
-    rw (of_sized _ _ _ c3.if-table.false) (some_here (row_matches c3.args.key c3.args.table.now)
-    c3.loop-i.i c.loop-i-test.true (sym c.has_key.ensures ∙ c.if-has_key.true) c3.loop-i.invariant.1)
+    rw (of_sized _ _ _ c.if-table.false) (some_here (row_matches c.args.key c.args.table.now)
+    c.loop-i.i c.loop-i-test.true (sym c.has_key.ensures ∙ c.if-has_key.true) c.loop-i.invariant.1)
 
 pub loop-i-preserved : goal.loop-i-preserved
 loop-i-preserved c =

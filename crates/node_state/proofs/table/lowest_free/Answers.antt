@@ -12,17 +12,15 @@ loop-i-init c = (omega arith, refl)
 
 pub returns-then-is_free : goal.returns-then-is_free
 returns-then-is_free c =
-    let c3 = c in
-    scan_here (row_free c3.args.table.now) 64 c3.loop-i.i (lowest_free c3.args.table.now)
-    (sym c.is_free.ensures ∙ c.if-is_free.true) c3.loop-i.invariant.1
+    scan_here (row_free c.args.table.now) 64 c.loop-i.i (lowest_free c.args.table.now)
+    (sym c.is_free.ensures ∙ c.if-is_free.true) c.loop-i.invariant.1
 
 pub loop-i-preserved : goal.loop-i-preserved
-loop-i-preserved c =
-    let c3 = c in (
-      omega arith,
-      scan_next (row_free c3.args.table.now) 64 c3.loop-i.i (lowest_free c3.args.table.now)
-          c.loop-i-test.true (sym c.is_free.ensures ∙ c.if-is_free.false) c3.loop-i.invariant.1,
-    )
+loop-i-preserved c = (
+  omega arith,
+  scan_next (row_free c.args.table.now) 64 c.loop-i.i (lowest_free c.args.table.now)
+      c.loop-i-test.true (sym c.is_free.ensures ∙ c.if-is_free.false) c.loop-i.invariant.1,
+)
 
 pub returns : goal.returns
 returns c = scan_end (row_free c.args.table.now) 64 c.loop-i.i

@@ -9,19 +9,17 @@ use Rattle.options.proofs.locators.read_in.Goals as goal
 
 pub overflow_add-from : goal.overflow_add-from
 overflow_add-from c =
-    let c6 = c in
     omega (
       arith,
-      c6.requires,
-      c6.well_formed,
-      locator_fits c6.args.s.now _ c6.args.from _ _ c.read_in-read.ensures c.in-Got.is,
+      c.requires,
+      c.well_formed,
+      locator_fits c.args.s.now _ c.args.from _ _ c.read_in-read.ensures c.in-Got.is,
     )
 
 pub read_more-requires : goal.read_more-requires
 read_more-requires c =
-    let c6 = c in
-    let size = locator_fits c6.args.s.now _ c6.args.from _ _ c.read_in-read.ensures c.in-Got.is in
-    record { fits = c6.requires.fits; within = omega (arith, c6.requires, size) }
+    let size = locator_fits c.args.s.now _ c.args.from _ _ c.read_in-read.ensures c.in-Got.is in
+    record { fits = c.requires.fits; within = omega (arith, c.requires, size) }
 
 pub returns-in-Bad : goal.returns-in-Bad
 unfolding locators_led

@@ -23,23 +23,21 @@ returns-in-Bad c =
 
 pub overflow_add-at : goal.overflow_add-at
 overflow_add-at c =
-    let c8 = c in
     let loop = c.loop-left in
     omega (
       arith,
-      c8.well_formed,
+      c.well_formed,
       loop.invariant.0,
-      locator_fits c8.args.s.now _ loop.at _ _ c.read_in-read.ensures c.in-Got.is,
+      locator_fits c.args.s.now _ loop.at _ _ c.read_in-read.ensures c.in-Got.is,
     )
 
 pub loop-left-preserved : goal.loop-left-preserved
 loop-left-preserved c =
-    let c9 = c in
     let loop = c.loop-left in
     let read = c.read_in-read.ensures in
     let found = c.in-Got.is in (
-      omega (arith, loop.invariant.0, locator_fits c9.args.s.now _ loop.at _ _ read found),
-      turns_next _ c9.args.s.now _ _ _ _ loop.left loop.at loop.bad _ _ _ _ _ (omega arith) read found
+      omega (arith, loop.invariant.0, locator_fits c.args.s.now _ loop.at _ _ read found),
+      turns_next _ c.args.s.now _ _ _ _ loop.left loop.at loop.bad _ _ _ _ _ (omega arith) read found
           c.first_of-bad.ensures loop.invariant.1,
     )
 

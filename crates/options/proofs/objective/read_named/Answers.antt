@@ -25,14 +25,13 @@ returns-then-count-gt255 c =
 pub returns-then-items-eq3 : goal.returns-then-items-eq3
 unfolding objective_named pick
 returns-then-items-eq3 c =
-    let c7 = c in
     rw (
-      ← c7.number_at-f.ensures.is,
-      ← c7.up_to-flags.ensures,
-      le-ltb _ _ c7.if-flags-gt15.false,
-      ← c7.number_at-c.ensures.is,
-      ← c7.up_to-count.ensures,
-      le-ltb _ _ c7.if-count-gt255.false,
+      ← c.number_at-f.ensures.is,
+      ← c.up_to-flags.ensures,
+      le-ltb _ _ c.if-flags-gt15.false,
+      ← c.number_at-c.ensures.is,
+      ← c.up_to-count.ensures,
+      le-ltb _ _ c.if-count-gt255.false,
       ← c.bad_text-bad.ensures,
       ← c.long_name-long.ensures,
       eq-eqb _ _ c.if-items-eq3.true,
@@ -42,14 +41,13 @@ returns-then-items-eq3 c =
 pub returns-then-len-eq0 : goal.returns-then-len-eq0
 unfolding objective_named pick
 returns-then-len-eq0 c =
-    let c8 = c in
     rw (
-      ← c8.number_at-f.ensures.is,
-      ← c8.up_to-flags.ensures,
-      le-ltb _ _ c8.if-flags-gt15.false,
-      ← c8.number_at-c.ensures.is,
-      ← c8.up_to-count.ensures,
-      le-ltb _ _ c8.if-count-gt255.false,
+      ← c.number_at-f.ensures.is,
+      ← c.up_to-flags.ensures,
+      le-ltb _ _ c.if-flags-gt15.false,
+      ← c.number_at-c.ensures.is,
+      ← c.up_to-count.ensures,
+      le-ltb _ _ c.if-count-gt255.false,
       ← c.bad_text-bad.ensures,
       ← c.long_name-long.ensures,
       ne_eqb _ _ c.if-items-eq3.false,
@@ -59,26 +57,24 @@ returns-then-len-eq0 c =
 
 pub overflow_add-result-2 : goal.overflow_add-result-2
 overflow_add-result-2 c =
-    let c10 = c in
     omega (
       arith,
       c.size_at-len.ensures,
-      c10.number_at-c.ensures,
-      c10.number_at-f.ensures,
-      c10.well_formed,
+      c.number_at-c.ensures,
+      c.number_at-f.ensures,
+      c.well_formed,
     )
 
 pub returns : goal.returns
 unfolding objective_named pick
 returns c =
-    let c9 = c in
     rw (
-      ← c9.number_at-f.ensures.is,
-      ← c9.up_to-flags.ensures,
-      le-ltb _ _ c9.if-flags-gt15.false,
-      ← c9.number_at-c.ensures.is,
-      ← c9.up_to-count.ensures,
-      le-ltb _ _ c9.if-count-gt255.false,
+      ← c.number_at-f.ensures.is,
+      ← c.up_to-flags.ensures,
+      le-ltb _ _ c.if-flags-gt15.false,
+      ← c.number_at-c.ensures.is,
+      ← c.up_to-count.ensures,
+      le-ltb _ _ c.if-count-gt255.false,
       ← c.bad_text-bad.ensures,
       ← c.long_name-long.ensures,
       ne_eqb _ _ c.if-items-eq3.false,

@@ -14,26 +14,24 @@ returns-then-items_in-eq0 c = rw (← c.array_at-a.ensures.is, ← c.items_in.en
 
 pub overflow_add-at : goal.overflow_add-at
 overflow_add-at c =
-    let c9 = c in
     omega (
       arith,
-      c9.requires,
-      c9.array_at-a.ensures,
-      objective_fits 3 c9.args.s.now _ c9.array_at-a.result.next _ _ c.read_in-read.ensures
+      c.requires,
+      c.array_at-a.ensures,
+      objective_fits 3 c.args.s.now _ c.array_at-a.result.next _ _ c.read_in-read.ensures
           c.in-Got.is,
     )
 
 pub read_tag-requires : goal.read_tag-requires
-read_tag-requires c =
-    let c9 = c in (
-      c9.requires,
-      omega (
-        arith,
-        c9.array_at-a.ensures,
-        objective_fits 3 c9.args.s.now _ c9.array_at-a.result.next _ _ c.read_in-read.ensures
-            c.in-Got.is,
-      ),
-    )
+read_tag-requires c = (
+  c.requires,
+  omega (
+    arith,
+    c.array_at-a.ensures,
+    objective_fits 3 c.args.s.now _ c.array_at-a.result.next _ _ c.read_in-read.ensures
+        c.in-Got.is,
+  ),
+)
 
 pub returns-then-a-eq2 : goal.returns-then-a-eq2
 unfolding pair_led pick

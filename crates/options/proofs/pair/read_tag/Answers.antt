@@ -12,12 +12,11 @@ returns-then-is_empty c = rw (← c.array_at-t.ensures.is, ← c.is_empty.ensure
 
 pub overflow_add-result : goal.overflow_add-result
 overflow_add-result c =
-    let c9 = c in
     omega (
       arith,
-      c9.requires,
-      c9.well_formed,
-      locator_fits c9.args.s.now _ c9.args.at _ _ c.read_in-read.ensures c.in-Got.is,
+      c.requires,
+      c.well_formed,
+      locator_fits c.args.s.now _ c.args.at _ _ c.read_in-read.ensures c.in-Got.is,
     )
 
 pub returns-in-Bad : goal.returns-in-Bad

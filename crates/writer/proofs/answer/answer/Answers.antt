@@ -1,9 +1,7 @@
 -- `writer::answer::answer` meets its contract: its length is known before anything is put.
 use mathlib.Core.Path.{sym, ◌∙◌}
-use borrow.Author.Tests.{not-true, not-false}
 use Rattle.writer.specs.Write.{answer_answer, answer_out}
 use Rattle.writer.proofs.Answers.{pass_not, pass_put, by_length, not_passed}
-use borrow.Author.Rules.{rules}
 use Rattle.base.proofs.Clauses.{value_out}
 use Rattle.writer.proofs.answer.answer.Goals as goal
 
@@ -20,7 +18,6 @@ returns-then-number-ne0 c = value_out (pass_not _ _ _
 pub returns : goal.returns
 unfolding answer_answer answer_out
 returns c =
-    let c7 = c in
-    value_out (pass_put _ _ _ (by_length _ _ (sym c7.ok_initiator.ensures ∙ c7.if-not-ok_initiator.false) c7.answer_len-len.ensures)
-    c7.answer_len-len.ensures c.refusal-number.ensures c.if-number-ne0.false
+    value_out (pass_put _ _ _ (by_length _ _ (sym c.ok_initiator.ensures ∙ c.if-not-ok_initiator.false) c.answer_len-len.ensures)
+    c.answer_len-len.ensures c.refusal-number.ensures c.if-number-ne0.false
     c.put_answer.ensures)

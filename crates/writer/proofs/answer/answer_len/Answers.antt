@@ -1,7 +1,6 @@
 -- `writer::answer::answer_len` meets its contract.
 use native.Mathlib.Omega.{arith}
 use Rattle.writer.proofs.Lengths.{head_few, string_few, answer_length}
-use borrow.Author.Rules.{rules}
 use Rattle.writer.proofs.answer.answer_len.Goals as goal
 
 pub overflow_add-result : goal.overflow_add-result

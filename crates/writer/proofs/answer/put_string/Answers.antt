@@ -2,7 +2,6 @@
 use lib.Dec.{lit<}
 use Rattle.rfc8990.specs.Encoding.{string}
 use Rattle.encode.proofs.Puts.{then, head_in, all_in}
-use borrow.Author.Rules.{rules}
 use Rattle.writer.proofs.answer.put_string.Goals as goal
 
 pub returns : goal.returns

@@ -1,7 +1,6 @@
 -- `writer::answer::string_len` meets its contract.
 use native.Mathlib.Omega.{arith}
 use Rattle.writer.proofs.Lengths.{head_few, string_length}
-use borrow.Author.Rules.{rules}
 use Rattle.writer.proofs.answer.string_len.Goals as goal
 
 pub overflow_add-result : goal.overflow_add-result
