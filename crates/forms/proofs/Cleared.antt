@@ -6,7 +6,6 @@ use lib.ListN.{length, take, drop, get_or}
 use Prim.Native.Nat.{ℕ}
 use native.Mathlib.Nat.{mul-div_cancel_left}
 use lib.Dec.{lit<}
-use lib.Seq.{sets}
 use Rattle.base.specs.Pick.{pick}
 use Rattle.options.specs.declared.Span.{Span}
 use Rattle.options.specs.declared.outcome.Outcome.{Outcome}
@@ -29,7 +28,8 @@ use Rattle.forms.proofs.Taken.{described_exactly, block_long}
 response_cleared : (session : ℕ) (i : Span) (ttl : ℕ) (targets : Targets) (extra : Extra)
     → cleared (response_block session i ttl targets extra)
     ≡ block_for (D.Response session i ttl (is_divert targets) (given_extra extra)) (row_numbers (target_rows targets))
-unfolding cleared pick response_block targets_block with_extra with_objective front_block with_series sets block_for is_divert given_extra given_of target_rows row_numbers
+unfolding cleared pick response_block targets_block with_extra with_objective front_block with_series block_for is_divert given_extra
+    given_of target_rows row_numbers
 response_cleared session i ttl (Targets.Locators first series) Extra.Without = rw (mul-div_cancel_left series.many {n = 5} (lit< tt))
 response_cleared session i ttl (Targets.Locators first series) (Extra.With o) = rw (mul-div_cancel_left series.many {n = 5} (lit< tt))
 response_cleared session i ttl (Targets.Divert first series) Extra.Without = rw (mul-div_cancel_left series.many {n = 5} (lit< tt))
@@ -37,20 +37,20 @@ response_cleared session i ttl (Targets.Divert first series) (Extra.With o) = rw
 
 -- an End's
 end_cleared : (session : ℕ) (outcome : Outcome) → cleared (end_block session outcome) ≡ block_for (D.End session outcome) 0
-unfolding cleared pick end_block outcome_block with_span front_block sets block_for
+unfolding cleared pick end_block outcome_block with_span front_block block_for
 end_cleared session Outcome.Accept = refl
 end_cleared session Outcome.Decline = refl
 end_cleared session (Outcome.Reason reason) = refl
 
 -- an Invalid's
 invalid_cleared : (session : ℕ) (item : Span) → cleared (invalid_block session item) ≡ block_for (D.Invalid session item) 0
-unfolding cleared pick invalid_block with_span front_block sets block_for
+unfolding cleared pick invalid_block with_span front_block block_for
 invalid_cleared session item = refl
 
 -- what the reader fills beside it in a Response
 response_objective : (session : ℕ) (i : Span) (ttl : ℕ) (targets : Targets) (extra : Extra)
     → take 8 (drop 5 (response_block session i ttl targets extra)) ≡ objective_read extra
-unfolding response_block targets_block with_extra with_objective front_block with_series sets
+unfolding response_block targets_block with_extra with_objective front_block with_series
 response_objective session i ttl (Targets.Locators first series) Extra.Without = refl
 response_objective session i ttl (Targets.Locators first series) (Extra.With o) = refl
 response_objective session i ttl (Targets.Divert first series) Extra.Without = refl
@@ -58,7 +58,7 @@ response_objective session i ttl (Targets.Divert first series) (Extra.With o) = 
 
 response_first : (session : ℕ) (i : Span) (ttl : ℕ) (targets : Targets) (extra : Extra)
     → get_or (response_block session i ttl targets extra) 14 0 ≡ first_at (target_rows targets)
-unfolding response_block targets_block with_extra with_objective front_block with_series sets target_rows
+unfolding response_block targets_block with_extra with_objective front_block with_series target_rows
 response_first session i ttl (Targets.Locators first series) Extra.Without = refl
 response_first session i ttl (Targets.Locators first series) (Extra.With o) = refl
 response_first session i ttl (Targets.Divert first series) Extra.Without = refl
@@ -67,7 +67,7 @@ response_first session i ttl (Targets.Divert first series) (Extra.With o) = refl
 -- and in an End
 end_bare : (session : ℕ) (outcome : Outcome)
     → (take 8 (drop 5 (end_block session outcome)) ≡ objective_read Extra.Without) × (get_or (end_block session outcome) 14 0 ≡ 0)
-unfolding end_block outcome_block with_span front_block sets
+unfolding end_block outcome_block with_span front_block
 end_bare session Outcome.Accept = (refl, refl)
 end_bare session Outcome.Decline = (refl, refl)
 end_bare session (Outcome.Reason reason) = (refl, refl)
@@ -77,7 +77,7 @@ end_bare session (Outcome.Reason reason) = (refl, refl)
 -- The block of a message that was read, once the reader's places are cleared, is the block of that message's
 -- description, beside a list of its rows.
 pub cleared_block : (m : Message) → cleared (block_of m) ≡ block_for (description_of m) (row_numbers (rows_in m))
-unfolding cleared pick block_of discovery_block exchange_block with_objective front_block with_series sets block_for description_of given_of rows_in row_numbers
+unfolding cleared pick block_of discovery_block exchange_block with_objective front_block with_series block_for description_of given_of rows_in row_numbers
 cleared_block M.Noop = refl
 cleared_block (M.Discovery session i o) = refl
 cleared_block (M.Response session i ttl targets extra) = response_cleared session i ttl targets extra
@@ -91,7 +91,8 @@ cleared_block (M.Flood session i ttl first pairs) = rw (mul-div_cancel_left pair
 cleared_block (M.Invalid session item) = invalid_cleared session item
 
 -- So it is taken as that description, whose numbers have the widths of their types.
-pub cleared_described : (m : Message) → DescriptionFits (description_of m) → described_by (cleared (block_of m)) (row_numbers (rows_in m)) ≡ As (description_of m)
+pub cleared_described : (m : Message) → DescriptionFits (description_of m)
+    → described_by (cleared (block_of m)) (row_numbers (rows_in m)) ≡ As (description_of m)
 cleared_described m fits =
     let numbers = row_numbers (rows_in m) in
     let is = cleared_block m in
@@ -99,7 +100,7 @@ cleared_described m fits =
 
 -- What is cleared is the message's objective, of a Flood its first pair's, with the place of its count's head,
 pub objective_places_lem : (m : Message) → take 8 (drop 5 (block_of m)) ≡ objective_read (objective_of m)
-unfolding block_of discovery_block exchange_block invalid_block with_objective front_block with_series with_span sets objective_of
+unfolding block_of discovery_block exchange_block invalid_block with_objective front_block with_series with_span objective_of
 objective_places_lem M.Noop = refl
 objective_places_lem (M.Discovery session i o) = refl
 objective_places_lem (M.Response session i ttl targets extra) = response_objective session i ttl targets extra
@@ -114,7 +115,7 @@ objective_places_lem (M.Invalid session item) = refl
 
 -- and the place of the first locator or pair. So these statements say every number of a block that was read.
 pub first_place : (m : Message) → get_or (block_of m) 14 0 ≡ first_at (rows_in m)
-unfolding block_of discovery_block exchange_block invalid_block with_objective front_block with_series with_span sets rows_in
+unfolding block_of discovery_block exchange_block invalid_block with_objective front_block with_series with_span rows_in
 first_place M.Noop = refl
 first_place (M.Discovery session i o) = refl
 first_place (M.Response session i ttl targets extra) = response_first session i ttl targets extra

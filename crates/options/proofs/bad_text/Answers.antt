@@ -1,7 +1,6 @@
 -- `options::bad_text` meets its contract.
 use Rattle.base.specs.Pick.{pick}
 use Rattle.options.specs.Text.{bad_text}
-use borrow.Author.Rules.{rules}
 use Rattle.options.proofs.bad_text.Goals as goal
 
 pub returns-then-is_utf8 : goal.returns-then-is_utf8

@@ -2,7 +2,6 @@
 use Rattle.base.proofs.Tests.{tests}
 use Rattle.base.specs.Pick.{pick}
 use Rattle.cbor.specs.Head.{initial_of}
-use borrow.Author.Rules.{rules}
 use Rattle.cbor.proofs.head.initial_byte.Goals as goal
 
 pub returns-then-info-eq31 : goal.returns-then-info-eq31

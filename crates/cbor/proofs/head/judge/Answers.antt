@@ -3,7 +3,6 @@ use borrow.Author.Tests.{lt-ltb, le-ltb, ne_eqb}
 use Rattle.base.proofs.Tests.{tests}
 use Rattle.base.specs.Pick.{pick}
 use Rattle.cbor.specs.Head.{judged}
-use borrow.Author.Rules.{rules}
 use Rattle.cbor.proofs.head.judge.Goals as goal
 
 pub returns-then-arg-lt32 : goal.returns-then-arg-lt32

@@ -7,7 +7,6 @@ use lib.ListN.{length, get_or, drop}
 use Rattle.base.proofs.Parts.{rest_is}
 use Rattle.cbor.specs.declared.head.HeadRead.{HeadRead}
 use Rattle.cbor.specs.Head.{head_of, head_at}
-use borrow.Author.Rules.{rules}
 use Rattle.cbor.proofs.head.read.Goals as goal
 
 empty : (s : List ℕ) → length s ≡ 0 → HeadRead.Refused 2 0 ≡ head_at s

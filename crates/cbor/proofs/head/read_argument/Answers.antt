@@ -2,7 +2,6 @@
 use Rattle.base.specs.Pick.{pick}
 use Rattle.cbor.specs.Head.{head_from, arg_of}
 use borrow.Author.Tests.{lt-ltb, le-ltb, eq-eqb, ne_eqb}
-use borrow.Author.Rules.{rules}
 use Rattle.cbor.proofs.head.read_argument.Goals as goal
 
 pub returns-then-rest-width : goal.returns-then-rest-width

@@ -2,7 +2,6 @@
 use mathlib.Core.Path.{sym, ap, ◌∙◌, subst}
 use Rattle.cbor.specs.Head.{head_of, head_by}
 use Rattle.cbor.proofs.Bounds.{InitialOk, initial_ok}
-use borrow.Author.Rules.{rules}
 use Rattle.cbor.proofs.head.read_from.Goals as goal
 
 pub read_argument-requires : goal.read_argument-requires

@@ -6,7 +6,6 @@ use Rattle.base.specs.Pick.{pick}
 use Rattle.cbor.specs.Item.{items_of}
 use Rattle.cbor.specs.Turn.{CommonIs}
 use Rattle.cbor.proofs.Common.{small_passed, string_passed, array_opened, by_byte}
-use borrow.Author.Rules.{rules}
 use Rattle.cbor.proofs.item.common_at.Goals as goal
 
 pub returns-then-s-at : goal.returns-then-s-at

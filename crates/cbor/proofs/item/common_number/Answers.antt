@@ -2,7 +2,6 @@
 use native.Mathlib.Omega.{arith}
 use Rattle.cbor.specs.Turn.{CommonIs}
 use Rattle.cbor.proofs.Common.{byte_passed, two_passed}
-use borrow.Author.Rules.{rules}
 use Rattle.cbor.proofs.item.common_number.Goals as goal
 
 pub returns-then-s-at-ge24 : goal.returns-then-s-at-ge24

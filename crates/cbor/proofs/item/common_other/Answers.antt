@@ -5,7 +5,6 @@ use Rattle.base.specs.Pick.{pick}
 use Rattle.cbor.specs.Item.{items_of}
 use Rattle.cbor.specs.Turn.{CommonIs}
 use Rattle.cbor.proofs.Common.{map_opened, tag_opened, simple_passed}
-use borrow.Author.Rules.{rules}
 use Rattle.cbor.proofs.item.common_other.Goals as goal
 
 pub returns-then-first-lt160 : goal.returns-then-first-lt160

@@ -1,19 +1,10 @@
 -- `cbor::item::first` meets its contract. `Inv` of `Turn` is the loop's invariant. The measure counts two for each byte
 -- left and one for each open level around the innermost: a turn passes a byte, and opens one level at most, or closes
 -- one.
-use mathlib.Core.Path.{◌≡◌, subst}
-use mathlib.Core.List.{List}
-use mathlib.Core.Bool.{Bool}
-use Prim.Native.Nat.{ℕ, ◌+◌, ◌-◌, ◌*◌, ◌^◌, ◌<◌}
+use Prim.Native.Nat.{◌-◌}
 use native.Mathlib.Omega.{arith}
-use borrow.Author.Rules.{rules}
-use lib.ListN.{length, drop}
-use Rattle.cbor.specs.declared.item.Step.{Step}
-use Rattle.cbor.specs.declared.item.Turn.{Turn}
-use Rattle.cbor.specs.Item.{step_at}
-use Rattle.cbor.specs.Turn.{Counts, TurnIs}
-use Rattle.cbor.proofs.Bounds.{StepOk}
-use Rattle.cbor.proofs.Turn.{Inv, begun, done, closed, fits, refused, passed, opened}
+use Rattle.cbor.specs.Turn.{TurnIs}
+use Rattle.cbor.proofs.Turn.{begun, done, closed, fits, refused, passed, opened}
 use Rattle.cbor.proofs.item.first.Goals as goal
 
 pub loop-lacking-init : goal.loop-lacking-init

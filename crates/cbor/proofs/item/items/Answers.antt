@@ -4,7 +4,6 @@ use native.Mathlib.Omega.{arith}
 use Rattle.base.specs.Pick.{pick}
 use Rattle.cbor.specs.Item.{items_of}
 use Rattle.cbor.specs.Turn.{Counts}
-use borrow.Author.Rules.{rules}
 use Rattle.cbor.proofs.item.items.Goals as goal
 
 pub returns-then-n-lt4611686018427387904 : goal.returns-then-n-lt4611686018427387904

@@ -3,7 +3,6 @@ use mathlib.Core.Path.{sym, ap, ◌∙◌, subst}
 use lib.ListN.{length}
 use Rattle.cbor.specs.Item.{step_at, step_from}
 use Rattle.cbor.proofs.Bounds.{HeadOk, head_ok}
-use borrow.Author.Rules.{rules}
 use Rattle.cbor.proofs.item.step_at.Goals as goal
 
 pub step_of-requires : goal.step_of-requires

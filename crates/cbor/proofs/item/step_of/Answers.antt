@@ -3,7 +3,6 @@ use Rattle.base.proofs.Tests.{tests}
 use borrow.Author.Tests.{ne_eqb, le-leb}
 use Rattle.base.specs.Pick.{pick}
 use Rattle.cbor.specs.Item.{step_of}
-use borrow.Author.Rules.{rules}
 use Rattle.cbor.proofs.item.step_of.Goals as goal
 
 pub returns-then-major-eq7 : goal.returns-then-major-eq7

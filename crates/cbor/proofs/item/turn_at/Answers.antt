@@ -1,12 +1,10 @@
 -- `cbor::item::turn_at` meets its contract.
 use mathlib.Core.Path.{ap, ◌∙◌, subst}
 use mathlib.Core.Logic.{inl}
-use lib.ListN.{drop}
 use Rattle.base.proofs.Parts.{rest_is}
 use Rattle.cbor.specs.declared.item.Step.{Step}
 use Rattle.cbor.specs.Item.{step_at}
 use Rattle.cbor.specs.Turn.{Counts, TurnIs, CommonIs}
-use borrow.Author.Rules.{rules}
 use Rattle.cbor.proofs.item.turn_at.Goals as goal
 
 pub returns-in-Passed : goal.returns-in-Passed

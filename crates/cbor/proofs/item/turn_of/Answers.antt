@@ -1,6 +1,5 @@
 -- `cbor::item::turn_of` meets its contract.
 use Rattle.cbor.specs.Turn.{TurnIs}
-use borrow.Author.Rules.{rules}
 use Rattle.cbor.proofs.item.turn_of.Goals as goal
 
 pub returns-in-Passed : goal.returns-in-Passed

@@ -3,7 +3,6 @@ use native.Mathlib.Omega.{arith}
 use Rattle.base.proofs.Clauses.{value_out}
 use Rattle.cbor.proofs.Stores.{all_over}
 use Rattle.cbor.proofs.Copies.{lent_stored}
-use borrow.Author.Rules.{rules}
 use Rattle.cbor.proofs.put.all.Goals as goal
 
 pub returns-then-room-at : goal.returns-then-room-at

@@ -1,8 +1,6 @@
 -- `cbor::put::copy` meets its contract. The loop's invariant: as many bytes as there were turns are those of s.
-use Prim.Native.Nat.{◌-◌, ◌≤◌}
-use mathlib.Core.Path.{◌≡◌, refl, ◌∙◌}
+use mathlib.Core.Path.{refl, ◌∙◌}
 use native.Mathlib.Omega.{arith}
-use lib.ListN.{length, take}
 use borrow.Author.Rules.{rules}
 use Rattle.cbor.proofs.Copies.{copy_turn, copy_done}
 use Rattle.cbor.proofs.put.copy.Goals as goal

@@ -1,10 +1,7 @@
 -- `cbor::put::copy` meets its contract. The loop's invariant: as many bytes as there were turns are those of s.
 use Prim.Native.Nat.{◌-◌, ◌≤◌}
-use mathlib.Core.Path.{◌≡◌, refl, ◌∙◌}
-use native.Mathlib.Omega.{arith}
+use mathlib.Core.Path.{◌≡◌}
 use lib.ListN.{length, take}
-use borrow.Author.Rules.{rules}
-use Rattle.cbor.proofs.Copies.{copy_turn, copy_done}
 use Rattle.cbor.proofs.put.copy.Given as goal
 
 abbrev pub invariant-loop-i : goal.invariant-loop-i

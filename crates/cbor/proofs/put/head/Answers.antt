@@ -3,7 +3,6 @@ use mathlib.Core.Path.{◌∙◌}
 use mathlib.Core.Logic.{inl}
 use native.Mathlib.Omega.{arith}
 use lib.ListN.{length-set}
-use borrow.Author.Rules.{rules}
 use Rattle.base.proofs.Clauses.{value_out}
 use Rattle.cbor.proofs.HeadExact.{info_lt}
 use Rattle.cbor.proofs.Stores.{sized_len, not_stored, head_over, head_stored}

@@ -1,12 +1,10 @@
 -- `cbor::put::spell` meets its contract. The loop's invariant: the bytes that are left, put into the buffer as it is,
 -- give what all of them give in the buffer as it was. The measure is how many are left.
-use mathlib.Core.Path.{◌≡◌, ◌∙◌}
+use mathlib.Core.Path.{◌≡◌}
 use Prim.Native.Nat.{◌≤◌}
-use borrow.Author.Rules.{rules}
 use lib.ListN.{length}
 use lib.Seq.{sets}
 use Rattle.base.specs.BigEndian.{bytes_of}
-use Rattle.cbor.proofs.Stores.{spell_turn, spell_end}
 use Rattle.cbor.proofs.put.spell.Given as goal
 
 abbrev pub invariant-loop-left : goal.invariant-loop-left

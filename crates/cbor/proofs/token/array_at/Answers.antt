@@ -2,7 +2,6 @@
 use mathlib.Core.Path.{refl}
 use Rattle.cbor.proofs.Common.{array_head}
 use Rattle.cbor.proofs.Tokens.{token_told}
-use borrow.Author.Rules.{rules}
 use Rattle.cbor.proofs.token.array_at.Goals as goal
 
 pub returns-then-first-lt152 : goal.returns-then-first-lt152

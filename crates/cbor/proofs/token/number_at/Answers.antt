@@ -4,7 +4,6 @@ use Prim.Native.Nat.{◌+◌}
 use native.Mathlib.Omega.{arith}
 use Rattle.cbor.proofs.Common.{small_head, two_bytes, three_bytes}
 use Rattle.cbor.proofs.Tokens.{token_told}
-use borrow.Author.Rules.{rules}
 use Rattle.cbor.proofs.token.number_at.Goals as goal
 
 pub returns-then-first-lt24 : goal.returns-then-first-lt24

@@ -2,7 +2,6 @@
 use mathlib.Core.Path.{refl}
 use Rattle.cbor.proofs.Common.{null_head}
 use Rattle.cbor.proofs.Tokens.{token_told}
-use borrow.Author.Rules.{rules}
 use Rattle.cbor.proofs.token.number_or_null_at.Goals as goal
 
 pub returns-then-s-at : goal.returns-then-s-at

@@ -4,7 +4,6 @@ use native.Mathlib.Nat.{le_of_lt}
 use Rattle.cbor.specs.declared.item.ItemRead.{ItemRead}
 use Rattle.cbor.specs.Token.{size_from}
 use Rattle.cbor.proofs.Tokens.{size_none, size_found}
-use borrow.Author.Rules.{rules}
 use Rattle.cbor.proofs.token.size_at.Goals as goal
 
 pub returns-then-s-at : goal.returns-then-s-at

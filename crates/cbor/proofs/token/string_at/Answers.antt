@@ -2,7 +2,6 @@
 use mathlib.Core.Path.{refl}
 use Rattle.cbor.proofs.Common.{one_byte}
 use Rattle.cbor.proofs.Tokens.{token_told}
-use borrow.Author.Rules.{rules}
 use Rattle.cbor.proofs.token.string_at.Goals as goal
 
 pub returns-then-info-lt24 : goal.returns-then-info-lt24

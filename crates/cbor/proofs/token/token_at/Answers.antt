@@ -5,7 +5,6 @@ use native.Mathlib.Omega.{arith}
 use Rattle.cbor.specs.declared.head.HeadRead.{HeadRead}
 use Rattle.cbor.specs.Token.{token_from}
 use Rattle.cbor.proofs.Tokens.{token_none, token_found, head_fits}
-use borrow.Author.Rules.{rules}
 use Rattle.cbor.proofs.token.token_at.Goals as goal
 
 pub returns-then-s-at : goal.returns-then-s-at

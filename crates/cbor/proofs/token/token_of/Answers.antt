@@ -2,7 +2,6 @@
 use Rattle.base.proofs.Tests.{tests}
 use Rattle.base.specs.Pick.{pick}
 use Rattle.cbor.specs.Token.{token_of}
-use borrow.Author.Rules.{rules}
 use Rattle.cbor.proofs.token.token_of.Goals as goal
 
 pub returns-then-arg-left : goal.returns-then-arg-left

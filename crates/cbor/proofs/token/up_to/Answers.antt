@@ -2,7 +2,6 @@
 use Rattle.base.proofs.Tests.{tests}
 use Rattle.base.specs.Pick.{pick}
 use Rattle.cbor.specs.Token.{up_to}
-use borrow.Author.Rules.{rules}
 use Rattle.cbor.proofs.token.up_to.Goals as goal
 
 pub returns-then-t-most : goal.returns-then-t-most

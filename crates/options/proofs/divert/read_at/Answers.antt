@@ -4,7 +4,6 @@ use native.Mathlib.Nat.{le_of_lt}
 use Rattle.base.proofs.Parts.{rest_is}
 use Rattle.options.proofs.Series.{divert_past}
 use Rattle.options.specs.Divert.{divert_in}
-use borrow.Author.Rules.{rules}
 use Rattle.options.proofs.divert.read_at.Goals as goal
 
 pub returns-then-s-at : goal.returns-then-s-at

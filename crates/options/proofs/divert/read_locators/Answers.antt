@@ -2,7 +2,6 @@
 use Rattle.base.specs.Pick.{pick}
 use Rattle.options.specs.Divert.{divert_led, divert_of}
 use borrow.Author.Tests.{eq-eqb, ne_eqb}
-use borrow.Author.Rules.{rules}
 use Rattle.options.proofs.divert.read_locators.Goals as goal
 
 pub returns-then-left-eq0 : goal.returns-then-left-eq0

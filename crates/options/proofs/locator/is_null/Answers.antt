@@ -7,7 +7,6 @@ use lib.Dec.{eqb}
 use borrow.Author.Tests.{ne_eqb}
 use Rattle.base.proofs.Tests.{tests}
 use Rattle.options.specs.Locator.{is_null}
-use borrow.Author.Rules.{rules}
 use Rattle.options.proofs.locator.is_null.Goals as goal
 
 -- a head that ends where it begins has no byte

@@ -1,6 +1,5 @@
 -- `options::locator::numbers_of` meets its contract.
 use Rattle.options.specs.Locator.{locator_numbers}
-use borrow.Author.Rules.{rules}
 use Rattle.options.proofs.locator.numbers_of.Goals as goal
 
 pub returns-in-V6 : goal.returns-in-V6

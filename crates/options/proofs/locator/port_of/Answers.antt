@@ -2,7 +2,6 @@
 use Rattle.base.specs.Pick.{pick}
 use Rattle.options.specs.Locator.{port_of}
 use borrow.Author.Tests.{le-leb, lt-leb, eq-eqb, ne_eqb}
-use borrow.Author.Rules.{rules}
 use Rattle.options.proofs.locator.port_of.Goals as goal
 
 pub returns-then-t-le-MOST_PORT : goal.returns-then-t-le-MOST_PORT

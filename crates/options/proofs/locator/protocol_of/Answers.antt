@@ -2,7 +2,6 @@
 use Rattle.base.specs.Pick.{pick}
 use Rattle.options.specs.Locator.{protocol_of}
 use borrow.Author.Tests.{eq-eqb, ne_eqb}
-use borrow.Author.Rules.{rules}
 use Rattle.options.proofs.locator.protocol_of.Goals as goal
 
 pub returns-then-t-eq6 : goal.returns-then-t-eq6

@@ -2,7 +2,6 @@
 use Rattle.base.specs.Pick.{pick}
 use Rattle.options.specs.Locator.{locator_in}
 use borrow.Author.Tests.{lt-ltb, le-ltb, eq-eqb, ne_eqb}
-use borrow.Author.Rules.{rules}
 use Rattle.options.proofs.locator.read_in.Goals as goal
 
 pub returns-then-items_in-eq0 : goal.returns-then-items_in-eq0

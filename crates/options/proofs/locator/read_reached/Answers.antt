@@ -2,7 +2,6 @@
 use Rattle.base.specs.Pick.{pick}
 use Rattle.options.specs.Locator.{locator_reached, text_of}
 use borrow.Author.Tests.{lt-ltb, le-ltb, eq-eqb, ne_eqb}
-use borrow.Author.Rules.{rules}
 use Rattle.options.proofs.locator.read_reached.Goals as goal
 
 pub returns-then-not-address_fits : goal.returns-then-not-address_fits

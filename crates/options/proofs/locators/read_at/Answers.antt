@@ -6,7 +6,6 @@ use native.Mathlib.Nat.{le_of_lt}
 use Rattle.base.proofs.Parts.{rest_is}
 use Rattle.options.proofs.Series.{locators_past}
 use Rattle.options.specs.Locators.{locators_in}
-use borrow.Author.Rules.{rules}
 use Rattle.options.proofs.locators.read_at.Goals as goal
 
 pub returns-then-s-at : goal.returns-then-s-at

@@ -5,7 +5,6 @@ use Rattle.options.specs.declared.locator.LocatorRead.{LocatorRead}
 use Rattle.options.specs.Locators.{locators_led}
 use Rattle.options.proofs.Fits.{locator_fits}
 use Rattle.options.proofs.Series.{first_found}
-use borrow.Author.Rules.{rules}
 use Rattle.options.proofs.locators.read_in.Goals as goal
 
 pub overflow_add-from : goal.overflow_add-from

@@ -1,11 +1,7 @@
 -- `options::locators::read_more` meets its contract: what is left of the loop is the whole.
-use mathlib.Core.Path.{refl}
 use Prim.Native.Nat.{◌≤◌}
-use native.Mathlib.Omega.{arith}
 use lib.ListN.{length}
-use borrow.Author.Rules.{rules}
-use Rattle.options.proofs.Fits.{locator_fits}
-use Rattle.options.proofs.Series.{Turns, turns_end, turns_stop, turns_bad, turns_next}
+use Rattle.options.proofs.Series.{Turns}
 use Rattle.options.proofs.locators.read_more.Given as goal
 
 abbrev pub invariant-loop-left : goal.invariant-loop-left

@@ -2,7 +2,6 @@
 use Rattle.base.specs.Pick.{pick}
 use Rattle.options.specs.Locators.{text_led}
 use borrow.Author.Tests.{eq-eqb, ne_eqb}
-use borrow.Author.Rules.{rules}
 use Rattle.options.proofs.locators.text_led.Goals as goal
 
 pub returns-then-items_in-eq0 : goal.returns-then-items_in-eq0

@@ -1,7 +1,6 @@
 -- `options::objective::objective_of` meets its contract.
 use mathlib.Core.Path.{refl}
 use Rattle.options.specs.Objective.{objective_from}
-use borrow.Author.Rules.{rules}
 use Rattle.options.proofs.objective.objective_of.Goals as goal
 
 pub returns : goal.returns

@@ -3,7 +3,6 @@ use Rattle.base.specs.Pick.{pick}
 use Rattle.options.specs.Objective.{objective_named}
 use borrow.Author.Tests.{lt-ltb, le-ltb, eq-eqb, ne_eqb}
 use native.Mathlib.Omega.{arith}
-use borrow.Author.Rules.{rules}
 use Rattle.options.proofs.objective.read_named.Goals as goal
 
 pub returns-then-flags-gt15 : goal.returns-then-flags-gt15

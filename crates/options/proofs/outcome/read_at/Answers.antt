@@ -4,7 +4,6 @@ use native.Mathlib.Nat.{le_of_lt}
 use Rattle.base.proofs.Parts.{rest_is}
 use Rattle.options.proofs.Fits.{outcome_past}
 use Rattle.options.specs.Outcome.{outcome_in}
-use borrow.Author.Rules.{rules}
 use Rattle.options.proofs.outcome.read_at.Goals as goal
 
 pub returns-then-s-at : goal.returns-then-s-at

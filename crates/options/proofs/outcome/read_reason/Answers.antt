@@ -2,7 +2,6 @@
 use Rattle.base.specs.Pick.{pick}
 use Rattle.options.specs.Outcome.{reason_in}
 use borrow.Author.Tests.{eq-eqb, ne_eqb}
-use borrow.Author.Rules.{rules}
 use Rattle.options.proofs.outcome.read_reason.Goals as goal
 
 pub returns-then-t-ne3 : goal.returns-then-t-ne3

@@ -1,6 +1,5 @@
 -- `options::pair::numbers_of` meets its contract.
 use Rattle.options.specs.Pair.{pair_numbers}
-use borrow.Author.Rules.{rules}
 use Rattle.options.proofs.pair.numbers_of.Goals as goal
 
 pub returns : goal.returns

@@ -6,7 +6,6 @@ use borrow.Author.Tests.{eq-eqb, ne_eqb}
 use Rattle.options.specs.declared.objective.ObjectiveRead.{ObjectiveRead}
 use Rattle.options.specs.Pair.{pair_in, pair_led}
 use Rattle.options.proofs.Fits.{objective_fits, pair_found}
-use borrow.Author.Rules.{rules}
 use Rattle.options.proofs.pair.read_in.Goals as goal
 
 pub returns-then-items_in-eq0 : goal.returns-then-items_in-eq0

@@ -4,7 +4,6 @@ use native.Mathlib.Omega.{arith}
 use Rattle.options.specs.declared.locator.LocatorRead.{LocatorRead}
 use Rattle.options.specs.Pair.{pair_tail, pair_tagged}
 use Rattle.options.proofs.Fits.{locator_fits, tail_found}
-use borrow.Author.Rules.{rules}
 use Rattle.options.proofs.pair.read_tag.Goals as goal
 
 pub returns-then-is_empty : goal.returns-then-is_empty

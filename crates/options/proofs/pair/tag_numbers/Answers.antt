@@ -1,6 +1,5 @@
 -- `options::pair::tag_numbers` meets its contract.
 use Rattle.options.specs.Pair.{tag_numbers}
-use borrow.Author.Rules.{rules}
 use Rattle.options.proofs.pair.tag_numbers.Goals as goal
 
 pub returns-in-Empty : goal.returns-in-Empty

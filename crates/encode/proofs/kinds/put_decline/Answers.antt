@@ -1,0 +1,9 @@
+-- `encode::kinds::put_decline` meets its contract.
+use Rattle.rfc8990.specs.Encoding.{encode_outc, encode_msg}
+use Rattle.encode.proofs.Puts.{then}
+use Rattle.encode.proofs.kinds.put_decline.Goals as goal
+
+pub returns : goal.returns
+unfolding encode_msg encode_outc
+returns c = then c.put_preamble-a.ensures
+    (then c.head-b.ensures c.head.ensures)

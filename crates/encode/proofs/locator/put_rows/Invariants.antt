@@ -1,0 +1,16 @@
+-- `encode::locator::put_rows` meets its contract.
+use Prim.Native.Nat.{◌≤◌, ◌-◌, ◌/◌}
+use mathlib.Core.Path.{◌≡◌}
+use lib.ListN.{length}
+use Rattle.encode.specs.Put.{Wrote}
+use Rattle.rfc8990.specs.Encoding.{encode_loc}
+use Rattle.description.specs.Meaning.{locator_row, row_loc}
+use Rattle.encode.proofs.PutRows.{first_rows}
+use Rattle.encode.proofs.locator.put_rows.Given as goal
+
+abbrev pub invariant-loop-i : goal.invariant-loop-i
+invariant-loop-i l =
+    (l.i ≤ length l.list / locator_row) × (length l.out ≡ length l.initial.out) × Wrote l.initial.out l.out l.at (first_rows encode_loc (row_loc l.source l.list) l.i) l.end
+
+abbrev pub decreases-loop-i : goal.decreases-loop-i
+decreases-loop-i l = length l.list / locator_row - l.i
