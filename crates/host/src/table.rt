@@ -24,7 +24,7 @@ fn spelled_by(a: u8, b: u8, c: u8, d: u8, e: u8, f: u8, g: u8, h: u8) -> u64
 
 // Number i of the table.
 fn number_at(bytes: &[u8], i: usize) -> u64
-    requires size { length bytes.now ≡ table_bytes }
+    requires bytes { length bytes.now ≡ table_bytes }
     requires within { i < table_numbers }
     ensures { result ≡ big_endian (drop (8 * i) bytes.now) 8 }
 {
@@ -43,8 +43,8 @@ fn number_at(bytes: &[u8], i: usize) -> u64
 
 // The table's numbers, from its bytes; four to a turn, which is faster than one.
 pub(crate) fn load(bytes: &[u8], table: &mut [u64])
-    requires size { length bytes.now ≡ table_bytes }
-    requires size { length table.old ≡ table_numbers }
+    requires bytes { length bytes.now ≡ table_bytes }
+    requires numbers { length table.old ≡ table_numbers }
     ensures { table.new ≡ loaded bytes.now }
 {
     let mut i: usize = 0;
@@ -59,7 +59,7 @@ pub(crate) fn load(bytes: &[u8], table: &mut [u64])
 
 // A number's eight bytes.
 fn put_number(bytes: &mut [u8], i: usize, x: u64)
-    requires size { length bytes.old ≡ table_bytes }
+    requires bytes { length bytes.old ≡ table_bytes }
     requires within { i < table_numbers }
     ensures { bytes.new ≡ sets bytes.old (8 * i) (bytes_of 8 x) }
 {
@@ -76,8 +76,8 @@ fn put_number(bytes: &mut [u8], i: usize, x: u64)
 
 // The table's bytes, from its numbers; four to a turn.
 pub(crate) fn save(table: &[u64], bytes: &mut [u8])
-    requires size { length table.now ≡ table_numbers }
-    requires size { length bytes.old ≡ table_bytes }
+    requires numbers { length table.now ≡ table_numbers }
+    requires bytes { length bytes.old ≡ table_bytes }
     ensures { bytes.new ≡ saved table.now }
 {
     let mut i: usize = 0;

@@ -42,7 +42,8 @@ names_bad s = pick (eqb (length s) 0) true (pick (ltb most_bytes (length s)) tru
 -- one of n names from `at` on is `name`
 unfoldable pub named_from : List ℕ → List ℕ → ℕ → ℕ → Bool
 named_from s name zero at = false
-named_from s name (suc n) at = same_bytes (content_in s (token_at s at)) name || named_from s name n (token_at s at).next
+named_from s name (suc n) at =
+    same_bytes (content_in s (token_at s at)) name || named_from s name n (token_at s at).next
 
 -- one of the names s is `name`
 unfoldable pub is_named : List ℕ → List ℕ → Bool

@@ -20,7 +20,8 @@ use Rattle.options.specs.declared.outcome.Outcome.{Outcome}
 use Rattle.message.specs.declared.Message.{Message}
 use Rattle.message_laws.specs.Describes.{SeriesIs, TargetsIs, ExtraIs, OutcomeIs, Describes}
 use Rattle.message_laws.proofs.Described.{locators_count, pairs_count}
-use Rattle.description.specs.Meaning.{locator_row, pair_row, locator_row_loc, locator_row_at, row_loc, locs_of, targets_of, extra_of, row_pair, pairs_of, end_of, msg_of}
+use Rattle.description.specs.Meaning.{locator_row, pair_row, locator_row_loc, locator_row_at, row_loc, locs_of, targets_of, extra_of, row_pair}
+use Rattle.description.specs.Meaning.{pairs_of, end_of, msg_of}
 use Rattle.forms.specs.Describe as D
 use Rattle.forms.specs.Rows as R
 use Rattle.writer_laws.specs.Plain.{value_bytes, plain}

@@ -36,8 +36,9 @@ use Rattle.description.specs.declared.Description.{Description}
 use Rattle.description.specs.declared.Description.TheVariants as D
 use Rattle.description.specs.Meaning.{locator_row, pair_row, objective_row, list_of, objective_row_of, obj_of}
 use Rattle.description.specs.Meaning.{locator_row_at, objective_row_at, row_pair, pairs_of, extra_of, msg_of}
-use Rattle.description.specs.Judge.{ok_discovery, ok_response, ok_flood, ok_parts, ok_list, ok_described, alone, whole, inside, ok_value, ok_item, ok_objective_row}
-use Rattle.description.specs.Judge.{ok_locator_row, blank_locator_row, ok_none_or, all_from, ok_each, ok_row, ok_rows, ok_pair, ok_pairs, ok_extra, ok_outcome}
+use Rattle.description.specs.Judge.{ok_discovery, ok_response, ok_flood, ok_parts, ok_list, ok_described, alone, whole, inside, ok_value, ok_item}
+use Rattle.description.specs.Judge.{ok_objective_row, ok_locator_row, blank_locator_row, ok_none_or, all_from}
+use Rattle.description.specs.Judge.{ok_each, ok_row, ok_rows, ok_pair, ok_pairs, ok_extra, ok_outcome}
 use Rattle.writer_laws.specs.Says.{Inside, ObjectiveRowSays, LocatorRowSays, Blank, PairSays, Rows, ExtraSays, OutcomeSays, PartsSay}
 use Rattle.writer_laws.proofs.Script.{Each, Valued}
 use Rattle.writer_laws.proofs.Once.{ValuedObj, ValuedPair, ValuedMsg}

@@ -82,5 +82,5 @@ module _ (s : List ℕ) where
   locators_rows {p} a (LocatorItems.more i is) =
       let c = split a in
       let (l, bad, read, described) = locator_read c.first i in
-      let (rows, more) = locators_rows c.rest is in
+      let (rows, more) = locators_rows {p = (split a).mid} c.rest is in
       (locator_numbers l ∷ rows, Chain.step (locator_five l) (λ i list. locator_row_lem p i list read) (locator_told described) (locator_next_lem p read) more)

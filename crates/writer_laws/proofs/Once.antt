@@ -12,7 +12,7 @@ use Rattle.cbor.specs.Put.{head}
 use Rattle.cbor.specs.Tree.{head_bytes}
 use Rattle.rfc8990.specs.Limits.{most_bytes}
 use Rattle.rfc8990.specs.Message.{Loc, Obj, Pair, Tgts, Outc, Msg}
-use Rattle.rfc8990.specs.Encoding.{string, number_or_null, reached, fixed, encode_loc, one_more, encode_obj, maybe_obj, how_many, loc_or_empty}
+use Rattle.rfc8990.specs.Encoding.{number_or_null, reached, fixed, encode_loc, one_more, encode_obj, maybe_obj, how_many, loc_or_empty}
 use Rattle.rfc8990.specs.Encoding.{encode_pair, target_items, encode_targets, encode_outc, preamble, exchange, encode_msg}
 use Rattle.description.proofs.Items.{more_le}
 use Rattle.writer_laws.proofs.Script.{Small, Piece, spell, spells, Like, Valued, array_rest, array_next, number_next, string_next, array_none}
@@ -257,7 +257,8 @@ pair_ext : (p p' : Pair (List ℕ)) → p.0 ≡ p'.0 → p.1 ≡ p'.1 → p ≡ 
 pair_ext p p' a b = ap₂ (λ (o : Obj (List ℕ)) (l : Option Loc). (o, l)) a b
 
 -- a pair passed
-pair_next_lem : {p p' : Pair (List ℕ)} {ts ts' : List Piece} → SmallPair p → ValuedPair p → ValuedPair p' → Like (pair p ts) (pair p' ts') → (p ≡ p') × Like ts ts'
+pair_next_lem : {p p' : Pair (List ℕ)} {ts ts' : List Piece} → SmallPair p → ValuedPair p → ValuedPair p' → Like (pair p ts) (pair p' ts')
+    → (p ≡ p') × Like ts ts'
 pair_next_lem {p} {p'} (ho, ht) v v' l =
     let (same, l₁) = objective_next ho v v' (array_rest l) in
     let (tag, l₂) = tagged_next p.1 p'.1 ht l₁ in

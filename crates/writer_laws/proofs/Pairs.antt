@@ -13,7 +13,6 @@ use lib.Seq.{sets, get_or-append-add}
 use Rattle.base.specs.Pick.{pick}
 use Rattle.cbor.specs.Item.{left_under}
 use Rattle.cbor.specs.Tree.{Items, depth, depths}
-use Rattle.options.specs.declared.locator.Locator.{Locator}
 use Rattle.options.specs.declared.locator.Locator.TheVariants as L
 use Rattle.options.specs.declared.objective.Objective.{Objective}
 use Rattle.options.specs.declared.pair.Tag.{Tag}
@@ -134,5 +133,6 @@ module _ (s : List ℕ) where
   pairs_rows {p} d a (PairItems.more i is) =
       let c = split a in
       let (o, tag, bad, long, read, described) = pair_read c.first (omega (arith, d)) i in
-      let (rows, more) = pairs_rows (omega (arith, d)) c.rest is in
-      (R.pair_cells o tag ∷ rows, Chain.step {rows = rows} (pair_twelve o tag) (λ i list. pair_row_lem p i list read) (pair_told described) (pair_next_lem p read) more)
+      let (rows, more) = pairs_rows {p = (split a).mid} (omega (arith, d)) c.rest is in
+      let step = Chain.step {rows = rows} (pair_twelve o tag) (λ i list. pair_row_lem p i list read) (pair_told described) (pair_next_lem p read) more in
+      (R.pair_cells o tag ∷ rows, step)

@@ -89,8 +89,8 @@ no_pair : {place : ℕ} {o : Objective} {t : Tag} {size : ℕ} → PairRead.Bad 
 no_pair q = let z : ◌≡◌ {A = ℕ} 0 1 = cc in omega arith
 
 -- a pair without fault is of an objective without fault
-tail_none : (base : ℕ) (s : List ℕ) (at : ℕ) (o o' : Objective) (bad long : ℕ) {t : Tag} {size : ℕ} → pair_tail base s at o bad long ≡ PairRead.Got o' t size 0 0
-    → (o ≡ o') × (bad ≡ 0) × (long ≡ 0)
+tail_none : (base : ℕ) (s : List ℕ) (at : ℕ) (o o' : Objective) (bad long : ℕ) {t : Tag} {size : ℕ}
+    → pair_tail base s at o bad long ≡ PairRead.Got o' t size 0 0 → (o ≡ o') × (bad ≡ 0) × (long ≡ 0)
 unfolding pair_tail pair_tagged
 tail_none base s at o o' bad long {t} {size} = both P (is_empty (token_at s at)) (λ q. (cc, cc, cc)) (by (locator_in (base + at) (drop at s)))
   where

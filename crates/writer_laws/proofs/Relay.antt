@@ -18,7 +18,6 @@ use Rattle.rfc8990.specs.Message.{Msg}
 use Rattle.rfc8990.specs.Cddl.{Value}
 use Rattle.rfc8990.specs.Limits.{TextsGood, NamesGood, texts_of, names_of, pair_texts}
 use Rattle.message.specs.declared.Message.{Message}
-use Rattle.message.specs.declared.Message.TheVariants as M
 use Rattle.reader.specs.declared.Reading.{Reading}
 use Rattle.rfc8990.specs.Limits.{most_bytes}
 use Rattle.message.specs.Examined.{examined}

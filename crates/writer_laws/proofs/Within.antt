@@ -70,7 +70,8 @@ optional_small OptionalItems.without = tt
 optional_small (OptionalItems.with_one o) = objective_small o
 
 -- those of a Response's locators or divert, and of its objective
-tgts_small : {xs : Items} {tgts : Tgts} {o : Option (Obj Value)} → TgtsItems xs tgts o → SmallTargets tgts × Each SmallObj (Option.map (valued_obj value_bytes) o)
+tgts_small : {xs : Items} {tgts : Tgts} {o : Option (Obj Value)} → TgtsItems xs tgts o
+    → SmallTargets tgts × Each SmallObj (Option.map (valued_obj value_bytes) o)
 tgts_small (TgtsItems.locators is o) = (locators_small is, optional_small o)
 tgts_small (TgtsItems.divert is o) = (locators_small is, optional_small o)
 

@@ -2,7 +2,6 @@
 use Rattle.message.specs.Examined.{examined}
 use Rattle.base.specs.Pick.{pick}
 use borrow.Author.Tests.{lt-ltb, le-ltb, eq-eqb, ne_eqb}
-use borrow.Author.Rules.{rules}
 use Rattle.message.proofs.examine.Goals as goal
 use Rattle.message.proofs.examine.Goals.{then-k-gt9+else-k-ne99, else-k-gt9}
 

@@ -2,7 +2,6 @@
 use Rattle.message.specs.Examined.{judged_shape}
 use Rattle.base.specs.Pick.{pick}
 use borrow.Author.Tests.{eq-eqb, ne_eqb}
-use borrow.Author.Rules.{rules}
 use Rattle.message.proofs.judge.Goals as goal
 
 pub returns-in-Bad : goal.returns-in-Bad

@@ -1,7 +1,6 @@
 -- `message::fields::initiator_of` meets its contract.
 use mathlib.Core.Path.{sym, ap}
 use Rattle.message.specs.Fields.{initiator_of}
-use borrow.Author.Rules.{rules}
 use Rattle.message.proofs.fields.initiator_of.Goals as goal
 
 pub returns-in-Noop : goal.returns-in-Noop

@@ -1,7 +1,6 @@
 -- `message::fields::objective_of` meets its contract.
 use mathlib.Core.Path.{sym, ap}
 use Rattle.message.specs.Fields.{objective_of}
-use borrow.Author.Rules.{rules}
 use Rattle.message.proofs.fields.objective_of.Goals as goal
 
 pub returns-in-Noop : goal.returns-in-Noop

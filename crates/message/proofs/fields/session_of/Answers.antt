@@ -1,7 +1,6 @@
 -- `message::fields::session_of` meets its contract.
 use mathlib.Core.Path.{sym, ap}
 use Rattle.message.specs.Fields.{session_of}
-use borrow.Author.Rules.{rules}
 use Rattle.message.proofs.fields.session_of.Goals as goal
 
 pub returns-in-Noop : goal.returns-in-Noop

@@ -2,7 +2,6 @@
 use native.Mathlib.Omega.{arith}
 use Rattle.options.proofs.Fits.{pair_within}
 use Rattle.message.specs.Flood.{flooded_at, flooded_of, flooded_by}
-use borrow.Author.Rules.{rules}
 use Rattle.message.proofs.flood.flooded_at.Goals as goal
 
 pub overflow_add-at : goal.overflow_add-at

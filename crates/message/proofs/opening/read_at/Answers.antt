@@ -2,7 +2,6 @@
 use Rattle.message.specs.Opening.{opening_at}
 use Rattle.base.specs.Pick.{pick}
 use borrow.Author.Tests.{lt-ltb, le-ltb}
-use borrow.Author.Rules.{rules}
 use Rattle.message.proofs.opening.read_at.Goals as goal
 
 pub returns-then-session : goal.returns-then-session

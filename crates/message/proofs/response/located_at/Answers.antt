@@ -3,7 +3,6 @@ use native.Mathlib.Omega.{arith}
 use lib.ListN.{length-drop}
 use Rattle.options.proofs.Series.{locators_within}
 use Rattle.message.specs.Response.{located_at, located_of}
-use borrow.Author.Rules.{rules}
 use Rattle.message.proofs.response.located_at.Goals as goal
 
 pub overflow_sub-series : goal.overflow_sub-series

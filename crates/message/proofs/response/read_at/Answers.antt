@@ -3,7 +3,6 @@ use native.Mathlib.Omega.{arith}
 use Rattle.message.specs.Response.{response_at, response_by}
 use Rattle.base.specs.Pick.{pick}
 use borrow.Author.Tests.{lt-ltb, le-ltb}
-use borrow.Author.Rules.{rules}
 use Rattle.message.proofs.response.read_at.Goals as goal
 
 pub returns-then-n-lt5 : goal.returns-then-n-lt5

@@ -4,7 +4,6 @@ use Rattle.base.specs.Pick.{pick}
 use Rattle.options.proofs.Fits.{objective_within}
 use native.Mathlib.Omega.{arith}
 use borrow.Author.Tests.{eq-eqb, ne_eqb}
-use borrow.Author.Rules.{rules}
 use Rattle.message.proofs.response.rest_at.Goals as goal
 
 pub returns-then-left-eq0 : goal.returns-then-left-eq0

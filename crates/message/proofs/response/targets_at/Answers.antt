@@ -3,7 +3,6 @@ use native.Mathlib.Omega.{arith}
 use lib.ListN.{length-drop}
 use Rattle.options.proofs.Series.{divert_within}
 use Rattle.message.specs.Response.{targets_at, targets_of}
-use borrow.Author.Rules.{rules}
 use Rattle.message.proofs.response.targets_at.Goals as goal
 
 pub overflow_add-at : goal.overflow_add-at

@@ -1,9 +1,8 @@
 -- `message::sequence::read_pairs` meets its contract.
 use mathlib.Core.Path.{refl}
 use native.Mathlib.Omega.{arith}
-use borrow.Author.Rules.{rules}
 use Rattle.options.proofs.Fits.{pair_within}
-use Rattle.message.proofs.Fits.{Paired, paired_end, paired_bad, paired_next}
+use Rattle.message.proofs.Fits.{paired_end, paired_bad, paired_next}
 use Rattle.message.proofs.sequence.read_pairs.Goals as goal
 
 pub loop-left-init : goal.loop-left-init

@@ -2,7 +2,6 @@
 use Rattle.message.specs.Examined.{by_kind}
 use Rattle.base.specs.Pick.{pick}
 use borrow.Author.Tests.{eq-eqb, ne_eqb}
-use borrow.Author.Rules.{rules}
 use Rattle.message.proofs.shape.by_kind.Goals as goal
 
 pub returns-then-kind-eq0 : goal.returns-then-kind-eq0

@@ -4,7 +4,6 @@ use Rattle.base.specs.Pick.{pick}
 use borrow.Author.Tests.{lt-ltb, le-ltb, eq-eqb, ne_eqb}
 use Rattle.options.proofs.Fits.{outcome_within}
 use Rattle.message.specs.Shape.{end_at, ended}
-use borrow.Author.Rules.{rules}
 use Rattle.message.proofs.shape.end_at.Goals as goal
 
 pub returns-then-n-ne3 : goal.returns-then-n-ne3

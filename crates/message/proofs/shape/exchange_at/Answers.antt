@@ -4,7 +4,6 @@ use Rattle.base.specs.Pick.{pick}
 use Rattle.options.proofs.Fits.{objective_within}
 use Rattle.message.specs.Shape.{exchange_at, exchanged}
 use borrow.Author.Tests.{lt-ltb, le-ltb, eq-eqb, ne_eqb}
-use borrow.Author.Rules.{rules}
 use Rattle.message.proofs.shape.exchange_at.Goals as goal
 
 pub returns-then-n-ne3 : goal.returns-then-n-ne3

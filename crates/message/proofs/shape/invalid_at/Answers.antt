@@ -2,7 +2,6 @@
 use Rattle.message.specs.Shape.{invalid_at}
 use Rattle.base.specs.Pick.{pick}
 use borrow.Author.Tests.{lt-ltb, le-ltb, eq-eqb, ne_eqb}
-use borrow.Author.Rules.{rules}
 use Rattle.message.proofs.shape.invalid_at.Goals as goal
 
 pub returns-then-n-lt2 : goal.returns-then-n-lt2

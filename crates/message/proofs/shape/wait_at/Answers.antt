@@ -2,7 +2,6 @@
 use Rattle.message.specs.Shape.{wait_at}
 use Rattle.base.specs.Pick.{pick}
 use borrow.Author.Tests.{lt-ltb, le-ltb, eq-eqb, ne_eqb}
-use borrow.Author.Rules.{rules}
 use Rattle.message.proofs.shape.wait_at.Goals as goal
 
 pub returns-then-n-ne3 : goal.returns-then-n-ne3
