@@ -1,6 +1,5 @@
 -- `read_message::line::line_of` meets its contract.
 use Rattle.read_message.specs.Line.{line_of, line_from}
-use borrow.Author.Rules.{rules}
 use Rattle.read_message.proofs.line.line_of.Goals as goal
 
 pub returns-in-Refused : goal.returns-in-Refused
