@@ -167,5 +167,6 @@ named_complete {s} {p} name (TextItems.more {xs = xs} are) stand (Memᴰ.head e)
     rw (same_complete (content_in s (token_at s p)) name (t.content ∙ sym e)) refl
 named_complete {s} {p} name (TextItems.more {xs = xs} are) stand (Memᴰ.tail m) =
     let c = split stand in
-    let later : named_from s name (count xs) (token_at s p).next ≡ true = rw (text_read c.first).next (named_complete {p = (split stand).mid} name are c.rest m) in
+    let later : named_from s name (count xs) (token_at s p).next ≡ true =
+    rw (text_read c.first).next (named_complete {p = (split stand).mid} name are c.rest m) in
     rw later (B.or-true (same_bytes (content_in s (token_at s p)) name))
