@@ -145,6 +145,7 @@ module _ (k : Key) (row then : ℕ) where
   one_key now t small (inl over) new = over
   one_key now t small (inr h) new = absurd (unknown k t row then new small h)
 
-  pub one_row_lem : (now : ℕ) (t : List ℕ) → 0 < k.first → lowest_free t < 64 → StillThere k row then now t → row ≡ lowest_free t → then + row_life k.first ≤ now
+  pub one_row_lem : (now : ℕ) (t : List ℕ) → 0 < k.first → lowest_free t < 64 → StillThere k row then now t → row ≡ lowest_free t
+      → then + row_life k.first ≤ now
   one_row_lem now t used room (inl over) e = over
   one_row_lem now t used room (inr h) e = absurd (other_row t used room h e)

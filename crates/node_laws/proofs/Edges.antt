@@ -75,11 +75,12 @@ pub starred :
     ∷ [])
     × (outcomes (arrives 1000 (flood_bytes 2) ∷ [])
     ≡ after_of (replies (Given Relay true 6 20) (node 1000 2)) (one_row (7 + 2 ^ 32 * 3) 0xc0000201 0 1000) (flood_bytes 1 ++ replicate 2028 0) ∷ [])
-unfolding pick big_endian bytes_of width_of least_of initial_of arg_of judged head_from head_by head_of head_at opens step_of step_from step_at items_of next run enough
-    first_item nothing_at token_of token_from token_at size_from size_at items_in up_to tails_of least_tail greatest_tail goes_on is_utf8 info_of head_bytes shortest head
-    bad_text first_of long_name objective_from objective_in objective_named is_empty pair_tagged pair_tail pair_led pair_in is_initiator opening_at pair_then pairs_from noop_at
-    discovered discovery_at reason_in outcome_in ended end_at flooded_by flooded_of flooded_at flood_by flood_at by_kind judged_shape examined framed read_placed placeless
-    read_of lowered good_name good_names array_bad framed_bad names_bad same_bytes named_from is_named links_bad record_bad fresh has_bit arrival_bad others clocked
-    tallied fresh_table cell put_row row_free tag_in initiator_fits row_keyed row_used row_bad first_from some_row table_bad row_life row_dead free_rows freed lowest_free
-    row_matches is_known role_of tag_of key_of key_in barred refuse quiet later_verdict verdict_on relayed carried_out taken received node_call steps ones ones_in
+unfolding pick big_endian bytes_of width_of least_of initial_of arg_of judged head_from head_by head_of head_at opens step_of step_from step_at items_of next
+    run enough first_item nothing_at token_of token_from token_at size_from size_at items_in up_to tails_of least_tail greatest_tail goes_on is_utf8 info_of
+    head_bytes shortest head bad_text first_of long_name objective_from objective_in objective_named is_empty pair_tagged pair_tail pair_led pair_in
+    is_initiator opening_at pair_then pairs_from noop_at discovered discovery_at reason_in outcome_in ended end_at flooded_by flooded_of flooded_at flood_by
+    flood_at by_kind judged_shape examined framed read_placed placeless read_of lowered good_name good_names array_bad framed_bad names_bad same_bytes
+    named_from is_named links_bad record_bad fresh has_bit arrival_bad others clocked tallied fresh_table cell put_row row_free tag_in initiator_fits row_keyed
+    row_used row_bad first_from some_row table_bad row_life row_dead free_rows freed lowest_free row_matches is_known role_of tag_of key_of key_in barred refuse
+    quiet later_verdict verdict_on relayed carried_out taken received node_call steps ones ones_in
 starred = (refl, refl, refl, refl, refl, refl, refl, refl, refl, refl, refl, refl, refl, refl, refl, refl, refl, refl, refl)

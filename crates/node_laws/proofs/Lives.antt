@@ -117,7 +117,7 @@ used_is now t i = (there, back)
 pub row_passes : (now : ℕ) (t : List ℕ) (i : ℕ) → Free t i ⊎ Used now t i → row_bad now t i ≡ false
 unfolding row_bad
 row_passes now t i (inl f) = rw ((free_is t i).1 f) refl
-row_passes now t i (inr u) = rw ((used_is now t i).1 u) (ap not (B.or_true (row_free t i)))
+row_passes now t i (inr u) = rw ((used_is now t i).1 u) (ap not (B.or-true (row_free t i)))
 
 -- ---- what freeing leaves
 

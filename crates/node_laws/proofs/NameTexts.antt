@@ -126,7 +126,7 @@ names_complete {s} {p} (TextItems.more {xs = xs} are) stand utf8 short =
     let c = split stand in
     let t = text_read c.first in
     and_true (good_name s (token_at s p)) (good_names s (count xs) (token_at s p).next) (name_complete t utf8.0 short.0)
-    (rw t.next (names_complete are c.rest utf8.1 short.1))
+    (rw t.next (names_complete {p = (split stand).mid} are c.rest utf8.1 short.1))
 
 -- ---- a name among them
 -- byte for byte
@@ -155,16 +155,18 @@ named_sound {s} {p} name (TextItems.more {xs = xs} are) stand own =
     let t = text_read c.first in
     elim (or_true (same_bytes (content_in s (token_at s p)) name) (named_from s name (count xs) (token_at s p).next) own) [
       | inl here ↦ Memᴰ.head (sym (sym t.content ∙ same_sound (content_in s (token_at s p)) name here))
-      | inr later ↦ Memᴰ.tail (named_sound name are c.rest (rw t.next at later))
+      | inr later ↦ Memᴰ.tail (named_sound {p = (split stand).mid} name are c.rest (rw t.next at later))
     ]
 
 pub named_complete : {s : List ℕ} {p e : ℕ} {xs : Items} {names : List (List ℕ)} (name : List ℕ) → TextItems xs names → StandAll s p e xs
     → Memᴰ name names → named_from s name (count xs) p ≡ true
 unfolding named_from count
+named_complete {s = s} {p = p} {e = e} name TextItems.empty stand r = elim r [ ]
 named_complete {s} {p} name (TextItems.more {xs = xs} are) stand (Memᴰ.head e) =
     let t = text_read (split stand).first in
     rw (same_complete (content_in s (token_at s p)) name (t.content ∙ sym e)) refl
 named_complete {s} {p} name (TextItems.more {xs = xs} are) stand (Memᴰ.tail m) =
     let c = split stand in
-    let later : named_from s name (count xs) (token_at s p).next ≡ true = rw (text_read c.first).next (named_complete name are c.rest m) in
-    rw later (B.or_true (same_bytes (content_in s (token_at s p)) name))
+    let later : named_from s name (count xs) (token_at s p).next ≡ true =
+    rw (text_read c.first).next (named_complete {p = (split stand).mid} name are c.rest m) in
+    rw later (B.or-true (same_bytes (content_in s (token_at s p)) name))

@@ -7,7 +7,6 @@ use Rattle.options.specs.Text.{held}
 use Rattle.base.specs.Pick.{pick}
 use Rattle.options.specs.declared.objective.Objective.{Objective}
 use Rattle.message.specs.declared.Message.{Message}
-use Rattle.message.specs.declared.Message.TheVariants as M
 use Rattle.reader.specs.declared.Reading.{Reading}
 use Rattle.message.specs.Fields.{session_of, initiator_of, objective_of, count_in}
 use Rattle.writer.specs.Lower.{Lowers}
