@@ -4,15 +4,12 @@
 
 use cbor::head::HeadRead;
 use cbor::item::ItemRead;
-use std::io::{self, BufReader, BufWriter, Read, Write};
+use std::io::{self, Read, Write};
 
 const MOST_CASES: usize = 1_000_000;
 
 fn main(rt: HostRuntime) -> io::Result<()> {
-    let mut from = BufReader::new(rt.alloc(), rt.reader())?;
-    let mut to = BufWriter::new(rt.alloc(), io::writer(&rt))?;
-    run_all(&mut from, &mut to)?;
-    to.flush()
+    run_all(&mut rt.stdin(), &mut rt.stdout())
 }
 
 fn run_all(from: &mut impl Read, to: &mut impl Write) -> io::Result<()> {

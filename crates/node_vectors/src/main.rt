@@ -8,7 +8,7 @@ mod input;
 mod line;
 
 use node_state::Record;
-use std::io::{self, BufReader, BufWriter, Read, Write};
+use std::io::{self, Read, Write};
 
 // The most numbers of a table that is lent: 80 rows.
 const MOST_NUMBERS: usize = 320;
@@ -23,11 +23,8 @@ pub struct State {
 }
 
 fn main(rt: HostRuntime) -> io::Result<()> {
-    let mut from = BufReader::new(rt.alloc(), rt.reader())?;
-    let mut to = BufWriter::new(rt.alloc(), io::writer(&rt))?;
     let mut table = [0u64; MOST_NUMBERS];
-    run_all(&mut from, &mut to, &mut table)?;
-    to.flush()
+    run_all(&mut rt.stdin(), &mut rt.stdout(), &mut table)
 }
 
 fn run_all(from: &mut impl Read, to: &mut impl Write, table: &mut [u64]) -> io::Result<()> {
