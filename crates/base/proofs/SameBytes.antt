@@ -35,7 +35,8 @@ same_differ (x ∷ xs) (y ∷ ys) zero ne = rw (ne_eqb x y ne) refl
 same_differ (x ∷ xs) (y ∷ ys) (suc i) ne = later (eqb x y) (same_differ xs ys i ne)
 
 module _ (a b : List ℕ) (i : ℕ) (same : length a ≡ length b) where
-  pub same_next : get_or a i 0 ≡ get_or b i 0 → same_bytes (drop i a) (drop i b) ≡ same_bytes a b → same_bytes (drop (i + 1) a) (drop (i + 1) b) ≡ same_bytes a b
+  pub same_next : get_or a i 0 ≡ get_or b i 0 → same_bytes (drop i a) (drop i b) ≡ same_bytes a b → same_bytes (drop (i + 1) a) (drop (i + 1) b)
+      ≡ same_bytes a b
   unfolding same_bytes
   same_next q e = rw add-one (sym (on (dec_lt i (length a))) ∙ e)
     where

@@ -131,5 +131,6 @@ module _ (s : List ℕ) (at : ℕ) where
     array_opened lo hi may = rw (array_head lo hi, ne_eqb left 0 may)
 
     -- what holds of a byte and whatever follows it holds in place
-    pub by_byte : (r : Common) → at < length s → ((l : ℕ) (rest : List ℕ) → l ≢ 0 → CommonIs l (get_or s at 0 ∷ rest) r) → left ≢ 0 → CommonIs left (drop at s) r
+    pub by_byte : (r : Common) → at < length s → ((l : ℕ) (rest : List ℕ) → l ≢ 0 → CommonIs l (get_or s at 0 ∷ rest) r) → left ≢ 0
+        → CommonIs left (drop at s) r
     by_byte r h f may = subst (λ (z : List ℕ). CommonIs left z r) (sym (drop-cons s at 0 h)) (f left (drop (suc at) s) may)

@@ -156,7 +156,8 @@ module _ (most : ℕ) (x : ItemRead) where
       → next go at s (n ∷ stack) z ≡ x → (p : ℕ) × (end_of x ≡ at + p) × Goes (suc n ∷ stack) s p
   unfolding next enough encode_begun
   stepped go f at n s stack b turns rec (Step.Refused number p) ok is q =
-      let (sum, f) = subst (λ (y : ItemRead). (end_of y ≡ at + p) × Failed y (most - length stack) s p) q (refl, first_is (most - length stack) s number p is) in
+      let (sum, f) = subst (λ (y : ItemRead). (end_of y ≡ at + p) × Failed y (most - length stack) s p) q (refl, first_is (most - length stack) s number p is)
+      in
       (p, sum, fault_here n s stack p f)
   stepped go f at n s stack b turns rec (Step.Passed len) ok is q =
       let d = length-drop len s in

@@ -102,7 +102,8 @@ width_info (Sized.two h) = refl
 width_info (Sized.four h) = refl
 width_info (Sized.eight h) = refl
 
-arg_info : {width arg : ℕ} (first : ℕ) (rest : List ℕ) → Sized width arg → first % 32 ≡ info_of width arg → arg_of first width (bytes_of width arg ++ rest) ≡ arg
+arg_info : {width arg : ℕ} (first : ℕ) (rest : List ℕ) → Sized width arg → first % 32 ≡ info_of width arg → arg_of first width (bytes_of width arg ++ rest)
+    ≡ arg
 unfolding info_of arg_of pick
 arg_info first rest (Sized.in_first h) e = e
 arg_info {arg = n} first rest (Sized.one h) e = read_back 1 n rest h

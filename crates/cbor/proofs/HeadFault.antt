@@ -103,7 +103,13 @@ pub cut_refused : {s : List ℕ} (first : ℕ) (rest : List ℕ) {width : ℕ} �
 unfolding head_at head_of head_by head_from initial_of place_of pick
 cut_refused first rest e announces short =
     let (low, same) = announces_width announces in
-    rw (e, ne_eqb (first % 32) 31 (omega arith), lt-leb 28 (first % 32) low, lt-ltb (length rest) (width_of (first % 32)) (rw same short), add-one (length rest))
+    rw (
+      e,
+      ne_eqb (first % 32) 31 (omega arith),
+      lt-leb 28 (first % 32) low,
+      lt-ltb (length rest) (width_of (first % 32)) (rw same short),
+      add-one (length rest),
+    )
 
 pub low_simple_refused : {s : List ℕ} (value : ℕ) (rest : List ℕ) → s ≡ head_bytes 7 1 value ++ rest → value < 32
     → head_at s ≡ HeadRead.Refused 3 (place_of 3 0 (length s))

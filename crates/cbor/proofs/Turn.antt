@@ -85,7 +85,8 @@ module _ (levels : ℕ) (s : List ℕ) (most : ℕ) (outer : List ℕ) (depth la
         let e : lacking ≡ suc (lacking - 1) = omega arith in
         sym (runs_step most at (lacking - 1) (drop at s) (stack_of outer depth) ∙ rw (length_stack outer depth, answer)) ∙ rw e at i.same
 
-    pub refused : (number place : ℕ) → step_at (most - depth) (drop at s) ≡ Step.Refused number place → ItemRead.Refused number (at + place) ≡ first_item levels s
+    pub refused : (number place : ℕ) → step_at (most - depth) (drop at s) ≡ Step.Refused number place → ItemRead.Refused number (at + place)
+        ≡ first_item levels s
     unfolding next
     refused number place answer = after (Step.Refused number place) answer
 

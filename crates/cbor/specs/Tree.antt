@@ -1,6 +1,7 @@
 -- CBOR items as data (RFC 8949, section 3), each head with how many bytes of argument follow its first byte, and their
 -- encoding.
-use Rattle.std.specs.Prelude.{ℕ, suc, ◌+◌, ◌*◌, ◌/◌, ◌^◌, ◌<◌, ◌≤◌, max, List, ◌∷◌, [], ◌++◌, Bool, cond, ◌≢◌, ◌≡◌, length, take, ltb, eqb}
+use Rattle.std.specs.Prelude.{ℕ, suc, ◌+◌, ◌*◌, ◌/◌, ◌^◌, ◌<◌, ◌≤◌, max, List, ◌∷◌, [], ◌++◌, Bool, cond, ◌≢◌, ◌≡◌}
+use Rattle.std.specs.Prelude.{length, take, ltb, eqb}
 use Rattle.base.specs.Pick.{pick}
 use Rattle.base.specs.BigEndian.{bytes_of, Bytes}
 

@@ -28,7 +28,8 @@ module _ (l : List ℕ) (k : ℕ) where
   unfolding locator_row_at
   locator_row_is p q r s t = rw (p, q, r, s, t)
 
-  pub objective_row_is : {a b c d e f : ℕ} → a ≡ get_or l k 0 → b ≡ get_or l (k + 1) 0 → c ≡ get_or l (k + 2) 0 → d ≡ get_or l (k + 3) 0 → e ≡ get_or l (k + 5) 0
+  pub objective_row_is : {a b c d e f : ℕ} → a ≡ get_or l k 0 → b ≡ get_or l (k + 1) 0 → c ≡ get_or l (k + 2) 0 → d ≡ get_or l (k + 3) 0 → e
+      ≡ get_or l (k + 5) 0
       → f ≡ get_or l (k + 6) 0
       → record { name = record { at = a; len = b }; flags = c; count = d; value = record { at = e; len = f } } ≡ objective_row_at l k
   unfolding objective_row_at

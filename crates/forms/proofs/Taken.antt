@@ -146,7 +146,8 @@ module _ (f : List ℕ) (numbers : ℕ) (long : length f ≡ 19) where
     unfolding lacking allowed_in has_bit pick block_for
     noop_says k = let z = zeros 0 k in given _ (omega arith) tt
 
-    discovery_says : get_or f 0 0 ≡ 1 → get_or f 5 0 ≡ 1 → Says (As (D.Discovery (get_or f 1 0) (span_of (get_or f 2 0) (get_or f 3 0)) (given_objective f (narrow f))))
+    discovery_says : get_or f 0 0 ≡ 1 → get_or f 5 0 ≡ 1 → Says (As (D.Discovery (get_or f 1 0) (span_of (get_or f 2 0) (get_or f 3 0))
+        (given_objective f (narrow f))))
     unfolding lacking allowed_in has_bit pick block_for given_objective
     discovery_says k one = let z = zeros 1 k in given _ (omega arith) (omega arith, (omega arith, omega arith))
 

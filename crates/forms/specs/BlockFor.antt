@@ -48,7 +48,8 @@ objective_block kind session initiator o =
 -- those with a list and no outcome: so many rows, and an objective or none
 abbrev pub list_block : ℕ → ℕ → Span → ℕ → GivenExtra → ℕ → ℕ → List ℕ
 list_block kind session initiator ttl extra sort many =
-    opening_numbers kind session initiator ttl ++ extra_numbers extra ++ rows_numbers sort many ++ item_numbers 0 no_span
+    opening_numbers kind session initiator ttl ++ extra_numbers extra ++ rows_numbers sort many ++ item_numbers 0
+    no_span
 
 -- those with neither an objective nor a list
 abbrev pub item_block : ℕ → ℕ → ℕ → ℕ → Span → List ℕ

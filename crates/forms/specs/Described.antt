@@ -56,7 +56,8 @@ allowed_in kind =
     (pick (eqb kind 6) (mask_with (session_places ++ outcome_place ++ item_places))
     (pick (eqb kind 7) (mask_with (session_places ++ ttl_place))
     (pick (eqb kind 9) (mask_with (session_places ++ initiator_places ++ ttl_place ++ rows_places))
-    (pick (eqb kind 99) (mask_with (session_places ++ item_places)) (mask_with (session_places ++ objective_places))))))))
+    (pick (eqb kind 99) (mask_with (session_places ++ item_places))
+    (mask_with (session_places ++ objective_places))))))))
 
 -- the number at place i is 0, or the mask has the place
 unfoldable pub field_fits : List ℕ → ℕ → ℕ → Bool
@@ -69,7 +70,8 @@ all_fit f mask = all_from (field_fits f mask) most_places 0
 -- the places of an objective that isn't there, 5 to 12, hold 0
 unfoldable pub is_blank : List ℕ → Bool
 is_blank f =
-    all_fit f (mask_with (session_places ++ initiator_places ++ ttl_place ++ 13 ∷ 14 ∷ 15 ∷ outcome_place ++ item_places))
+    all_fit f (mask_with
+    (session_places ++ initiator_places ++ ttl_place ++ 13 ∷ 14 ∷ 15 ∷ outcome_place ++ item_places))
 
 -- the objective of a block
 unfoldable pub given_objective : List ℕ → Narrow → GivenObjective

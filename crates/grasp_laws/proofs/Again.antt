@@ -58,7 +58,8 @@ unfolding given_of
 objective_fits h (ObjectiveItem.bare flags count) = (omega (arith, h.flags), omega (arith, h.count))
 objective_fits h (ObjectiveItem.valued flags count) = (omega (arith, h.flags), omega (arith, h.count))
 
-extra_fits : {s : List ℕ} {extra : Extra} {obj : Option (Obj Value)} {xs : Items} → ExtraHolds s extra obj → OptionalItems xs obj → ExtraFits (given_extra extra)
+extra_fits : {s : List ℕ} {extra : Extra} {obj : Option (Obj Value)} {xs : Items} → ExtraHolds s extra obj → OptionalItems xs obj
+    → ExtraFits (given_extra extra)
 unfolding given_extra
 extra_fits ExtraHolds.without OptionalItems.without = tt
 extra_fits (ExtraHolds.with_one h) (OptionalItems.with_one i) = objective_fits h i
@@ -135,7 +136,8 @@ module _ (s : List ℕ) where
 
   locators_gathered : {at : ℕ} {ls : List Loc} → InTurn (LocatorReads s) at ls
       → Gathers locator_row (R.locator_next s) (R.locator_stored s) (λ n at block. locator_rows s n at block) at ls
-  unfolding locator_rows joined R.locator_next R.locator_next_from R.locator_stored R.locator_stored_from G.locator_after G.locator_from G.locator_end G.locator_end_from
+  unfolding locator_rows joined R.locator_next R.locator_next_from R.locator_stored R.locator_stored_from G.locator_after G.locator_from G.locator_end
+      G.locator_end_from
   locators_gathered InTurn.done = record { rows = []; chain = Chain.end; same = λ _. refl }
   locators_gathered {at} (InTurn.more {next = next} {xs = ls} r rest) =
       let h = locators_gathered rest in

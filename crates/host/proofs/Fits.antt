@@ -67,7 +67,8 @@ unfolding free_rows
 free_fits now t zero w = w
 free_fits now t (suc n) w =
     let rest = free_fits now t n w in
-    both TableFits _ (put_fits (free_rows now t n) n no_key 0 (record { first = omega arith; second = omega arith; third = omega arith }) (omega arith) rest) rest
+    both TableFits _ (put_fits (free_rows now t n) n no_key 0 (record { first = omega arith; second = omega arith; third = omega arith }) (omega arith) rest)
+    rest
 
 pub key_fits : (flood : Bool) (session : ℕ) (initiator : List ℕ) → session < 2 ^ 32 → Bytes initiator → KeyFits (key_of flood session initiator)
 unfolding key_of

@@ -145,7 +145,8 @@ pairs_complete {p = p} a d PairItems.empty bad long = (p, bad, long, refl)
 pairs_complete {s} {p} a d (PairItems.more {xs = xs} i is) bad long =
     let c = split a in
     let (o, t, bad', long', same, _) = pair_read c.first (omega arith) i in
-    passed s p (count xs) bad long same (omega (arith, c.first.end)) (pairs_complete {p = (split a).mid} c.rest (omega arith) is (first_of bad bad') (first_of long long'))
+    passed s p (count xs) bad long same (omega (arith, c.first.end))
+    (pairs_complete {p = (split a).mid} c.rest (omega arith) is (first_of bad bad') (first_of long long'))
 
 -- the first pair, and then others
 first_passed : (s : List ℕ) (p parts : ℕ) (opening : Opening) {n m size bad long : ℕ} {o : Objective} {t : Tag} → parts - 1 ≡ n → p + size ≡ m

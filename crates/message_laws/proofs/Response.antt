@@ -49,7 +49,9 @@ use Rattle.message_laws.proofs.Divert.{DivertStands, DivertSound, divert_sound, 
 -- xs stand, and then ys
 join_all : {s : List ℕ} {p m e : ℕ} {xs ys : Items} → StandAll s p m xs → StandAll s m e ys → StandAll s p e (joined xs ys)
 join_all {s} {e = e} {xs = Items.done} {ys} a b = subst (λ (k : ℕ). StandAll s k e ys) (none_end a) b
-join_all {s = s} {p = p} {m = m} {e = e} {xs = Items.more x xs} {ys = ys} a b = let c = split a in join c.first (join_all {p = (split a).mid} {xs = xs} c.rest b)
+join_all {s = s} {p = p} {m = m} {e = e} {xs = Items.more x xs} {ys = ys} a b =
+    let c = split a in
+    join c.first (join_all {p = (split a).mid} {xs = xs} c.rest b)
 
 -- there are so many
 pub count_joined : (xs ys : Items) → count (joined xs ys) ≡ count xs + count ys

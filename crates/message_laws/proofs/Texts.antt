@@ -25,7 +25,8 @@ pub bad_text_lem : (text : List ℕ) (place : ℕ) → (place ≡ 0 → ⊥) →
 unfolding bad_text
 bad_text_lem text place some =
     let (there, back) = utf8_exactly text in
-    pick-case (λ n. n ≡ 0 ↔ Utf8 text) (is_utf8 text) (λ e. (λ _. there e, λ _. refl)) (λ e. (λ z. absurd (some z), λ is. absurd (false≢true (sym e ∙ back is))))
+    pick-case (λ n. n ≡ 0 ↔ Utf8 text) (is_utf8 text) (λ e. (λ _. there e, λ _. refl))
+    (λ e. (λ z. absurd (some z), λ is. absurd (false≢true (sym e ∙ back is))))
 
 -- a name's place isn't given exactly where the name is short
 pub long_name_lem : (w : Token) (place : ℕ) (name : List ℕ) → (place ≡ 0 → ⊥) → length name ≡ w.arg → long_name w place ≡ 0 ↔ Short name

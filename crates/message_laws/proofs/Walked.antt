@@ -292,7 +292,8 @@ parts_walked s {m} {end} =
     pick-case P _ (λ _ q. cc)
     (λ filled. pick-case P _
     (λ number.
-    let read = judged_walked s (eqb-false (items_in (token_at s 0)) 0 filled) (eqb-true (token_at s (token_at s 0).next).major 0 number) (kind_walked s _ _ _) in
+    let read = judged_walked s (eqb-false (items_in (token_at s 0)) 0 filled) (eqb-true (token_at s (token_at s 0).next).major 0 number) (kind_walked s _ _ _)
+    in
     both P _ (both P _ read (λ q. cc)) read)
     (λ _ q. cc))
   where

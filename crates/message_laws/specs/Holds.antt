@@ -42,7 +42,8 @@ pub data LocatorHolds (s : List ℕ) : Locator → Loc → Type 0 where
   domain : {span : Span} {protocol port : ℕ} {name : List ℕ} → SpanHolds s span name
       → LocatorHolds s (L.Domain span protocol port) (Loc.domain name protocol port)
   uri : {span : Span} {protocol port : ℕ} {uri : List ℕ} → SpanHolds s span uri
-      → LocatorHolds s (L.Uri span protocol port) (Loc.uri uri (or_null null_protocol protocol) (or_null null_port port))
+      → LocatorHolds s (L.Uri span protocol port)
+      (Loc.uri uri (or_null null_protocol protocol) (or_null null_port port))
 
 -- an objective; the head of its count stands from `count_at` up to where its value begins
 pub record ObjectiveHolds (s : List ℕ) (o : Objective) (obj : Obj Value) : Type 0 where

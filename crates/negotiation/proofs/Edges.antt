@@ -59,8 +59,10 @@ pub session :
     ∷ Refused 20 ∷ Refused 1 ∷ [])
     × (negotiated (accepted_of (steps_of Fresh messages)) ≡ 2)
     × (step (Open 7 0 Us) ending Us ≡ Refused 20)
-unfolding pick big_endian width_of least_of initial_of arg_of judged head_from head_by head_of head_at opens step_of step_from step_at items_of next run enough first_item
-    nothing_at token_of token_from token_at items_in up_to tails_of least_tail greatest_tail goes_on is_utf8 bad_text long_name objective_from objective_in objective_named
+unfolding pick big_endian width_of least_of initial_of arg_of judged head_from head_by head_of head_at opens step_of step_from step_at items_of next run enough
+    first_item
+    nothing_at token_of token_from token_at items_in up_to tails_of least_tail greatest_tail goes_on is_utf8 bad_text long_name objective_from objective_in
+    objective_named
     exchange_of exchanged exchange_at wait_at reason_in outcome_in ended end_at by_kind judged_shape examined framed read_placed placeless read_of move_of
     fresh_step lower_step turn_step state_step reading_step step after steps_of is_moved accepted_of is_kind negotiated
 session = (refl, refl, refl)

@@ -184,7 +184,8 @@ some_first s zero e there = omega (arith, (token_has s 0).some there)
 some_first s (suc n) e there = omega arith
 
 -- both: one byte is its own head's, its name's, its flags' and its count's
-objective_told : (levels base : ℕ) (s : List ℕ) → ObjectiveOk base (length s) (objective_in levels base s) × ObjectiveWalked levels s (objective_in levels base s)
+objective_told : (levels base : ℕ) (s : List ℕ) → ObjectiveOk base (length s) (objective_in levels base s) × ObjectiveWalked levels s
+    (objective_in levels base s)
 unfolding objective_in objective_named objective_from
 objective_told levels base s =
     pick-case P (eqb (items_in a) 0) (λ _. (tt, tt))

@@ -54,7 +54,8 @@ hand_19 bs out = (
 )
 
 -- what holds of the answer and the output, where the bytes pass and where they don't
-pub pass_case : (test : Bool) (bs out : List ℕ) (P : Written → List ℕ → Type 0) → (test ≡ true → length bs ≤ most_bytes → P (hand_answer bs out) (hand_out bs out))
+pub pass_case : (test : Bool) (bs out : List ℕ) (P : Written → List ℕ → Type 0)
+    → (test ≡ true → length bs ≤ most_bytes → P (hand_answer bs out) (hand_out bs out))
     → ((test ≡ true → length bs ≤ most_bytes → ⊥) → P (Written.Refused 18) out) → P (pass_answer test bs out) (pass_out test bs out)
 unfolding pass_answer pass_out passes pick
 pass_case test bs out P f g = go test (ltb most_bytes (length bs)) refl refl

@@ -20,10 +20,10 @@ returns-then-len-gt-MOST_BYTES c = value_out (described _ _ _ _ _ c.ok_described
     c.if-len-gt-MOST_BYTES.true))
 
 pub slice_bounds-accepts-end : goal.slice_bounds-accepts-end
-slice_bounds-accepts-end c = sym (length-take-le _ _ (omega (arith, c.draft-2-1.given)))
+slice_bounds-accepts-end c = sym (length-take-le _ _ (omega arith))
 
 pub slice_bounds-hand-end : goal.slice_bounds-hand-end
-slice_bounds-hand-end c = sym (length-take-le _ _ (omega (arith, c.draft-2-1.given)))
+slice_bounds-hand-end c = sym (length-take-le _ _ (omega arith))
 
 pub hand-requires : goal.hand-requires
 hand-requires c = few _ _ c.if-len-gt-MOST_BYTES.false

@@ -9,7 +9,7 @@ use Rattle.base.specs.BigEndian.{big_endian}
 use Rattle.cbor.proofs.head.big_endian.Goals as goal
 
 pub overflow_cast-result : goal.overflow_cast-result
-overflow_cast-result c = omega (arith, c.shared_slice_known-then-n-eq1-1.given 0)
+overflow_cast-result c = omega (arith, c.type_inv.s 0)
 
 pub returns-then-n-eq1 : goal.returns-then-n-eq1
 unfolding big_endian
@@ -30,7 +30,10 @@ pub overflow_cast-value : goal.overflow_cast-value
 overflow_cast-value c = omega (arith, c.type_inv.s c.loop-i.i)
 
 pub overflow_add-value : goal.overflow_add-value
-overflow_add-value c = record { fits = below_word _ _ (omega arith) (below_more c.loop-i.i c.loop-i.value _ c.loop-i.invariant.2 (c.type_inv.s c.loop-i.i).fits) }
+overflow_add-value c = record {
+  fits = below_word _ _ (omega arith) (below_more c.loop-i.i c.loop-i.value _ c.loop-i.invariant.2
+      (c.type_inv.s c.loop-i.i).fits);
+}
 
 pub loop-i-preserved : goal.loop-i-preserved
 unfolding big_endian

@@ -18,7 +18,8 @@ returns-then-depth-eq0 c =
 
 pub loop-lacking-preserved-then-lacking-eq0 : goal.loop-lacking-preserved-then-lacking-eq0
 loop-lacking-preserved-then-lacking-eq0 c =
-    closed _ c.args.s.now _ c.loop-lacking.outer c.loop-lacking.depth c.loop-lacking.lacking c.loop-lacking.at c.loop-lacking.invariant (c.loop-lacking.depth - 1)
+    closed _ c.args.s.now _ c.loop-lacking.outer c.loop-lacking.depth c.loop-lacking.lacking c.loop-lacking.at c.loop-lacking.invariant
+    (c.loop-lacking.depth - 1)
     c.if-lacking-eq0.true (omega arith)
 
 pub overflow_add-place : goal.overflow_add-place
@@ -31,7 +32,8 @@ overflow_add-place c =
 pub returns-in-Refused : goal.returns-in-Refused
 unfolding TurnIs
 returns-in-Refused c =
-    refused _ _ _ c.loop-lacking.outer c.loop-lacking.depth c.loop-lacking.lacking c.loop-lacking.at c.loop-lacking.invariant c.if-lacking-eq0.false _ _ c.in-Refused.ensures
+    refused _ _ _ c.loop-lacking.outer c.loop-lacking.depth c.loop-lacking.lacking c.loop-lacking.at c.loop-lacking.invariant c.if-lacking-eq0.false _ _
+    c.in-Refused.ensures
 
 pub overflow_add-at : goal.overflow_add-at
 unfolding TurnIs
@@ -50,7 +52,8 @@ loop-lacking-smaller-in-Passed c =
 pub loop-lacking-preserved-in-Passed : goal.loop-lacking-preserved-in-Passed
 unfolding TurnIs
 loop-lacking-preserved-in-Passed c =
-    passed _ _ _ c.loop-lacking.outer c.loop-lacking.depth c.loop-lacking.lacking c.loop-lacking.at c.loop-lacking.invariant c.if-lacking-eq0.false _ c.in-Passed.ensures
+    passed _ _ _ c.loop-lacking.outer c.loop-lacking.depth c.loop-lacking.lacking c.loop-lacking.at c.loop-lacking.invariant c.if-lacking-eq0.false _
+    c.in-Passed.ensures
 
 pub overflow_add-at-in-Opened : goal.overflow_add-at-in-Opened
 unfolding TurnIs
@@ -80,4 +83,5 @@ pub loop-lacking-preserved : goal.loop-lacking-preserved
 unfolding TurnIs
 loop-lacking-preserved c =
     let (n, pairs, gives, counts) = c.in-Opened.ensures in
-    opened _ _ _ c.loop-lacking.outer c.loop-lacking.depth c.loop-lacking.lacking c.loop-lacking.at c.loop-lacking.invariant c.if-lacking-eq0.false _ n pairs _ gives (omega arith) counts
+    opened _ _ _ c.loop-lacking.outer c.loop-lacking.depth c.loop-lacking.lacking c.loop-lacking.at c.loop-lacking.invariant c.if-lacking-eq0.false _ n pairs _
+    gives (omega arith) counts

@@ -1,5 +1,4 @@
 -- `cbor::put::head` meets its contract: each answer is a law of `Stores`.
-use mathlib.Core.Path.{◌∙◌}
 use mathlib.Core.Logic.{inl}
 use native.Mathlib.Omega.{arith}
 use lib.ListN.{length-set}
@@ -28,9 +27,6 @@ overflow_add-out c = omega (
 
 pub spell-requires : goal.spell-requires
 spell-requires c = simp length-set (omega arith)
-
-pub shape_of-out : goal.shape_of-out
-shape_of-out c = c.out-1.given ∙ simp length-set
 
 pub returns : goal.returns
 returns c =

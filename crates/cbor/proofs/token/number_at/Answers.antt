@@ -12,7 +12,7 @@ returns-then-first-lt24 c =
     (small_head c.args.s.now c.args.at c.if-at-s.true c.if-first-lt24.true) refl c.token_of.ensures
 
 pub overflow_cast-high : goal.overflow_cast-high
-overflow_cast-high c = omega (arith, c.shared_slice_known-then-room-gt1-1.given (c.args.at + 1))
+overflow_cast-high c = omega (arith, c.type_inv.s (c.args.at + 1))
 
 pub returns-then-high-ge24 : goal.returns-then-high-ge24
 returns-then-high-ge24 c =

@@ -10,7 +10,8 @@ use Rattle.encode.proofs.pair.put_pairs.Given as goal
 
 abbrev pub invariant-loop-i : goal.invariant-loop-i
 invariant-loop-i l =
-    (l.i ≤ length l.list / pair_row) × (length l.out ≡ length l.initial.out) × Wrote l.initial.out l.out l.at (first_rows encode_pair (row_pair l.source l.list) l.i) l.end
+    (l.i ≤ length l.list / pair_row) × (length l.out ≡ length l.initial.out) × Wrote l.initial.out l.out l.at
+    (first_rows encode_pair (row_pair l.source l.list) l.i) l.end
 
 abbrev pub decreases-loop-i : goal.decreases-loop-i
 decreases-loop-i l = length l.list / pair_row - l.i

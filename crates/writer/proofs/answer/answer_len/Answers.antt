@@ -11,7 +11,6 @@ overflow_add-result c = omega (
   head_few _ _ c.head_len-e.ensures,
   string_few _ _ c.string_len-d.ensures,
   string_few _ _ c.string_len-b.ensures,
-  c.string_len-arg-1.given,
 )
 
 pub overflow_add-result-2 : goal.overflow_add-result-2
@@ -22,7 +21,6 @@ overflow_add-result-2 c = omega (
   head_few _ _ c.head_len-e.ensures,
   string_few _ _ c.string_len-d.ensures,
   string_few _ _ c.string_len-b.ensures,
-  c.string_len-arg-1.given,
 )
 
 pub overflow_add-result-3 : goal.overflow_add-result-3
@@ -33,7 +31,6 @@ overflow_add-result-3 c = omega (
   head_few _ _ c.head_len-e.ensures,
   string_few _ _ c.string_len-d.ensures,
   string_few _ _ c.string_len-b.ensures,
-  c.string_len-arg-1.given,
 )
 
 pub overflow_add-result-4 : goal.overflow_add-result-4
@@ -44,7 +41,6 @@ overflow_add-result-4 c = omega (
   head_few _ _ c.head_len-e.ensures,
   string_few _ _ c.string_len-d.ensures,
   string_few _ _ c.string_len-b.ensures,
-  c.string_len-arg-1.given,
 )
 
 pub overflow_add-result-5 : goal.overflow_add-result-5
@@ -55,7 +51,6 @@ overflow_add-result-5 c = omega (
   head_few _ _ c.head_len-e.ensures,
   string_few _ _ c.string_len-d.ensures,
   string_few _ _ c.string_len-b.ensures,
-  c.string_len-arg-1.given,
 )
 
 pub returns : goal.returns

@@ -21,7 +21,8 @@ returns-then-end-at c = rw (ne_eqb _ _ c.if-count-eq0.false, lt-ltb _ _ c.if-end
 
 pub returns-then-message-end : goal.returns-then-message-end
 unfolding lower_answer lower_out ok_lower pick
-returns-then-message-end c = rw (ne_eqb _ _ c.if-count-eq0.false, le-ltb _ _ c.if-end-at.false, lt-ltb _ _ c.if-message-end.true) record { value = refl; out_after = refl }
+returns-then-message-end c = rw (ne_eqb _ _ c.if-count-eq0.false, le-ltb _ _ c.if-end-at.false, lt-ltb _ _ c.if-message-end.true) record
+    { value = refl; out_after = refl }
 
 pub overflow_add-len : goal.overflow_add-len
 overflow_add-len c = omega (arith, head_few _ _ c.head_len.ensures)
