@@ -11,7 +11,6 @@ from xml.sax.saxutils import escape
 
 ROOT = Path(__file__).resolve().parent.parent
 PROGRAMS = "programs"
-KIT = {"io", "libc"}  # libraries of the toolchain
 
 # Where a crate stands in its column, from the left; others take the first free place of their height.
 SLOTS = {
@@ -53,7 +52,7 @@ def crates():
         elif line and not line.startswith("#"):
             name, rests_on = line.split(":")
             name = name.split()[0]
-            found[name] = (group, [crate for crate in rests_on.split() if crate not in KIT])
+            found[name] = (group, rests_on.split())
     return found
 
 
