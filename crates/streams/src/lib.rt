@@ -1,18 +1,20 @@
 // Reading of a stream by pieces of a known length.
 #![tactic(auto)]
 
-ghost use Rattle.std.specs.Prelude.{◌≤◌, ◌<◌, length, take, IfOk};
+ghost use Rattle.std.specs.Prelude.{◌≤◌, ◌<◌, ℕ, List, length, take, IfOk, IfErr};
 ghost use Rattle.std.specs.Io.KnownBytes.{Consumes, IsAtEnd};
 
 use std::io;
 use std::io::Read;
 
 // Reads until buf is full or the input ends, and returns how many bytes it put at the start of buf. Where it is known
-// what the input gives, these are its next bytes, and fewer than buf has room for only at its end.
+// what the input gives, these are its next bytes, and fewer than buf has room for only at its end. After an error the
+// input has given some bytes that are lost, or none.
 pub fn read_full<R: Read>(input: &mut R, buf: &mut [u8]) -> io::Result<usize>
     ensures count { IfOk result (λ n. n ≤ length buf.new) }
     ensures bytes { IfOk result (λ n. Consumes (R.remaining input.old) (R.remaining input.new) (take n buf.new)) }
     ensures end { IfOk result (λ n. n < length buf.new → IsAtEnd (R.remaining input.new)) }
+    ensures lost { IfErr result (λ e. (bs : List ℕ) × Consumes (R.remaining input.old) (R.remaining input.new) bs) }
 {
     let mut done = 0;
     while done < buf.len() {
