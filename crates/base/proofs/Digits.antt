@@ -1,15 +1,16 @@
 -- Numbers of n bytes, the most significant first: the laws of `big_endian` and `bytes_of`, once for every width.
 -- Assumes nothing.
-use mathlib.Core.Path.{◌≡◌, refl, sym, ◌∙◌, ap, subst}
+use mathlib.Core.Path.{◌≡◌, refl, sym, ◌∙◌, ap, ap₂, subst}
 use mathlib.Core.List.{List, [], ◌∷◌, ◌++◌, append_assoc}
 use Prim.Native.Nat.{ℕ, zero, suc, ◌+◌, ◌*◌, ◌/◌, ◌%◌, ◌^◌, ◌<◌, ◌≤◌}
-use native.Mathlib.Nat.{lt_of_lt_of_le, div-add-mod'}
+use native.Mathlib.Nat.{mul_comm, pow-suc, div-div-eq-div-mul, lt_of_lt_of_le, div-add-mod'}
 use native.Mathlib.Decide.{ℕ_discrete}
 use native.Mathlib.Omega.{arith}
 use lib.Arith.{digits_lt, digits_div, digits_mod}
 use lib.Pow.{pow-add, pow_mono, shr_lt}
 use lib.ListN.{length, take, get_or, length-append}
-use lib.Seq.{get_or_at, take-suc}
+use lib.Seq.{get_or-take, get_or_at, take-suc}
+use Rattle.std.specs.Int.{w32, w64, bytes_high_first, from_be_bytes}
 use Rattle.base.specs.BigEndian.{FirstBytes, big_endian, bytes_of}
 
 -- one byte more
@@ -59,3 +60,33 @@ pub small_bytes : (n : ℕ) (s : List ℕ) → big_endian s n < 2 ^ 8 → FirstB
 unfolding big_endian
 small_bytes zero s h i l = absurd (omega arith)
 small_bytes (suc n) s h i l = elim (ℕ_discrete i n) [ yes e ↦ rw e (omega arith) | no e ↦ small_bytes n s (omega arith) i (omega arith) ]
+
+-- ---- as the library spells numbers
+
+-- the lowest byte last
+high_last : (n v : ℕ) → bytes_high_first (suc n) v ≡ bytes_high_first n (v / 256) ++ (v % 256 ∷ [])
+high_last zero v = refl
+high_last (suc zero) v = refl
+high_last (suc (suc n)) v =
+    let e : v / 256 ^ suc (suc n) % 256 ≡ v / 256 / 256 ^ suc n % 256 =
+    rw (pow-suc 256 (suc n), div-div-eq-div-mul v 256 (256 ^ suc n), mul_comm (256 ^ suc n) 256) refl in
+    ap₂ (λ (x : ℕ) (t : List ℕ). x ∷ t) e (high_last (suc n) v)
+
+pub high_first : (n v : ℕ) → bytes_high_first n v ≡ bytes_of n v
+unfolding bytes_of
+high_first zero v = refl
+high_first (suc n) v = high_last n v ∙ ap (λ (t : List ℕ). t ++ (v % 256 ∷ [])) (high_first n (v / 256))
+
+pub four_read : (s : List ℕ) → from_be_bytes w32 s ≡ big_endian s 4
+unfolding big_endian
+four_read s = omega arith
+
+pub eight_read : (s : List ℕ) → from_be_bytes w64 s ≡ big_endian s 8
+unfolding big_endian
+eight_read s = omega arith
+
+-- no byte after them counts
+pub front_read : (k n : ℕ) (s : List ℕ) → n ≤ k → big_endian (take k s) n ≡ big_endian s n
+unfolding big_endian
+front_read k zero s h = refl
+front_read k (suc n) s h = rw (front_read k n s (omega arith), get_or-take k s n 0 (omega arith)) refl

@@ -1,14 +1,14 @@
 -- Parts of a slice as lists, and lists stored into one.
 -- Assumes nothing.
 use mathlib.Core.Path.{◌≡◌, sym, ap, ◌∙◌}
-use mathlib.Core.List.{List, [], ◌∷◌, ◌++◌}
+use mathlib.Core.List.{List, [], ◌∷◌, ◌++◌, append_assoc}
 use Prim.Native.Nat.{ℕ, suc, ◌+◌, ◌-◌, ◌≤◌}
-use native.Mathlib.Nat.{add-zero, add-suc, suc-add, le_of_eq}
+use native.Mathlib.Nat.{add-sub_cancel_left, add-zero, add-suc, suc-add, le_of_eq}
 use native.Mathlib.Decide.{dec_lt}
 use native.Mathlib.Omega.{arith}
 use lib.Dec.{lit<}
 use lib.ListN.{length, take, drop, set, length-drop, length-take, drop_of_length-le, get_or-eq_default}
-use lib.Seq.{sets, take_all, get_or-take, get_or-drop}
+use lib.Seq.{sets, sets-eq, drop-drop, take_all, get_or-take, get_or-drop}
 use Rattle.base.specs.BigEndian.{Bytes}
 
 -- `&s[k..]`
@@ -33,3 +33,10 @@ pub sets_append : (l : List ℕ) (at : ℕ) (a b : List ℕ) → sets (sets l at
 sets_append l at [] b = ap (λ (k : ℕ). sets l k b) (add-zero at)
 sets_append l at (x ∷ a) b =
     ap (λ (k : ℕ). sets (sets (set l at x) (suc at) a) k b) (add-suc at (length a) ∙ sym (suc-add at (length a))) ∙ sets_append (set l at x) (suc at) a b
+
+-- a list in the place of a part that was lent
+pub lent_sets : (l bs : List ℕ) (at : ℕ) {to : List ℕ} → at + length bs ≤ length l → to ≡ bs
+    → take at l ++ (to ++ drop (at + length bs - at) (drop at l)) ≡ sets l at bs
+lent_sets l bs at h e =
+    rw (e, add-sub_cancel_left at (length bs), drop-drop (length bs) at l, ← append_assoc (take at l) bs (drop (at + length bs) l))
+    (sym (sets-eq bs l at h))

@@ -1,4 +1,5 @@
-// What every layer shares, and nothing of the protocol.
+// What every layer shares: bytes compared, and the refusals.
 #![tactic(auto)]
 
 pub mod bytes;
+pub mod refusal;

@@ -1,6 +1,10 @@
 -- The walk passes every encoding: where so many levels may open, an item of no more levels is passed, whatever follows
 -- it.
 -- Assumes nothing.
+use Rattle.std.specs.Prelude.{Ok}
+use Rattle.cbor.specs.declared.item.Step.TheVariants.{Passed, Opened}
+use Rattle.cbor.specs.Head.{a_head}
+use Rattle.cbor.specs.Item.{StepRead}
 use mathlib.Core.Path.{◌≡◌, refl, sym, ap, ◌∙◌}
 use mathlib.Core.List.{List, [], ◌∷◌, ◌++◌, append_assoc}
 use mathlib.Core.Bool.{Bool, true, false}
@@ -12,9 +16,6 @@ use lib.Seq.{drop-append_seam, length-take-le}
 use lib.Dec.{lit<, lit≤}
 use borrow.Author.Tests.{le-leb, lt-leb, ne_eqb}
 use Rattle.base.specs.Pick.{pick}
-use Rattle.cbor.specs.declared.item.Step.{Step}
-use Rattle.cbor.specs.declared.item.ItemRead.{ItemRead}
-use Rattle.cbor.specs.declared.head.HeadRead.{HeadRead}
 use Rattle.cbor.specs.Head.{head_at}
 use Rattle.cbor.specs.Item.{opens, step_of, step_from, step_at, items_of, left_under, next, first_item}
 use Rattle.cbor.specs.Tree.{Item, Items, head_bytes, Right, count, encode, encodes, depth, depths, Good, Goods, ItemIs}
@@ -23,21 +24,21 @@ use Rattle.cbor.proofs.Runs.{runs, runs_end, runs_close, runs_step}
 
 module _ (most : ℕ) where
   -- one step, by the bytes h that its head begins and what the step makes of the head
-  module _ (at n : ℕ) (h t st : List ℕ) (major arg len : ℕ) (is : head_at (h ++ t) ≡ HeadRead.Head major arg len) where
-    step : (x : Step) → step_of (most - length st) (length (h ++ t)) major arg len ≡ x
+  module _ (at n : ℕ) (h t st : List ℕ) (major arg len : ℕ) (is : head_at (h ++ t) ≡ a_head major arg len) where
+    step : (x : StepRead) → step_of (most - length st) (length (h ++ t)) major arg len ≡ x
         → runs most at (h ++ t) (suc n ∷ st) ≡ next (runs most) at (h ++ t) (n ∷ st) x
     unfolding step_at step_from
     step x e = runs_step most at n (h ++ t) st ∙ rw (is, e)
 
-    leaf : step_of (most - length st) (length (h ++ t)) major arg len ≡ Step.Passed (length h)
+    leaf : step_of (most - length st) (length (h ++ t)) major arg len ≡ Ok (Passed (length h))
         → runs most at (h ++ t) (suc n ∷ st) ≡ runs most (at + length h) t (n ∷ st)
     unfolding next
-    leaf e = step (Step.Passed (length h)) e ∙ rw (drop-append_seam h t)
+    leaf e = step (Ok (Passed (length h))) e ∙ rw (drop-append_seam h t)
 
-    pub enter : (k : ℕ) (pairs : Bool) → step_of (most - length st) (length (h ++ t)) major arg len ≡ Step.Opened (length h) k pairs
+    pub enter : (k : ℕ) (pairs : Bool) → step_of (most - length st) (length (h ++ t)) major arg len ≡ Ok (Opened (length h) k pairs)
         → runs most at (h ++ t) (suc n ∷ st) ≡ runs most (at + length h) t (items_of k pairs ∷ n ∷ st)
     unfolding next
-    enter k pairs e = step (Step.Opened (length h) k pairs) e ∙ rw (drop-append_seam h t)
+    enter k pairs e = step (Ok (Opened (length h) k pairs)) e ∙ rw (drop-append_seam h t)
 
   -- a string: its bytes are passed with its head
   text : (at k major width : ℕ) (bs r st : List ℕ) → 2 ≤ major → major < 4 → Right major width (length bs)
@@ -52,7 +53,7 @@ module _ (most : ℕ) where
 
   -- an array, a map or a tag: its items t are passed, and its level is closed
   inside : (at k major width arg n : ℕ) (pairs : Bool) (t r st : List ℕ) → Right major width arg
-      → ((room len : ℕ) → step_of (most - length st) room major arg len ≡ Step.Opened len n pairs)
+      → ((room len : ℕ) → step_of (most - length st) room major arg len ≡ Ok (Opened len n pairs))
       → ((from : ℕ) → runs most from (t ++ r) (items_of n pairs ∷ k ∷ st) ≡ runs most (from + length t) r (0 ∷ k ∷ st))
       → runs most at ((head_bytes major width arg ++ t) ++ r) (suc k ∷ st) ≡ runs most (at + length (head_bytes major width arg ++ t)) r (k ∷ st)
   inside at k major width arg n pairs t r st right opening passing =
@@ -93,15 +94,15 @@ module _ (most : ℕ) where
         (pass x at (count xs + m) (encodes xs ++ r) st g.0 (omega arith) ∙ passes xs m (at + length (encode x)) r st g.1 (omega arith))
 
 pub item_accepts : (levels : ℕ) (x : Item) (rest : List ℕ) → Good x → depth x ≤ left_under levels
-    → first_item levels (encode x ++ rest) ≡ ItemRead.Ends (length (encode x))
+    → first_item levels (encode x ++ rest) ≡ Ok (length (encode x))
 unfolding first_item
 item_accepts levels x rest g d =
     let most = left_under levels in
-    pass most x 0 0 rest [] g (omega arith) ∙ runs_close most _ rest [] ∙ runs_end most _ rest ∙ ap ItemRead.Ends (zero-add (length (encode x)))
+    pass most x 0 0 rest [] g (omega arith) ∙ runs_close most _ rest [] ∙ runs_end most _ rest ∙ ap Ok (zero-add (length (encode x)))
 
 -- so bytes that begin with its encoding are
-pub item_found : (levels : ℕ) (s : List ℕ) (e : ℕ) → ItemIs (left_under levels) s e → first_item levels s ≡ ItemRead.Ends e
+pub item_found : (levels : ℕ) (s : List ℕ) (e : ℕ) → ItemIs (left_under levels) s e → first_item levels s ≡ Ok e
 item_found levels s e i =
     ap (first_item levels) (sym (take-append-drop e s) ∙ ap (λ (l : List ℕ). l ++ drop e s) i.bytes)
     ∙ item_accepts levels i.item (drop e s) i.good i.shallow
-    ∙ ap ItemRead.Ends (ap length (sym i.bytes) ∙ length-take-le e s i.within)
+    ∙ ap Ok (ap length (sym i.bytes) ∙ length-take-le e s i.within)

@@ -1,6 +1,10 @@
 -- What the walk has passed before its answer: `parse`, whole items and then the end, or the first fault. So it accepts
 -- nothing but encodings: `item_exact`, where it answers `Ends e`, the first e bytes are the encoding of an item.
 -- Assumes nothing.
+use Rattle.std.specs.Prelude.{Ok, Err}
+use Rattle.base.specs.declared.refusal.Refusal.{Refusal}
+use Rattle.cbor.specs.declared.item.Step.TheVariants.{Passed, Opened}
+use Rattle.cbor.specs.Item.{ItemRead, StepRead}
 use mathlib.Core.Path.{◌≡◌, refl, sym, ap, ◌∙◌, subst}
 use mathlib.Core.Logic.{◌⊎◌, inl, inr}
 use mathlib.Core.List.{List, [], ◌∷◌, ◌++◌, append_assoc, append-nil}
@@ -9,15 +13,12 @@ use native.Mathlib.Nat.{le_refl, add-zero}
 use native.Mathlib.Omega.{arith}
 use lib.ListN.{length, take, drop, length-append, take-append-drop, length-drop}
 use lib.Seq.{length-take-le, take_at}
-use lib.Dec.{eqb}
 use Rattle.base.specs.BigEndian.{Bytes}
 use Rattle.base.proofs.Picks.{one_test}
 use Rattle.base.proofs.Parts.{bytes_drop}
-use Rattle.cbor.specs.declared.item.Step.{Step}
-use Rattle.cbor.specs.declared.item.ItemRead.{ItemRead}
 use Rattle.cbor.specs.Item.{step_at, items_of, left_under, next, run, enough, first_item}
 use Rattle.cbor.specs.Tree.{Item, Items, count, encode, encodes, depth, depths, Good, Goods, ItemIs, head_bytes}
-use Rattle.cbor.specs.Fault.{Fault, Begun, encode_begun, place_of, FirstFault}
+use Rattle.cbor.specs.Fault.{is_cut, Fault, Begun, encode_begun, place_of, FirstFault}
 use Rattle.cbor.proofs.Bounds.{StepOk, step_ok}
 use Rattle.cbor.proofs.HeadFault.{FaultIs}
 use Rattle.cbor.proofs.Steps.{LeafIs, NodeIs, StepIs, step_is, OpeningIs}
@@ -69,35 +70,35 @@ node_front s len ys h i rest e = (
 )
 
 -- a place further on
-pub place_shift : (number k head end : ℕ) → k + place_of number head end ≡ place_of number (k + head) (k + end)
+pub place_shift : (refusal : Refusal) (k head end : ℕ) → k + place_of refusal head end ≡ place_of refusal (k + head) (k + end)
 unfolding place_of
-place_shift number k head end = one_test (λ (a b : ℕ). k + a ≡ b) (eqb number 2) refl refl
+place_shift refusal k head end = one_test (λ (a b : ℕ). k + a ≡ b) (is_cut refusal) refl refl
 
 -- ---- what an answer says of the bytes: where it is, of those after the last item, and of those inside a level
 abbrev end_of : ItemRead → ℕ
-end_of (ItemRead.Ends e) = e
-end_of (ItemRead.Refused number place) = place
+end_of (Ok e) = e
+end_of (Err why) = why.place
 
 abbrev Ended : ItemRead → ℕ → Type 0
-Ended (ItemRead.Ends e) p = p ≡ 0
-Ended (ItemRead.Refused number place) p = ⊥
+Ended (Ok e) p = p ≡ 0
+Ended (Err why) p = ⊥
 
 abbrev Failed : ItemRead → ℕ → List ℕ → ℕ → Type 0
-Failed (ItemRead.Ends e) left s p = ⊥
-Failed (ItemRead.Refused number place) left s p = FirstFault left s number p
+Failed (Ok e) left s p = ⊥
+Failed (Err why) left s p = FirstFault left s why.refusal p
 
 -- a fault of the first head
-first_is : (left : ℕ) (s : List ℕ) (number place : ℕ) → FaultIs left s number place → FirstFault left s number place
+first_is : (left : ℕ) (s : List ℕ) (refusal : Refusal) (place : ℕ) → FaultIs left s refusal place → FirstFault left s refusal place
 unfolding encode_begun
-first_is left s number place f =
-    record { begun = []; unfinished = tt; rest = s; split = refl; fault = subst (λ (n : ℕ). Fault n s number) (omega arith) f.0; at = f.1 }
+first_is left s refusal place f =
+    record { begun = []; unfinished = tt; rest = s; split = refl; fault = subst (λ (n : ℕ). Fault n s refusal) (omega arith) f.0; at = f.1 }
 
 -- a level opened around the first fault
 around : (x : ItemRead) (left : ℕ) (s : List ℕ) (len m k p : ℕ) → len ≤ length s → 1 ≤ left → (i : OpeningIs s len m) → k < m
     → Level (Failed x (left - 1)) k (left - 1) (drop len s) p → Failed x left s (len + p)
 unfolding encode_begun
-around (ItemRead.Ends e) left s len m k p h some i lt l = absurd l.below
-around (ItemRead.Refused number place) left s len m k p h some i lt l =
+around (Ok e) left s len m k p h some i lt l = absurd l.below
+around (Err why) left s len m k p h some i lt l =
     let f = l.below in
     let b : Begun = record { major = i.major; width = i.width; arg = i.arg; items = l.items } in
     let head = head_bytes i.major i.width i.arg in
@@ -123,12 +124,12 @@ around (ItemRead.Refused number place) left s len m k p h some i lt l =
       );
       rest = f.rest;
       split = split;
-      fault = subst (λ (n : ℕ). Fault n f.rest number) (omega arith) f.fault;
+      fault = subst (λ (n : ℕ). Fault n f.rest why.refusal) (omega arith) f.fault;
       at =
-          ap (λ (n : ℕ). len + n) (l.sum ∙ ap (λ (n : ℕ). length inner + n) f.at ∙ place_shift number (length inner) _ _)
-          ∙ place_shift number len _ _
+          ap (λ (n : ℕ). len + n) (l.sum ∙ ap (λ (n : ℕ). length inner + n) f.at ∙ place_shift why.refusal (length inner) _ _)
+          ∙ place_shift why.refusal len _ _
           ∙ rw (length-append head (inner ++ encode_begun f.begun), length-append inner (encode_begun f.begun), long)
-          (ap (place_of number (len + (length inner + length (encode_begun f.begun)))) whole);
+          (ap (place_of why.refusal (len + (length inner + length (encode_begun f.begun)))) whole);
     }
 
 module _ (most : ℕ) (x : ItemRead) where
@@ -152,19 +153,19 @@ module _ (most : ℕ) (x : ItemRead) where
   stepped : (go : ℕ → List ℕ → List ℕ → ItemRead) (f at n : ℕ) (s stack : List ℕ) → Bytes s → enough s (suc n ∷ stack) ≤ suc f
       → ((at' : ℕ) (s' stack' : List ℕ) → Bytes s' → enough s' stack' ≤ f → go at' s' stack' ≡ x
       → (p : ℕ) × (end_of x ≡ at' + p) × Goes stack' s' p)
-      → (z : Step) → StepOk (most - length stack) (length s) z → StepIs (most - length stack) s z
+      → (z : StepRead) → StepOk (most - length stack) (length s) z → StepIs (most - length stack) s z
       → next go at s (n ∷ stack) z ≡ x → (p : ℕ) × (end_of x ≡ at + p) × Goes (suc n ∷ stack) s p
   unfolding next enough encode_begun
-  stepped go f at n s stack b turns rec (Step.Refused number p) ok is q =
-      let (sum, f) = subst (λ (y : ItemRead). (end_of y ≡ at + p) × Failed y (most - length stack) s p) q (refl, first_is (most - length stack) s number p is)
-      in
-      (p, sum, fault_here n s stack p f)
-  stepped go f at n s stack b turns rec (Step.Passed len) ok is q =
+  stepped go f at n s stack b turns rec (Err why) ok is q =
+      let P : ItemRead → Type 0 = λ y. (end_of y ≡ at + why.place) × Failed y (most - length stack) s why.place in
+      let (sum, f) = subst P q (refl, first_is (most - length stack) s why.refusal why.place is) in
+      (why.place, sum, fault_here n s stack why.place f)
+  stepped go f at n s stack b turns rec (Ok (Passed len)) ok is q =
       let d = length-drop len s in
       let (p, sum, l) = rec (at + len) (drop len s) (n ∷ stack) (bytes_drop len s b) (omega arith) q in
       let (long, split) = leaf_front s len ok.1 is in
       (length (encode is.item) + p, omega arith, after_item is.item n s (drop len s) stack p is.good (omega (arith, is.flat)) split l)
-  stepped go f at n s stack b turns rec (Step.Opened len k pairs) ok is q =
+  stepped go f at n s stack b turns rec (Ok (Opened len k pairs)) ok is q =
       let d = length-drop len s in
       let (p, sum, l) = rec (at + len) (drop len s) (items_of k pairs ∷ n ∷ stack) (bytes_drop len s b) (omega arith) q in
       opened p sum l
@@ -215,11 +216,11 @@ only left s rest e (Items.more x Items.done) g c d is sum =
     }
 only left s rest e (Items.more x (Items.more y ys)) g c d is sum = absurd (omega arith)
 
-pub item_exact : (levels : ℕ) (s : List ℕ) (e : ℕ) → Bytes s → first_item levels s ≡ ItemRead.Ends e → ItemIs (left_under levels) s e
+pub item_exact : (levels : ℕ) (s : List ℕ) (e : ℕ) → Bytes s → first_item levels s ≡ Ok e → ItemIs (left_under levels) s e
 unfolding first_item
 item_exact levels s e b q =
     let most = left_under levels in
-    let (p, sum, l) = parse most (ItemRead.Ends e) (enough s (1 ∷ [])) 0 s (1 ∷ []) b (le_refl (enough s (1 ∷ []))) q in
+    let (p, sum, l) = parse most (Ok e) (enough s (1 ∷ [])) 0 s (1 ∷ []) b (le_refl (enough s (1 ∷ []))) q in
     elim l [
       | inl l ↦ only most s l.rest e l.items l.good l.counted (omega (arith, l.shallow)) l.is (omega (arith, l.sum, l.below))
       | inr (k, lt, l) ↦ absurd l.below

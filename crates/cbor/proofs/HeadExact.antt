@@ -1,6 +1,11 @@
 -- Heads read and written (RFC 8949, section 3): `head_read`, a written head is read back, and `head_exactly`, which
 -- heads are read of bytes.
 -- Assumes nothing.
+use Rattle.std.specs.Prelude.{Ok, Err}
+use Rattle.base.specs.declared.refusal.Refusal.TheVariants as R
+use Rattle.base.specs.Refusal.{refused}
+use Rattle.cbor.specs.Head.{HeadRead, a_head}
+use Rattle.cbor.specs.Head.{InitialRead}
 use mathlib.Core.Path.{◌≡◌, refl, sym, ap, ◌∙◌, subst}
 use mathlib.Core.Logic.{◌↔◌}
 use mathlib.Core.List.{List, [], ◌∷◌, ◌++◌}
@@ -17,16 +22,15 @@ use Rattle.base.specs.Pick.{pick}
 use Rattle.base.specs.BigEndian.{bytes_of, Bytes, FirstBytes}
 use Rattle.base.proofs.Picks.{pick-case}
 use Rattle.base.proofs.Digits.{length_bytes, read_back, spelled, big_endian_lt, small_bytes}
-use Rattle.cbor.specs.declared.head.Initial.{Initial}
-use Rattle.cbor.specs.declared.head.HeadRead.{HeadRead}
 use Rattle.cbor.specs.Head.{width_of, least_of, initial_of, arg_of, judged, head_from, head_by, head_of, head_at}
+use Rattle.cbor.specs.declared.head.Head.{Head}
 use Rattle.cbor.specs.Tree.{info_of, head_bytes, shortest, Sized, Right, HeadIs}
 
 -- ---- what a head's reading goes by
 -- a whole head: what holds of each answer, where it is given
-pub judged_case : (P : HeadRead → Type 0) (major arg width : ℕ) → (major ≡ 7 → width ≡ 1 → arg < 32 → P (HeadRead.Refused 3 0))
-    → ((major ≡ 7 → ⊥) → arg < least_of width → P (HeadRead.Refused 5 0))
-    → ((major ≡ 7 → width ≡ 1 → 32 ≤ arg) → ((major ≡ 7 → ⊥) → least_of width ≤ arg) → P (HeadRead.Head major arg (1 + width)))
+pub judged_case : (P : HeadRead → Type 0) (major arg width : ℕ) → (major ≡ 7 → width ≡ 1 → arg < 32 → P (refused R.Reserved 0))
+    → ((major ≡ 7 → ⊥) → arg < least_of width → P (refused R.LongHead 0))
+    → ((major ≡ 7 → width ≡ 1 → 32 ≤ arg) → ((major ≡ 7 → ⊥) → least_of width ≤ arg) → P (a_head major arg (1 + width)))
     → P (judged major arg width)
 unfolding judged
 judged_case P major arg width low long fine =
@@ -39,9 +43,9 @@ judged_case P major arg width low long fine =
     pick-case P _ (λ a. long ne (ltb-true arg (least_of width) a)) (λ a. fine (λ e. absurd (ne e)) (λ _. ltb-false arg (least_of width) a)))
 
 -- a first byte with what follows it
-pub first_case : (P : HeadRead → Type 0) (first : ℕ) (s : List ℕ) → (28 ≤ first % 32 → first % 32 < 31 → P (HeadRead.Refused 3 0))
-    → (first % 32 ≡ 31 → P (HeadRead.Refused 4 0))
-    → (first % 32 < 28 → length s < width_of (first % 32) → P (HeadRead.Refused 2 (length s + 1)))
+pub first_case : (P : HeadRead → Type 0) (first : ℕ) (s : List ℕ) → (28 ≤ first % 32 → first % 32 < 31 → P (refused R.Reserved 0))
+    → (first % 32 ≡ 31 → P (refused R.Indefinite 0))
+    → (first % 32 < 28 → length s < width_of (first % 32) → P (refused R.Cut (length s + 1)))
     → (first % 32 < 28 → width_of (first % 32) ≤ length s → P (judged (first / 32) (arg_of first (width_of (first % 32)) s) (width_of (first % 32))))
     → P (head_of first s)
 unfolding head_of initial_of head_by head_from
@@ -50,10 +54,10 @@ first_case P first s reserved indefinite cut whole =
     (λ ne. pick-case by _ (λ e. reserved (leb-true 28 (first % 32) e) (omega (arith, eqb-false (first % 32) 31 ne)))
     (λ e. begins (leb-false 28 (first % 32) e)))
   where
-    by : Initial → Type 0
+    by : InitialRead → Type 0
     by i = P (head_by first s i)
 
-    begins : first % 32 < 28 → by (Initial.Begins (first / 32) (width_of (first % 32)))
+    begins : first % 32 < 28 → by (Ok (record { major = first / 32; width = width_of (first % 32) }))
     begins h = pick-case P _ (λ e. cut h (ltb-true (length s) (width_of (first % 32)) e)) (λ e. whole h (ltb-false (length s) (width_of (first % 32)) e))
 
 -- ---- the shortest form
@@ -133,11 +137,11 @@ length_head major width arg = ap suc (length_bytes width arg) ∙ omega arith
 
 -- a head without fault that is written is read
 pub head_read : (major width arg : ℕ) (rest : List ℕ) → Right major width arg
-    → head_at (head_bytes major width arg ++ rest) ≡ HeadRead.Head major arg (length (head_bytes major width arg))
+    → head_at (head_bytes major width arg ++ rest) ≡ a_head major arg (length (head_bytes major width arg))
 head_read major width arg rest h =
     written major width arg rest h.sized
     ∙ judged_case
-    (λ r. r ≡ HeadRead.Head major arg (1 + width))
+    (λ r. r ≡ a_head major arg (1 + width))
     major
     arg
     width
@@ -146,11 +150,20 @@ head_read major width arg rest h =
     (λ _ _. refl)
     ∙ simp length_head
 
+-- heads that are the same have the same numbers
+told : (Head → ℕ) → HeadRead → ℕ
+told f (Err why) = 0
+told f (Ok head) = f head
+
+pub same_head : {major major' arg arg' len len' : ℕ} → a_head major arg len ≡ a_head major' arg' len' → (major ≡ major') × (arg ≡ arg') × (len ≡ len')
+unfolding told
+same_head e = (ap (told (λ head. head.major)) e, ap (told (λ head. head.arg)) e, ap (told (λ head. head.len)) e)
+
 -- ---- read, then written
 -- P holds of a head that is read
 abbrev IfHead : (ℕ → ℕ → ℕ → Type 0) → HeadRead → Type 0
-IfHead P (HeadRead.Refused number place) = Unit {0}
-IfHead P (HeadRead.Head major arg len) = P major arg len
+IfHead P (Err why) = Unit {0}
+IfHead P (Ok head) = P head.major head.arg head.len
 
 -- a head that is all there, with or without fault
 pub record Whole (s : List ℕ) (major arg width : ℕ) : Type 0 where
@@ -210,7 +223,7 @@ faultless {width = width} w simple short =
     }
 
 -- and one that was read is without fault
-pub head_is : (s : List ℕ) {major arg len : ℕ} → Bytes s → head_at s ≡ HeadRead.Head major arg len → HeadIs s major arg len
+pub head_is : (s : List ℕ) {major arg len : ℕ} → Bytes s → head_at s ≡ a_head major arg len → HeadIs s major arg len
 unfolding head_at
 head_is s b e = subst (IfHead (HeadIs s)) e (by s b)
   where
@@ -227,7 +240,7 @@ arg_bytes first zero s h = λ i l. absurd (omega arith)
 arg_bytes first (suc n) s h = small_bytes (suc n) s (rw (ne_eqb (suc n) 0 (λ e. omega arith)) at h)
 
 -- a head with an argument below 256 that was read is one that is written, whatever numbers follow it
-pub small_is : (s : List ℕ) {major arg len : ℕ} → head_at s ≡ HeadRead.Head major arg len → major < 8 → arg < 2 ^ 8 → HeadIs s major arg len
+pub small_is : (s : List ℕ) {major arg len : ℕ} → head_at s ≡ a_head major arg len → major < 8 → arg < 2 ^ 8 → HeadIs s major arg len
 unfolding head_at
 small_is s e = subst (P s) e (by s)
   where
@@ -263,11 +276,11 @@ no_shorter width arg (Sized.eight h) = shortest_case (λ w. w ≤ 8) arg (omega 
 -- for readers
 
 -- A head is read of bytes exactly where they begin with one without fault.
-pub head_exactly : (s : List ℕ) (major arg len : ℕ) → Bytes s → head_at s ≡ HeadRead.Head major arg len ↔ HeadIs s major arg len
+pub head_exactly : (s : List ℕ) (major arg len : ℕ) → Bytes s → head_at s ≡ a_head major arg len ↔ HeadIs s major arg len
 head_exactly s major arg len b = (head_is s b, read)
   where
-    read : HeadIs s major arg len → head_at s ≡ HeadRead.Head major arg len
+    read : HeadIs s major arg len → head_at s ≡ a_head major arg len
     read h =
         let split : s ≡ head_bytes major h.width arg ++ drop len s = sym (take-append-drop len s) ∙ ap (λ (t : List ℕ). t ++ drop len s) h.bytes in
         let size : length (head_bytes major h.width arg) ≡ len = ap length (sym h.bytes) ∙ length-take-le len s h.within in
-        ap head_at split ∙ head_read major h.width arg (drop len s) h.right ∙ ap (HeadRead.Head major arg) size
+        ap head_at split ∙ head_read major h.width arg (drop len s) h.right ∙ ap (a_head major arg) size

@@ -1,6 +1,11 @@
 -- A head is refused exactly where it is at fault (RFC 8949, section 3): `head_fault`, a refusal names the fault, and,
 -- for each fault, that it is refused.
 -- Assumes nothing.
+use Rattle.std.specs.Prelude.{Ok, Err}
+use Rattle.base.specs.declared.refusal.Refusal.{Refusal}
+use Rattle.base.specs.declared.refusal.Refusal.TheVariants as R
+use Rattle.base.specs.Refusal.{refused}
+use Rattle.cbor.specs.Head.{HeadRead}
 use mathlib.Core.Path.{◌≡◌, refl, sym, ap, ◌∙◌, subst}
 use mathlib.Core.Logic.{◌≢◌}
 use mathlib.Core.List.{List, [], ◌∷◌, ◌++◌}
@@ -14,7 +19,6 @@ use borrow.Author.Tests.{lt-ltb, le-leb, lt-leb, eq-eqb, ne_eqb, ltb-false, eqb-
 use Rattle.base.specs.Pick.{pick}
 use Rattle.base.specs.BigEndian.{Bytes}
 use Rattle.base.proofs.Picks.{pick-case}
-use Rattle.cbor.specs.declared.head.HeadRead.{HeadRead}
 use Rattle.cbor.specs.Head.{width_of, least_of, initial_of, judged, head_from, head_by, head_of, head_at}
 use Rattle.cbor.specs.Tree.{head_bytes, shortest, Sized}
 use Rattle.cbor.specs.Fault.{Announces, Fault, place_of}
@@ -43,13 +47,13 @@ announces_width Announces.four = (lit< tt, refl)
 announces_width Announces.eight = (lit< tt, refl)
 
 -- a fault of the head at the start of s, and its place
-abbrev pub FaultIs : ℕ → List ℕ → ℕ → ℕ → Type 0
-FaultIs left s number place = Fault left s number × (place ≡ place_of number 0 (length s))
+abbrev pub FaultIs : ℕ → List ℕ → Refusal → ℕ → Type 0
+FaultIs left s refusal place = Fault left s refusal × (place ≡ place_of refusal 0 (length s))
 
 -- where the head is refused
 abbrev IfRefused : ℕ → List ℕ → HeadRead → Type 0
-IfRefused left s (HeadRead.Head major arg len) = Unit {0}
-IfRefused left s (HeadRead.Refused number place) = FaultIs left s number place
+IfRefused left s (Ok head) = Unit {0}
+IfRefused left s (Err why) = FaultIs left s why.refusal why.place
 
 fault_is : (left : ℕ) (s : List ℕ) → Bytes s → IfRefused left s (head_at s)
 unfolding head_at place_of pick
@@ -80,26 +84,26 @@ fault_is left (first ∷ s) b =
         (λ _ _. tt)
 
 -- every refusal of a head is a fault of it
-pub head_fault : (left : ℕ) (s : List ℕ) (number place : ℕ) → Bytes s → head_at s ≡ HeadRead.Refused number place → FaultIs left s number place
-head_fault left s number place b e = subst (IfRefused left s) e (fault_is left s b)
+pub head_fault : (left : ℕ) (s : List ℕ) (refusal : Refusal) (place : ℕ) → Bytes s → head_at s ≡ refused refusal place → FaultIs left s refusal place
+head_fault left s refusal place b e = subst (IfRefused left s) e (fault_is left s b)
 
 -- ---- and every fault of a head is refused
-pub missing_refused : {s : List ℕ} → s ≡ [] → head_at s ≡ HeadRead.Refused 2 (place_of 2 0 (length s))
+pub missing_refused : {s : List ℕ} → s ≡ [] → head_at s ≡ refused R.Cut (place_of R.Cut 0 (length s))
 unfolding head_at place_of pick
 missing_refused e = rw e
 
 pub reserved_refused : {s : List ℕ} (first : ℕ) (rest : List ℕ) → s ≡ first ∷ rest → 28 ≤ first % 32 → first % 32 < 31
-    → head_at s ≡ HeadRead.Refused 3 (place_of 3 0 (length s))
+    → head_at s ≡ refused R.Reserved (place_of R.Reserved 0 (length s))
 unfolding head_at head_of head_by initial_of place_of pick
 reserved_refused first rest e low high = rw (e, ne_eqb (first % 32) 31 (omega arith), le-leb 28 (first % 32) low)
 
 pub indefinite_refused : {s : List ℕ} (first : ℕ) (rest : List ℕ) → s ≡ first ∷ rest → first % 32 ≡ 31
-    → head_at s ≡ HeadRead.Refused 4 (place_of 4 0 (length s))
+    → head_at s ≡ refused R.Indefinite (place_of R.Indefinite 0 (length s))
 unfolding head_at head_of head_by initial_of place_of pick
 indefinite_refused first rest e h = rw (e, eq-eqb (first % 32) 31 h)
 
 pub cut_refused : {s : List ℕ} (first : ℕ) (rest : List ℕ) {width : ℕ} → s ≡ first ∷ rest → Announces (first % 32) width → length rest < width
-    → head_at s ≡ HeadRead.Refused 2 (place_of 2 0 (length s))
+    → head_at s ≡ refused R.Cut (place_of R.Cut 0 (length s))
 unfolding head_at head_of head_by head_from initial_of place_of pick
 cut_refused first rest e announces short =
     let (low, same) = announces_width announces in
@@ -112,13 +116,13 @@ cut_refused first rest e announces short =
     )
 
 pub low_simple_refused : {s : List ℕ} (value : ℕ) (rest : List ℕ) → s ≡ head_bytes 7 1 value ++ rest → value < 32
-    → head_at s ≡ HeadRead.Refused 3 (place_of 3 0 (length s))
+    → head_at s ≡ refused R.Reserved (place_of R.Reserved 0 (length s))
 unfolding judged place_of pick
 low_simple_refused value rest e low = ap head_at e ∙ written 7 1 value rest (Sized.one (omega arith)) ∙ rw (lt-ltb value 32 low)
 
 pub long_refused : {s : List ℕ} (major width arg : ℕ) (rest : List ℕ) → s ≡ head_bytes major width arg ++ rest → major < 7 → Sized width arg
     → width ≢ shortest arg
-    → head_at s ≡ HeadRead.Refused 5 (place_of 5 0 (length s))
+    → head_at s ≡ refused R.LongHead (place_of R.LongHead 0 (length s))
 unfolding judged place_of pick
 long_refused major width arg rest e m sized other =
     let low : arg < least_of width = elim (dec_lt arg (least_of width)) [

@@ -1,11 +1,15 @@
 -- The first whole item, held against RFC 8949. For readers: each statement stands alone.
 -- Assumes nothing.
+use Rattle.std.specs.Prelude.{Ok}
+use Rattle.base.specs.declared.refusal.Refusal.{Refusal}
+use Rattle.base.specs.declared.refusal.Refusal.TheVariants as R
+use Rattle.base.specs.Refusal.{number_of, refused}
+use Rattle.cbor.specs.Item.{ItemRead}
 use mathlib.Core.Path.{◌≡◌, sym, ap, ◌∙◌, subst}
 use mathlib.Core.Logic.{◌↔◌, ◌≢◌}
 use mathlib.Core.List.{List, [], ◌++◌}
 use Prim.Native.Nat.{ℕ, ◌≤◌}
 use Rattle.base.specs.BigEndian.{Bytes}
-use Rattle.cbor.specs.declared.item.ItemRead.{ItemRead}
 use Rattle.cbor.specs.Item.{left_under, first_item}
 use Rattle.cbor.specs.Tree.{ItemIs}
 use Rattle.cbor.specs.Fault.{FirstFault}
@@ -19,7 +23,7 @@ use Rattle.cbor.proofs.Refuses.{refusal_sound, refusal_complete}
 
 -- An item is accepted exactly if the bytes up to its end are the encoding of one without fault, of no more levels than
 -- may open.
-pub accepted_exactly : (levels : ℕ) (s : List ℕ) (e : ℕ) → Bytes s → first_item levels s ≡ ItemRead.Ends e ↔ ItemIs (left_under levels) s e
+pub accepted_exactly : (levels : ℕ) (s : List ℕ) (e : ℕ) → Bytes s → first_item levels s ≡ Ok e ↔ ItemIs (left_under levels) s e
 accepted_exactly levels s e b = (item_exact levels s e b, item_found levels s e)
 
 -- It is the encoding of no other.
@@ -27,22 +31,23 @@ pub accepted_once : {left e : ℕ} {s : List ℕ} (i j : ItemIs left s e) → i.
 accepted_once i j = unique i.item j.item [] [] i.good j.good (ap (λ (t : List ℕ). t ++ []) (sym i.bytes ∙ j.bytes))
 
 -- What follows an item changes nothing.
-pub accepted_followed : (levels : ℕ) (s t : List ℕ) (e : ℕ) → first_item levels s ≡ ItemRead.Ends e → first_item levels (s ++ t) ≡ ItemRead.Ends e
+pub accepted_followed : (levels : ℕ) (s t : List ℕ) (e : ℕ) → first_item levels s ≡ Ok e → first_item levels (s ++ t) ≡ Ok e
 accepted_followed levels s t e q = subst (λ (x : ItemRead). Stays x (first_item levels (s ++ t))) q (item_stays levels s t)
 
 -- A refusal is given exactly where an unfinished item, all of whose heads are good, is followed by a head at fault: the
 -- leftmost.
-pub refused_exactly : (levels : ℕ) (s : List ℕ) (number place : ℕ) → Bytes s
-    → first_item levels s ≡ ItemRead.Refused number place ↔ FirstFault (left_under levels) s number place
-refused_exactly levels s number place b = (refusal_sound levels s number place b, refusal_complete levels s number place)
+pub refused_exactly : (levels : ℕ) (s : List ℕ) (refusal : Refusal) (place : ℕ) → Bytes s
+    → first_item levels s ≡ refused refusal place ↔ FirstFault (left_under levels) s refusal place
+refused_exactly levels s refusal place b = (refusal_sound levels s refusal place b, refusal_complete levels s refusal place)
 
--- A refusal other than 2 stays, whatever bytes are appended.
-pub refused_followed : (levels : ℕ) (s t : List ℕ) (number place : ℕ) → number ≢ 2 → first_item levels s ≡ ItemRead.Refused number place
-    → first_item levels (s ++ t) ≡ ItemRead.Refused number place
-refused_followed levels s t number place other q = (subst (λ (x : ItemRead). Stays x (first_item levels (s ++ t))) q (item_stays levels s t)).2 other
+-- A refusal but `Cut` stays, whatever bytes are appended.
+pub refused_followed : (levels : ℕ) (s t : List ℕ) (refusal : Refusal) (place : ℕ) → refusal ≢ R.Cut → first_item levels s ≡ refused refusal place
+    → first_item levels (s ++ t) ≡ refused refusal place
+refused_followed levels s t refusal place other q = (subst (λ (x : ItemRead). Stays x (first_item levels (s ++ t))) q (item_stays levels s t)).2 other
 
--- No number but 2 to 6 is given: the definition's turns never run out.
-pub refused_numbers : (levels : ℕ) (s : List ℕ) (number place : ℕ) → first_item levels s ≡ ItemRead.Refused number place → (2 ≤ number) × (number ≤ 6)
-refused_numbers levels s number place q =
+-- No refusal but 2 to 6 is given: the definition's turns never run out.
+pub refused_numbers : (levels : ℕ) (s : List ℕ) (refusal : Refusal) (place : ℕ) → first_item levels s ≡ refused refusal place
+    → (2 ≤ number_of refusal) × (number_of refusal ≤ 6)
+refused_numbers levels s refusal place q =
     let h = subst (λ (x : ItemRead). Stays x (first_item levels (s ++ []))) q (item_stays levels s []) in
     (h.0, h.1)

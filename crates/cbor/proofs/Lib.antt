@@ -13,7 +13,6 @@ pub mod Tokens
 pub mod Passes
 pub mod Kept
 pub mod Stores
-pub mod Copies
 -- For the proofs of this crate.
 mod Bounds
 mod Common

@@ -1,6 +1,10 @@
 -- The walk passes over items: over a token that opens nothing, over an array by its items, over any item whose size is
 -- read; and where it passes over one from the start, it ends there. No fact on the elements is asked.
 -- Assumes nothing.
+use Rattle.std.specs.Prelude.{Ok, Err}
+use Rattle.cbor.specs.declared.item.Step.TheVariants.{Passed, Opened}
+use Rattle.cbor.specs.Head.{HeadRead, a_head}
+use Rattle.cbor.specs.Item.{ItemRead, StepRead}
 use mathlib.Core.Path.{◌≡◌, refl, sym, ◌∙◌, subst}
 use mathlib.Core.Logic.{◌⊎◌, inl, inr}
 use mathlib.Core.List.{List, [], ◌∷◌, ◌++◌}
@@ -14,9 +18,6 @@ use lib.Dec.{ltb, leb}
 use borrow.Author.Tests.{ltb-true, ltb-false, lt-leb, le-leb, ne_eqb}
 use Rattle.base.specs.Pick.{pick}
 use Rattle.base.proofs.Picks.{pick-case}
-use Rattle.cbor.specs.declared.head.HeadRead.{HeadRead}
-use Rattle.cbor.specs.declared.item.Step.{Step}
-use Rattle.cbor.specs.declared.item.ItemRead.{ItemRead}
 use Rattle.cbor.specs.declared.token.Token.{Token}
 use Rattle.cbor.specs.Head.{head_at}
 use Rattle.cbor.specs.Item.{opens, step_of, step_from, step_at, items_of, left_under, next, run, first_item}
@@ -49,7 +50,7 @@ passes_within {s = s} {p} {e} h =
 -- ---- a step
 module _ (left : ℕ) (s : List ℕ) (p : ℕ) where
   -- the walk after a step
-  after : (most from k : ℕ) (stack : List ℕ) (x : Step) → most ≡ left + length stack → step_at left (drop p s) ≡ x
+  after : (most from k : ℕ) (stack : List ℕ) (x : StepRead) → most ≡ left + length stack → step_at left (drop p s) ≡ x
       → runs most (from + p) (drop p s) ((1 + k) ∷ stack) ≡ next (runs most) (from + p) (drop p s) (k ∷ stack) x
   after most from k stack x levels answer =
       let here : most - length stack ≡ left = omega arith in
@@ -57,20 +58,20 @@ module _ (left : ℕ) (s : List ℕ) (p : ℕ) where
       rw one (runs_step most (from + p) k (drop p s) stack ∙ rw (here, answer))
 
   -- a step that opens nothing
-  step_passes : (len : ℕ) → step_at left (drop p s) ≡ Step.Passed len → Passes left 1 s p (p + len)
+  step_passes : (len : ℕ) → step_at left (drop p s) ≡ Ok (Passed len) → Passes left 1 s p (p + len)
   unfolding next
   step_passes len answer =
-      record { walk = λ most from k stack levels. rw (← add_assoc from p len, ← drop-drop len p s) (after most from k stack (Step.Passed len) levels answer) }
+      record { walk = λ most from k stack levels. rw (← add_assoc from p len, ← drop-drop len p s) (after most from k stack (Ok (Passed len)) levels answer) }
 
 -- a step that opens a level, and the items of the level
-step_opens : (left : ℕ) (s : List ℕ) (p len n e : ℕ) → step_at (suc left) (drop p s) ≡ Step.Opened len n false → Passes left n s (p + len) e
+step_opens : (left : ℕ) (s : List ℕ) (p len n e : ℕ) → step_at (suc left) (drop p s) ≡ Ok (Opened len n false) → Passes left n s (p + len) e
     → Passes (suc left) 1 s p e
 unfolding next items_of pick
 step_opens left s p len n e answer h =
     record {
       walk =
           λ most from k stack levels.
-          after (suc left) s p most from k stack (Step.Opened len n false) levels answer
+          after (suc left) s p most from k stack (Ok (Opened len n false)) levels answer
           ∙ rw (add_assoc from p len, drop-drop len p s)
           (rw (add-zero n) at (h.walk most from 0 (k ∷ stack) (omega arith)) ∙ runs_close most (from + e) (drop e s) (k ∷ stack));
     }
@@ -86,12 +87,12 @@ leaf_there t (inl low) = omega arith
 leaf_there t (inr seven) = omega arith
 
 -- what the walk makes of a head that is read as a token at p: the next is where it goes on
-record Walked (p : ℕ) (step : ℕ → Step) (t : Token) : Type 0 where
-  leaf : (left : ℕ) → Leaf t → step left ≡ Step.Passed (t.next - p)
-  array : (left : ℕ) → t.major ≡ 4 → step (suc left) ≡ Step.Opened (t.next - p) t.arg false
+record Walked (p : ℕ) (step : ℕ → StepRead) (t : Token) : Type 0 where
+  leaf : (left : ℕ) → Leaf t → step left ≡ Ok (Passed (t.next - p))
+  array : (left : ℕ) → t.major ≡ 4 → step (suc left) ≡ Ok (Opened (t.next - p) t.arg false)
 
 -- nothing is no token
-nothing_walked : (p : ℕ) (step : ℕ → Step) → Walked p step (nothing_at p)
+nothing_walked : (p : ℕ) (step : ℕ → StepRead) → Walked p step (nothing_at p)
 unfolding nothing_at
 nothing_walked p step =
     record {
@@ -102,38 +103,38 @@ nothing_walked p step =
 -- a head is passed where its token is a leaf, and opens its items where it is an array
 walked_from : (p room : ℕ) (x : HeadRead) → Walked p (λ left. step_from left room x) (token_from p room x)
 unfolding token_from token_of step_from step_of opens pick
-walked_from p room (HeadRead.Refused number place) = nothing_walked p _
-walked_from p room (HeadRead.Head major arg len) =
-    pick-case Ok (ltb 1 major)
-    (λ e. pick-case Ok (ltb major 4)
+walked_from p room (Err why) = nothing_walked p _
+walked_from p room (Ok head) =
+    pick-case Fine (ltb 1 head.major)
+    (λ e. pick-case Fine (ltb head.major 4)
     (λ f.
-    let lo = ltb-true 1 major e in
-    let hi = ltb-true major 4 f in
-    pick-case Ok (leb arg (room - len))
+    let lo = ltb-true 1 head.major e in
+    let hi = ltb-true head.major 4 f in
+    pick-case Fine (leb head.arg (room - head.len))
     (λ g.
-    let size : p + len + arg - p ≡ len + arg = omega arith in
+    let size : p + head.len + head.arg - p ≡ head.len + head.arg = omega arith in
     record {
-      leaf = λ left _. rw (ne_eqb major 7 (λ z. omega arith), lt-leb 4 major hi, le-leb 2 major lo, g, size);
+      leaf = λ left _. rw (ne_eqb head.major 7 (λ z. omega arith), lt-leb 4 head.major hi, le-leb 2 head.major lo, g, size);
       array = λ left four. absurd (omega arith);
     })
     (λ _. nothing_walked p _))
     (λ f.
-    let hi = ltb-false major 4 f in
+    let hi = ltb-false head.major 4 f in
     record {
       leaf = λ left is. elim is [ inl low ↦ absurd (omega arith) | inr seven ↦ rw (seven, back) ];
       array = λ left four. rw (four, ne_eqb (suc left) 0 (λ z. omega arith), back);
     }))
     (λ e.
-    let lo = ltb-false 1 major e in
+    let lo = ltb-false 1 head.major e in
     record {
-      leaf = λ left _. rw (ne_eqb major 7 (λ z. omega arith), lt-leb 4 major (omega arith), lt-leb 2 major (omega arith), back);
+      leaf = λ left _. rw (ne_eqb head.major 7 (λ z. omega arith), lt-leb 4 head.major (omega arith), lt-leb 2 head.major (omega arith), back);
       array = λ left four. absurd (omega arith);
     })
   where
-    Ok : Token → Type 0
-    Ok = Walked p (λ left. step_from left room (HeadRead.Head major arg len))
+    Fine : Token → Type 0
+    Fine = Walked p (λ left. step_from left room (a_head head.major head.arg head.len))
 
-    back : p + len - p ≡ len
+    back : p + head.len - p ≡ head.len
     back = omega arith
 
 module _ (s : List ℕ) (p : ℕ) where
@@ -163,19 +164,19 @@ module _ (left most from e k : ℕ) (s stack : List ℕ) where
   Around p above c = runs most (from + p) (drop p s) (above ++ (c + k) ∷ stack) ≡ runs most (from + e) (drop e s) (k ∷ stack)
 
   -- after a step
-  stepped : (f p c : ℕ) (above : List ℕ) (x : Step)
-      → ((len : ℕ) (new : List ℕ) → run left f (p + len) (drop (p + len) s) (new ++ above ++ c ∷ []) ≡ ItemRead.Ends e → Around (p + len) (new ++ above) c)
-      → next (run left f) p (drop p s) (above ++ c ∷ []) x ≡ ItemRead.Ends e
+  stepped : (f p c : ℕ) (above : List ℕ) (x : StepRead)
+      → ((len : ℕ) (new : List ℕ) → run left f (p + len) (drop (p + len) s) (new ++ above ++ c ∷ []) ≡ Ok e → Around (p + len) (new ++ above) c)
+      → next (run left f) p (drop p s) (above ++ c ∷ []) x ≡ Ok e
       → next (runs most) (from + p) (drop p s) (above ++ (c + k) ∷ stack) x ≡ runs most (from + e) (drop e s) (k ∷ stack)
   unfolding next
-  stepped f p c above (Step.Refused number place) go q = cc
-  stepped f p c above (Step.Passed len) go q = rw (add_assoc from p len, drop-drop len p s) (go len [] (rw (drop-drop len p s) at q))
-  stepped f p c above (Step.Opened len n pairs) go q =
+  stepped f p c above (Err why) go q = cc
+  stepped f p c above (Ok (Passed len)) go q = rw (add_assoc from p len, drop-drop len p s) (go len [] (rw (drop-drop len p s) at q))
+  stepped f p c above (Ok (Opened len n pairs)) go q =
       rw (add_assoc from p len, drop-drop len p s) (go len (items_of n pairs ∷ []) (rw (drop-drop len p s) at q))
 
   module _ (levels : most ≡ left + length stack) where
     -- turn by turn
-    around : (f p : ℕ) (above : List ℕ) (c : ℕ) → run left f p (drop p s) (above ++ c ∷ []) ≡ ItemRead.Ends e → Around p above c
+    around : (f p : ℕ) (above : List ℕ) (c : ℕ) → run left f p (drop p s) (above ++ c ∷ []) ≡ Ok e → Around p above c
     unfolding run
     around zero p above c q = cc
     around (suc zero) p [] zero q = cc
@@ -196,22 +197,22 @@ module _ (left most from e k : ℕ) (s stack : List ℕ) where
         (λ len new. around f (p + len) (new ++ n ∷ above) c) q)
 
 -- the first item is passed
-item_passes : (levels : ℕ) (s : List ℕ) (e : ℕ) → first_item levels s ≡ ItemRead.Ends e → Passes (left_under levels) 1 s 0 e
+item_passes : (levels : ℕ) (s : List ℕ) (e : ℕ) → first_item levels s ≡ Ok e → Passes (left_under levels) 1 s 0 e
 unfolding first_item
 item_passes levels s e q = record { walk = λ most from k stack same. around (left_under levels) most from e k s stack same _ 0 [] 1 q }
 
 -- and the walk ends where it is passed
-pub passes_item : (levels : ℕ) (s : List ℕ) (e : ℕ) → Passes (left_under levels) 1 s 0 e → first_item levels s ≡ ItemRead.Ends e
+pub passes_item : (levels : ℕ) (s : List ℕ) (e : ℕ) → Passes (left_under levels) 1 s 0 e → first_item levels s ≡ Ok e
 unfolding first_item
 passes_item levels s e h =
     let most = left_under levels in
     h.walk most 0 0 [] (sym (add-zero most)) ∙ rw (zero-add e) (runs_close most e (drop e s) [] ∙ runs_end most e (drop e s))
 
 -- an item ends where its size says
-pub size_ends : (x : ItemRead) → (size_from x ≡ 0 → ⊥) → x ≡ ItemRead.Ends (size_from x)
+pub size_ends : (x : ItemRead) → (size_from x ≡ 0 → ⊥) → x ≡ Ok (size_from x)
 unfolding size_from
-size_ends (ItemRead.Refused number place) some = absurd (some refl)
-size_ends (ItemRead.Ends end) some = refl
+size_ends (Err why) some = absurd (some refl)
+size_ends (Ok end) some = refl
 
 -- an item whose size is read is passed
 pub size_passes : (levels : ℕ) (s : List ℕ) (p : ℕ) → (size_at levels s p ≡ 0 → ⊥) → Passes (left_under levels) 1 s p (p + size_at levels s p)

@@ -1,6 +1,7 @@
 -- The shortest head written (RFC 8949, section 4.1): it is read back, no head of that argument is shorter, and where it
 -- stands in the buffer.
 -- Assumes nothing.
+use Rattle.cbor.specs.Head.{a_head}
 use mathlib.Core.Path.{◌≡◌, sym, ◌∙◌}
 use mathlib.Core.Logic.{◌⊎◌}
 use mathlib.Core.List.{List, ◌++◌}
@@ -8,7 +9,6 @@ use Prim.Native.Nat.{ℕ, ◌+◌, ◌^◌, ◌≤◌, ◌<◌}
 use native.Mathlib.Omega.{arith}
 use lib.ListN.{length, take, drop}
 use lib.Seq.{sets-eq}
-use Rattle.cbor.specs.declared.head.HeadRead.{HeadRead}
 use Rattle.cbor.specs.Head.{head_at}
 use Rattle.cbor.specs.Tree.{head_bytes, shortest, Sized}
 use Rattle.cbor.specs.Put.{head, head_end, head_put}
@@ -19,7 +19,7 @@ use Rattle.cbor.proofs.Stores.{length_shortest, not_stored, stored}
 
 -- what is written is read
 pub head_reads_back : (major arg : ℕ) (rest : List ℕ) → major < 7 → arg < 2 ^ 64
-    → head_at (head major arg ++ rest) ≡ HeadRead.Head major arg (length (head major arg))
+    → head_at (head major arg ++ rest) ≡ a_head major arg (length (head major arg))
 unfolding head
 head_reads_back major arg rest m h = head_read major (shortest arg) arg rest (shortest_right major arg m h)
 

@@ -2,14 +2,17 @@
 -- three equations that `run` states, `runs_end`, `runs_close` and `runs_step`. And `runs_many`: a count that exceeds
 -- the bytes left may be any other such count.
 -- Assumes nothing.
+use Rattle.std.specs.Prelude.{Ok, Err}
+use Rattle.base.specs.declared.refusal.Refusal.{Refusal}
+use Rattle.base.specs.Refusal.{refused}
+use Rattle.cbor.specs.declared.item.Step.TheVariants.{Passed, Opened}
+use Rattle.cbor.specs.Item.{ItemRead, StepRead}
 use mathlib.Core.Path.{◌≡◌, refl, ap, ◌∙◌}
 use mathlib.Core.List.{List, [], ◌∷◌, ◌++◌, append_assoc}
 use Prim.Native.Nat.{ℕ, zero, suc, ◌+◌, ◌-◌, ◌*◌, ◌≤◌, ◌<◌, zero-le}
 use native.Mathlib.Nat.{le_refl}
 use native.Mathlib.Omega.{arith}
 use lib.ListN.{length, drop, length-drop, length-append}
-use Rattle.cbor.specs.declared.item.Step.{Step}
-use Rattle.cbor.specs.declared.item.ItemRead.{ItemRead}
 use Rattle.cbor.specs.Item.{step_at, items_of, next, run, enough}
 use Rattle.cbor.proofs.Bounds.{StepOk, step_ok}
 
@@ -18,14 +21,14 @@ runs most at s stack = run most (enough s stack) at s stack
 
 -- two walks are related after a step where they are so on fewer bytes and at most one level more
 module _ (R : ItemRead → ItemRead → Type 0) (at : ℕ) (s st st' : List ℕ) (go go' : ℕ → List ℕ → List ℕ → ItemRead) where
-  pub next_both : (left : ℕ) (x : Step) → StepOk left (length s) x → ((number place : ℕ) → R (ItemRead.Refused number place) (ItemRead.Refused number place))
+  pub next_both : (left : ℕ) (x : StepRead) → StepOk left (length s) x → ((refusal : Refusal) (place : ℕ) → R (refused refusal place) (refused refusal place))
       → ((len : ℕ) (new : List ℕ) → 1 ≤ len → len ≤ length s → length new ≤ 1
       → R (go (at + len) (drop len s) (new ++ st)) (go' (at + len) (drop len s) (new ++ st')))
       → R (next go at s st x) (next go' at s st' x)
   unfolding next
-  next_both left (Step.Refused number place) h same agree = same number (at + place)
-  next_both left (Step.Passed len) h same agree = agree len [] h.0 h.1 zero-le
-  next_both left (Step.Opened len n pairs) h same agree = agree len (items_of n pairs ∷ []) h.0.0 h.0.1 (le_refl 1)
+  next_both left (Err why) h same agree = same why.refusal (at + why.place)
+  next_both left (Ok (Passed len)) h same agree = agree len [] h.0 h.1 zero-le
+  next_both left (Ok (Opened len n pairs)) h same agree = agree len (items_of n pairs ∷ []) h.0.0 h.0.1 (le_refl 1)
 
 module _ (most : ℕ) where
   -- any count of turns that is large enough gives the same
@@ -42,7 +45,7 @@ module _ (most : ℕ) where
       let a = length-append new (n ∷ stack) in
       any_turns f g (at + len) (drop len s) (new ++ n ∷ stack) (omega arith) (omega arith))
 
-  pub runs_end : (at : ℕ) (s : List ℕ) → runs most at s [] ≡ ItemRead.Ends at
+  pub runs_end : (at : ℕ) (s : List ℕ) → runs most at s [] ≡ Ok at
   unfolding run enough
   runs_end at s = refl
 

@@ -1,5 +1,11 @@
 -- What a step of the walk has found in the bytes: an item that holds no others, the head of one that does, or a fault.
 -- Assumes nothing.
+use Rattle.std.specs.Prelude.{Ok, Err}
+use Rattle.base.specs.declared.refusal.Refusal.TheVariants as R
+use Rattle.cbor.specs.declared.item.Step.{Step}
+use Rattle.cbor.specs.declared.item.Step.TheVariants.{Passed, Opened}
+use Rattle.cbor.specs.Head.{HeadRead}
+use Rattle.cbor.specs.Item.{StepRead}
 use mathlib.Core.Path.{◌≡◌, refl, sym, ap, ◌∙◌, subst}
 use mathlib.Core.List.{List, ◌++◌, append-nil}
 use mathlib.Core.Bool.{Bool, true, false, cond}
@@ -14,8 +20,6 @@ use Rattle.base.specs.Pick.{pick}
 use Rattle.base.specs.BigEndian.{Bytes}
 use Rattle.base.proofs.Picks.{pick-case, one_test}
 use Rattle.base.proofs.Parts.{bytes_drop, bytes_take}
-use Rattle.cbor.specs.declared.item.Step.{Step}
-use Rattle.cbor.specs.declared.head.HeadRead.{HeadRead}
 use Rattle.cbor.specs.Head.{head_at}
 use Rattle.cbor.specs.Item.{opens, step_of, step_from, step_at, items_of}
 use Rattle.cbor.specs.Tree.{Item, Items, head_bytes, Right, HeadIs, count, encode, encodes, depth, depths, Good, Goods}
@@ -49,22 +53,22 @@ pub record OpeningIs (s : List ℕ) (len n : ℕ) : Type 0 where
   pub holds : items_held major arg ≡ n
   pub node : (ys : Items) → Goods ys → count ys ≡ n → NodeIs s len ys
 
-abbrev pub StepIs : ℕ → List ℕ → Step → Type 0
-StepIs left s (Step.Refused number place) = FaultIs left s number place
-StepIs left s (Step.Passed len) = LeafIs s len
-StepIs left s (Step.Opened len n pairs) = OpeningIs s len (items_of n pairs)
+abbrev pub StepIs : ℕ → List ℕ → StepRead → Type 0
+StepIs left s (Err why) = FaultIs left s why.refusal why.place
+StepIs left s (Ok (Passed len)) = LeafIs s len
+StepIs left s (Ok (Opened len n pairs)) = OpeningIs s len (items_of n pairs)
 
 -- one of two numbers
 one_of : (m low : ℕ) → low ≤ m → m < 2 + low → m ≡ cond (eqb m (1 + low)) (1 + low) low
 one_of m low lo hi = elim (ℕ_discrete m (1 + low)) [ yes e ↦ e ∙ rw (eq-eqb m (1 + low) e) | no n ↦ rw (ne_eqb m (1 + low) n) (omega (arith, n)) ]
 
 -- what the head of an array, a map or a tag opens: as many items as it holds
-pub opens_held : (major arg len : ℕ) → (n : ℕ) × (pairs : Bool) × (opens major arg len ≡ Step.Opened len n pairs) × (items_of n pairs ≡ items_held major arg)
+pub opens_held : (major arg len : ℕ) → (n : ℕ) × (pairs : Bool) × (opens major arg len ≡ Opened len n pairs) × (items_of n pairs ≡ items_held major arg)
 unfolding opens items_held items_of pick
 opens_held major arg len = one_test Held (eqb major 4) (arg, false, refl, refl) (one_test Held (eqb major 5) (arg, true, refl, refl) (1, false, refl, refl))
   where
     Held : Step → ℕ → Type 0
-    Held x k = (n : ℕ) × (pairs : Bool) × (x ≡ Step.Opened len n pairs) × (items_of n pairs ≡ k)
+    Held x k = (n : ℕ) × (pairs : Bool) × (x ≡ Opened len n pairs) × (items_of n pairs ≡ k)
 
 module _ (left : ℕ) (s : List ℕ) (major arg len : ℕ) (h : HeadIs s major arg len) where
   -- the head, by its major type
@@ -146,14 +150,14 @@ module _ (left : ℕ) (s : List ℕ) (major arg len : ℕ) (h : HeadIs s major a
       }
 
   -- an array, a map or a tag
-  opens_is : 4 ≤ major → major < 7 → StepIs left s (opens major arg len)
+  opens_is : 4 ≤ major → major < 7 → StepIs left s (Ok (opens major arg len))
   opens_is lo hi = let (n, pairs, is, held) = opens_held major arg len in rw is (opening (items_of n pairs) lo hi (sym held))
 
-  deep : 4 ≤ major → major < 7 → left ≡ 0 → FaultIs left s 6 0
+  deep : 4 ≤ major → major < 7 → left ≡ 0 → FaultIs left s R.TooDeep 0
   unfolding place_of pick
   deep lo hi none = (Fault.deep major h.width arg (drop len s) split h.right lo hi none, refl)
 
-  short : 2 ≤ major → major < 4 → length s - len < arg → FaultIs left s 2 (length s)
+  short : 2 ≤ major → major < 4 → length s - len < arg → FaultIs left s R.Cut (length s)
   unfolding place_of pick
   short lo hi less = (Fault.short major h.width arg (drop len s) split h.right lo hi (rw (length-drop len s) less), refl)
 
@@ -181,5 +185,5 @@ unfolding step_at step_from
 step_is left s b = by (head_at s) refl
   where
     by : (x : HeadRead) → head_at s ≡ x → StepIs left s (step_from left (length s) x)
-    by (HeadRead.Refused number place) e = head_fault left s number place b e
-    by (HeadRead.Head major arg len) e = step_of_is left s major arg len (head_is s b e) b
+    by (Err why) e = head_fault left s why.refusal why.place b e
+    by (Ok head) e = step_of_is left s head.major head.arg head.len (head_is s b e) b

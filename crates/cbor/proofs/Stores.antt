@@ -7,13 +7,14 @@ use Prim.Native.Nat.{ℕ, suc, ◌+◌, ◌*◌, ◌-◌, ◌/◌, ◌%◌, ◌^
 use native.Mathlib.Nat.{add-zero}
 use native.Mathlib.Numerals.{add-one}
 use native.Mathlib.Omega.{arith}
-use lib.ListN.{length, set}
-use lib.Seq.{sets, set_comm}
+use lib.ListN.{length, take, drop, get_or, set}
+use lib.Seq.{take_all, take-suc, take-suc-set, sets, set_comm}
 use lib.Dec.{ltb, lit<}
 use borrow.Author.Tests.{lt-ltb, le-ltb, le-leb, lt-leb}
 use Rattle.base.specs.Pick.{pick}
 use Rattle.base.specs.BigEndian.{bytes_of}
 use Rattle.base.proofs.Picks.{both}
+use Rattle.base.proofs.Parts.{lent_sets}
 use Rattle.base.proofs.Digits.{length_bytes}
 use Rattle.cbor.specs.Tree.{head_bytes, info_of, Sized, shortest}
 use Rattle.cbor.specs.Put.{head, all_end, all_put, head_end, head_put}
@@ -42,6 +43,13 @@ pub spell_end : (l : List ℕ) (at left rest : ℕ) → left ≤ 0 → l ≡ set
 unfolding bytes_of
 spell_end l at left rest h = let e : left ≡ 0 = omega arith in rw e
 
+-- a copy, at its place i
+pub copy_turn : (to s : List ℕ) (i : ℕ) → i < length to → i < length s → take i to ≡ take i s → take (i + 1) (set to i (get_or s i 0)) ≡ take (i + 1) s
+copy_turn to s i h k e = rw (add-one i, take-suc-set to i (get_or s i 0) h, take-suc s i 0 k, e)
+
+pub copy_done : (to s : List ℕ) (i : ℕ) → length s ≤ i → length to ≡ length s → take i to ≡ take i s → to ≡ s
+copy_done to s i h g e = sym (take_all i to (omega arith)) ∙ e ∙ take_all i s h
+
 -- the first byte holds an argument below 24
 pub in_first_lt : (arg : ℕ) → Sized 0 arg → arg < 24
 in_first_lt arg (Sized.in_first h) = h
@@ -69,6 +77,11 @@ module _ (l : List ℕ) (at : ℕ) (bs : List ℕ) where
   pub all_stored : at + length bs ≤ length l → (at + length bs ≡ all_end l at bs) × (sets l at bs ≡ all_put l at bs)
   unfolding all_end all_put pick
   all_stored h = rw (le-leb (at + length bs) (length l) h) (refl, refl)
+
+-- bytes that fit, in the place of a part that was lent
+pub lent_stored : (l bs : List ℕ) (at : ℕ) {to : List ℕ} → at + length bs ≤ length l → to ≡ bs
+    → (at + length bs ≡ all_end l at bs) × (take at l ++ (to ++ drop (at + length bs - at) (drop at l)) ≡ all_put l at bs)
+lent_stored l bs at h e = let r = all_stored l at bs h in (r.0, lent_sets l bs at h e ∙ r.1)
 
 -- ---- the ends of `head`
 module _ (l : List ℕ) (at major arg : ℕ) where

@@ -1,5 +1,9 @@
 -- The bounds of a token and of an item's size, and how the code's answers meet the definitions.
 -- Assumes nothing.
+use Rattle.std.specs.Result.{result_unwrap_or}
+use Rattle.std.specs.Prelude.{Ok, Err}
+use Rattle.cbor.specs.Head.{HeadRead, a_head}
+use Rattle.cbor.specs.Item.{ItemRead}
 use mathlib.Core.Path.{◌≡◌, refl, sym, ap, ◌∙◌, subst}
 use mathlib.Core.List.{List, [], ◌∷◌}
 use Prim.Native.Nat.{ℕ, ◌+◌, ◌-◌, ◌/◌, ◌%◌, ◌≤◌, ◌<◌, zero-le}
@@ -12,8 +16,6 @@ use borrow.Author.Tests.{ltb-true, ltb-false, leb-true, eqb-true}
 use Rattle.base.specs.Pick.{pick}
 use Rattle.base.proofs.Picks.{pick-case, both, one_test}
 use Rattle.base.proofs.Parts.{rest_is, drop_past}
-use Rattle.cbor.specs.declared.head.HeadRead.{HeadRead}
-use Rattle.cbor.specs.declared.item.ItemRead.{ItemRead}
 use Rattle.cbor.specs.declared.token.Token.{Token}
 use Rattle.cbor.specs.Head.{width_of, arg_of, head_at}
 use Rattle.cbor.specs.Item.{first_item, run, enough, next, step_at, step_from}
@@ -25,8 +27,8 @@ use Rattle.cbor.proofs.Within.{size_within}
 -- ---- the bounds of a token
 -- a head with an argument above 23 has two bytes at least
 abbrev HeadLong : HeadRead → Type 0
-HeadLong (HeadRead.Refused number place) = Unit {0}
-HeadLong (HeadRead.Head major arg len) = 23 < arg → 2 ≤ len
+HeadLong (Err why) = Unit {0}
+HeadLong (Ok head) = 23 < head.arg → 2 ≤ head.len
 
 head_long : (s : List ℕ) → HeadLong (head_at s)
 unfolding head_at arg_of width_of pick
@@ -68,31 +70,32 @@ nothing_has size at =
 
 has_from : (size at room : ℕ) (x : HeadRead) → room ≡ size - at → HeadOk room x → HeadLong x → TokenHas size at (token_from at room x)
 unfolding token_from token_of
-has_from size at room (HeadRead.Refused number place) r h l = nothing_has size at
-has_from size at room (HeadRead.Head major arg len) r (some, fits) l =
+has_from size at room (Err why) r h l = nothing_has size at
+has_from size at room (Ok head) r (some, fits) l =
     pick-case Has _
     (λ e. pick-case Has _
     (λ f. pick-case Has _
     (λ g. record {
       here = refl;
       start = omega arith;
-      end = omega (arith, leb-true arg (room - len) g);
+      end = omega (arith, leb-true head.arg (room - head.len) g);
       some = λ _. omega arith;
       wide = λ k. omega (arith, l k);
       string = λ _ _. refl;
     })
     (λ _. nothing_has size at))
-    (λ f. leaf (λ _ k. omega (arith, ltb-false major 4 f))))
-    (λ e. leaf (λ k _. omega (arith, ltb-false 1 major e)))
+    (λ f. leaf (λ _ k. omega (arith, ltb-false head.major 4 f))))
+    (λ e. leaf (λ k _. omega (arith, ltb-false 1 head.major e)))
   where
     Has : Token → Type 0
     Has = TokenHas size at
 
-    leaf : (1 < major → major < 4 → ⊥) → Has (record { at = at; major = major; arg = arg; body = at + len; next = at + len })
+    leaf : (1 < head.major → head.major < 4 → ⊥)
+        → Has (record { at = at; major = head.major; arg = head.arg; body = at + head.len; next = at + head.len })
     leaf other =
         record {
           here = refl;
-          start = le_refl (at + len);
+          start = le_refl (at + head.len);
           end = omega arith;
           some = λ _. omega arith;
           wide = λ k. omega (arith, l k);
@@ -117,12 +120,12 @@ unfolding token_at
 token_found s at t x y e q f = token_is s at t (rw (length-drop at s, ← rest_is at s, ← e, q) f)
 
 -- a token whose head is told otherwise
-pub token_told : (s : List ℕ) (at : ℕ) (t : Token) (major arg len n : ℕ) → head_at (drop at s) ≡ HeadRead.Head major arg len → n ≡ arg
+pub token_told : (s : List ℕ) (at : ℕ) (t : Token) (major arg len n : ℕ) → head_at (drop at s) ≡ a_head major arg len → n ≡ arg
     → t ≡ token_of at (length s - at) major n len → TokenIs s at t
 unfolding token_at token_from
 token_told s at t major arg len n e same f = token_is s at t (rw (e, length-drop at s, ← same) f)
 
-pub head_fits : (s : List ℕ) (at major arg len : ℕ) (y : HeadRead) → y ≡ head_at (take (length s - at) (drop at s)) → y ≡ HeadRead.Head major arg len
+pub head_fits : (s : List ℕ) (at major arg len : ℕ) (y : HeadRead) → y ≡ head_at (take (length s - at) (drop at s)) → y ≡ a_head major arg len
     → len ≤ length s - at
 head_fits s at major arg len y e q =
     rw (length-drop at s) at (subst (HeadOk (length (drop at s))) (ap head_at (sym (rest_is at s)) ∙ sym e ∙ q) (head_ok (drop at s))).1
@@ -156,11 +159,11 @@ pub record Shifted (by : ℕ) (t u : Token) : Type 0 where
 
 shifted_from : (by at room : ℕ) (x : HeadRead) → Shifted by (token_from (by + at) room x) (token_from at room x)
 unfolding token_from token_of nothing_at pick
-shifted_from by at room (HeadRead.Refused number place) = record { major = refl; arg = refl; next = λ ne. absurd (ne refl) }
-shifted_from by at room (HeadRead.Head major arg len) =
-    one_test Same (ltb 1 major)
-    (one_test Same (ltb major 4)
-    (one_test Same (leb arg (room - len)) (record { major = refl; arg = refl; next = λ _. omega arith })
+shifted_from by at room (Err why) = record { major = refl; arg = refl; next = λ ne. absurd (ne refl) }
+shifted_from by at room (Ok head) =
+    one_test Same (ltb 1 head.major)
+    (one_test Same (ltb head.major 4)
+    (one_test Same (leb head.arg (room - head.len)) (record { major = refl; arg = refl; next = λ _. omega arith })
     (record { major = refl; arg = refl; next = λ ne. absurd (ne refl) }))
     (record { major = refl; arg = refl; next = λ _. omega arith }))
     (record { major = refl; arg = refl; next = λ _. omega arith })
@@ -185,9 +188,16 @@ pub size_none : (levels : ℕ) (s : List ℕ) (at : ℕ) → length s ≤ at →
 unfolding size_at size_from first_item run enough next step_at step_from head_at
 size_none levels s at h = record { is = rw (drop_past s at h); within = zero-le }
 
-pub size_found : (levels : ℕ) (s : List ℕ) (at : ℕ) (x y : ItemRead) → y ≡ first_item levels (take (length s - at) (drop at s)) → y ≡ x
-    → SizeIs levels s at (size_from x)
+-- an item's size, where none is there 0
+unwrapped : (x : ItemRead) → result_unwrap_or x 0 ≡ size_from x
+unfolding size_from
+unwrapped (Ok end) = refl
+unwrapped (Err why) = refl
+
+pub size_found : (levels : ℕ) (s : List ℕ) (at size : ℕ) (x : ItemRead) → x ≡ first_item levels (take (length s - at) (drop at s))
+    → size ≡ result_unwrap_or x 0 → SizeIs levels s at size
 unfolding size_at
-size_found levels s at x y e q =
-    let same : x ≡ first_item levels (drop at s) = sym q ∙ e ∙ ap (first_item levels) (rest_is at s) in
-    record { is = ap size_from same; within = rw same (size_le levels s at) }
+size_found levels s at size x e is =
+    let same : x ≡ first_item levels (drop at s) = e ∙ ap (first_item levels) (rest_is at s) in
+    let here : size ≡ size_at levels s at = is ∙ unwrapped x ∙ ap size_from same in
+    record { is = here; within = rw here (size_le levels s at) }

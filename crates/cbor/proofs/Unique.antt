@@ -1,5 +1,8 @@
 -- Different items have different encodings, and none is the start of another's.
 -- Assumes nothing.
+use Rattle.std.specs.Prelude.{Ok, Err}
+use Rattle.cbor.specs.declared.head.Head.{Head}
+use Rattle.cbor.specs.Head.{HeadRead, a_head}
 use mathlib.Core.Path.{◌≡◌, refl, sym, ap, ap₂, ◌∙◌, subst₃}
 use mathlib.Core.List.{List, ◌++◌, append_assoc, append_cancel_left}
 use mathlib.Core.Bool.{true, false}
@@ -7,10 +10,9 @@ use Prim.Native.Nat.{ℕ, ◌+◌, ◌*◌, ◌/◌}
 use native.Mathlib.Omega.{arith}
 use lib.ListN.{length, take, drop}
 use lib.Seq.{take_at, drop_at}
-use Rattle.cbor.specs.declared.head.HeadRead.{HeadRead}
 use Rattle.cbor.specs.Head.{head_at}
 use Rattle.cbor.specs.Tree.{Item, Items, head_bytes, Right, count, encode, encodes, Good, Goods}
-use Rattle.cbor.proofs.HeadExact.{head_read, length_head}
+use Rattle.cbor.proofs.HeadExact.{head_read, same_head, length_head}
 
 -- an item's major type, its head's width and its argument
 data Kind : Item → ℕ → ℕ → ℕ → Type 0 where
@@ -29,12 +31,12 @@ record First (x : Item) (s : List ℕ) : Type 0 where
   width : ℕ
   arg : ℕ
   kind : Kind x major width arg
-  reads : head_at s ≡ HeadRead.Head major arg (1 + width)
+  reads : head_at s ≡ a_head major arg (1 + width)
 
-leaf : (major width arg : ℕ) (r : List ℕ) → Right major width arg → head_at (head_bytes major width arg ++ r) ≡ HeadRead.Head major arg (1 + width)
-leaf major width arg r h = head_read major width arg r h ∙ ap (HeadRead.Head major arg) (length_head major width arg)
+leaf : (major width arg : ℕ) (r : List ℕ) → Right major width arg → head_at (head_bytes major width arg ++ r) ≡ a_head major arg (1 + width)
+leaf major width arg r h = head_read major width arg r h ∙ ap (a_head major arg) (length_head major width arg)
 
-node : (major width arg : ℕ) (t r : List ℕ) → Right major width arg → head_at ((head_bytes major width arg ++ t) ++ r) ≡ HeadRead.Head major arg (1 + width)
+node : (major width arg : ℕ) (t r : List ℕ) → Right major width arg → head_at ((head_bytes major width arg ++ t) ++ r) ≡ a_head major arg (1 + width)
 node major width arg t r h = rw append_assoc (leaf major width arg (t ++ r) h)
 
 first : (x : Item) (r : List ℕ) → Good x → First x (encode x ++ r)
@@ -54,12 +56,10 @@ alike : (x y : Item) (r r' : List ℕ) (g : Good x) → Good y → encode x ++ r
 alike x y r r' g g' e =
     let a = first x r g in
     let c = first y r' g' in
-    let same : HeadRead.Head a.major a.arg (1 + a.width) ≡ HeadRead.Head c.major c.arg (1 + c.width) = sym a.reads ∙ ap head_at e ∙ c.reads in
-    let major : c.major ≡ a.major = cc in
-    let arg : c.arg ≡ a.arg = cc in
-    let len : 1 + a.width ≡ 1 + c.width = cc in
+    let same : a_head a.major a.arg (1 + a.width) ≡ a_head c.major c.arg (1 + c.width) = sym a.reads ∙ ap head_at e ∙ c.reads in
+    let (major, arg, len) = same_head same in
     let width : c.width ≡ a.width = omega arith in
-    subst₃ (Kind y) major width arg c.kind
+    subst₃ (Kind y) (sym major) width (sym arg) c.kind
 
 -- what follows two heads of one width
 after : (m w a a' : ℕ) (t r t' r' : List ℕ) → (head_bytes m w a ++ t) ++ r ≡ (head_bytes m w a' ++ t') ++ r' → t ++ r ≡ t' ++ r'

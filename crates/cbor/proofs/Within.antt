@@ -1,11 +1,11 @@
 -- The first item ends within the bytes: no fact on the elements is asked.
 -- Assumes nothing.
+use Rattle.cbor.specs.Item.{ItemRead}
 use mathlib.Core.List.{List, [], ◌∷◌, ◌++◌}
 use Prim.Native.Nat.{ℕ, zero, suc, ◌+◌, ◌-◌, ◌≤◌, zero-le}
 use native.Mathlib.Nat.{zero-add}
 use native.Mathlib.Omega.{arith}
 use lib.ListN.{length, drop, length-drop}
-use Rattle.cbor.specs.declared.item.ItemRead.{ItemRead}
 use Rattle.cbor.specs.Item.{step_at, left_under, run, enough, first_item}
 use Rattle.cbor.specs.Token.{size_from}
 use Rattle.cbor.proofs.Bounds.{step_ok}

@@ -1,12 +1,10 @@
 -- The heads of an item one after the other: `token_at`, a head with its string; `size_at`, an item of any sort passed
 -- over.
-use Rattle.std.specs.Prelude.{ℕ, ◌+◌, ◌-◌, ◌≤◌, List, ◌≡◌, length, drop, ltb, leb, eqb}
+use Rattle.std.specs.Prelude.{ℕ, ◌+◌, ◌-◌, ◌≤◌, List, ◌≡◌, Ok, Err, length, drop, ltb, leb, eqb}
 use Rattle.base.specs.Pick.{pick}
-use Rattle.cbor.specs.declared.head.HeadRead.{HeadRead}
-use Rattle.cbor.specs.declared.item.ItemRead.{ItemRead}
 use Rattle.cbor.specs.declared.token.Token.{Token}
-use Rattle.cbor.specs.Head.{head_at}
-use Rattle.cbor.specs.Item.{first_item}
+use Rattle.cbor.specs.Head.{HeadRead, head_at}
+use Rattle.cbor.specs.Item.{ItemRead, first_item}
 
 -- no whole head with its string: its major type is 8, which no head has
 unfoldable pub nothing_at : ℕ → Token
@@ -21,8 +19,8 @@ token_of at room major arg len =
 
 -- a token by what was read of its head
 unfoldable pub token_from : ℕ → ℕ → HeadRead → Token
-token_from at room (HeadRead.Refused number place) = nothing_at at
-token_from at room (HeadRead.Head major arg len) = token_of at room major arg len
+token_from at room (Err why) = nothing_at at
+token_from at room (Ok head) = token_of at room head.major head.arg head.len
 
 -- the head at a place with its string
 unfoldable pub token_at : List ℕ → ℕ → Token
@@ -37,8 +35,8 @@ pub record TokenIs (s : List ℕ) (at : ℕ) (t : Token) : Type 0 where
 
 -- an item's size is where it ends, 0 for none
 unfoldable pub size_from : ItemRead → ℕ
-size_from (ItemRead.Refused number place) = 0
-size_from (ItemRead.Ends end) = end
+size_from (Err why) = 0
+size_from (Ok end) = end
 
 -- how many bytes the item at a place has, under so many open levels, 0 where none is there
 unfoldable pub size_at : ℕ → List ℕ → ℕ → ℕ

@@ -3,93 +3,96 @@ ghost use Rattle.std.specs.Prelude.{◌≡◌, ◌+◌, ◌*◌, ◌≤◌, leng
 ghost use Rattle.base.specs.BigEndian.{big_endian};
 ghost use Rattle.cbor.specs.Head.{width_of, least_of, initial_of, judged, head_of, head_from, head_at};
 
-// What stands at the start of a slice: a head of `len` bytes, or the refusal with its place.
-#[derive(Clone, Copy)]
-pub enum HeadRead {
-    Head { major: u8, arg: u64, len: usize },
-    Refused { number: u8, place: usize },
+use base::refusal::{Refusal, Refused};
+
+// A head of `len` bytes.
+#[derive(Clone, Copy, Debug, PartialEq, Eq)]
+pub struct Head {
+    pub major: u8,
+    pub arg: u64,
+    pub len: usize,
 }
 
-// What a head's first byte says: the major type and how many bytes of argument follow, or the refusal.
-#[derive(Clone, Copy)]
-pub enum Initial {
-    Begins { major: u8, width: usize },
-    Refused(u8),
+// What a head's first byte says: the major type, and how many bytes of argument follow.
+#[derive(Clone, Copy, Debug, PartialEq, Eq)]
+pub struct Initial {
+    pub major: u8,
+    pub width: usize,
 }
 
-// The head at the start of s.
-pub fn read(s: &[u8]) -> HeadRead
+// The head at the start of s, or the refusal with its place.
+#[tactic(auto, unfolding(crate::specs::Head::head_at))]
+pub fn read(s: &[u8]) -> Result<Head, Refused>
     ensures { result ≡ head_at s.now }
 {
-    if s.len() == 0 {
-        return HeadRead::Refused {
-            number: 2,
-            place: 0,
-        };
+    match s.split_first() {
+        None => Err(refused(Refusal::Cut, 0)),
+        Some((first, rest)) => read_from(*first, rest),
     }
-    read_from(s[0], &s[1..])
+}
+
+// A refusal at a place.
+fn refused(refusal: Refusal, place: usize) -> Refused
+    ensures { result ≡ record { refusal = refusal; place = place } }
+{
+    Refused { refusal, place }
 }
 
 // The head with this first byte, with `rest` after it.
-fn read_from(first: u8, rest: &[u8]) -> HeadRead
+#[tactic(auto, unfolding(crate::specs::Head::head_of, crate::specs::Head::head_by), using(crate::proofs::Bounds::begun_width))]
+fn read_from(first: u8, rest: &[u8]) -> Result<Head, Refused>
     ensures { result ≡ head_of first rest.now }
 {
-    let begun = initial_byte(first);
-    match begun {
-        Initial::Refused(number) => HeadRead::Refused { number, place: 0 },
-        Initial::Begins { major, width } => read_argument(first, major, width, rest),
-    }
+    let begun = initial_byte(first).map_err(|refusal| refused(refusal, 0))?;
+    read_argument(first, begun, rest)
 }
 
-// A first byte by itself: additional information 31 is refused as 4, 28 to 30 as 3.
-pub fn initial_byte(first: u8) -> Initial
+// A first byte by itself: additional information 31 is indefinite, 28 to 30 are reserved.
+#[tactic(auto, unfolding(crate::specs::Head::initial_of, base::specs::Pick::pick), using(base::proofs::Tests::tests))]
+pub fn initial_byte(first: u8) -> Result<Initial, Refusal>
     ensures { result ≡ initial_of first }
 {
     let info = first % 32;
     if info == 31 {
-        return Initial::Refused(4);
+        return Err(Refusal::Indefinite);
     }
     if 28 <= info {
-        return Initial::Refused(3);
+        return Err(Refusal::Reserved);
     }
-    Initial::Begins {
+    Ok(Initial {
         major: first / 32,
         width: width_of(info),
-    }
+    })
 }
 
 // How many bytes of argument follow the first byte, by additional information below 28.
+#[tactic(auto, unfolding(crate::specs::Head::width_of, base::specs::Pick::pick), using(base::proofs::Tests::tests))]
 fn width_of(info: u8) -> usize
     ensures { result ≡ width_of info }
 {
-    if info < 24 {
-        return 0;
+    match info {
+        0..24 => 0,
+        24 => 1,
+        25 => 2,
+        26 => 4,
+        _ => 8,
     }
-    if info == 24 {
-        return 1;
-    }
-    if info == 25 {
-        return 2;
-    }
-    if info == 26 {
-        return 4;
-    }
-    8
 }
 
-// The head with this first byte and so many bytes of argument, which `rest` begins with.
-fn read_argument(first: u8, major: u8, width: usize, rest: &[u8]) -> HeadRead
-    requires { width ≤ 8 }
-    ensures { result ≡ head_from first major width rest.now }
+// The head with this first byte, which says so much; `rest` begins with its bytes of argument.
+#[tactic(auto, unfolding(crate::specs::Head::head_from, crate::specs::Head::arg_of, base::specs::Pick::pick), using(base::proofs::Tests::tests))]
+fn read_argument(first: u8, begun: Initial, rest: &[u8]) -> Result<Head, Refused>
+    requires { begun.width ≤ 8 }
+    ensures { result ≡ head_from first begun.major begun.width rest.now }
 {
+    let width = begun.width;
     if rest.len() < width {
-        let place = rest.len() + 1;
-        return HeadRead::Refused { number: 2, place };
+        return Err(refused(Refusal::Cut, rest.len() + 1));
     }
     if width == 0 {
-        return judge(major, (first % 32) as u64, width);
+        return judge(begun.major, u64::from(first % 32), width);
     }
-    judge(major, big_endian(rest, width), width)
+    judge(begun.major, big_endian(rest, width), width)
 }
 
 // The number that the first n bytes spell, the most significant first.
@@ -99,14 +102,14 @@ fn big_endian(s: &[u8], n: usize) -> u64
 {
     // The common widths by themselves, with no loop.
     if n == 1 {
-        return s[0] as u64;
+        return u64::from(s[0]);
     }
     if n == 2 {
         return two(s[0], s[1]);
     }
     let mut value: u64 = 0;
-    for i in 0..n {
-        value = value * 256 + s[i] as u64;
+    for b in &s[..n] {
+        value = value * 256 + u64::from(*b);
     }
     value
 }
@@ -119,47 +122,35 @@ pub(crate) fn two(high: u8, low: u8) -> u64
 }
 
 // A whole head: refused where it is a simple value below 32 in two bytes, or longer than its argument needs.
-fn judge(major: u8, arg: u64, width: usize) -> HeadRead
+#[tactic(auto, unfolding(crate::specs::Head::judged, base::specs::Pick::pick), using(base::proofs::Tests::tests))]
+fn judge(major: u8, arg: u64, width: usize) -> Result<Head, Refused>
     requires { width ≤ 8 }
     ensures { result ≡ judged major arg width }
 {
-    let len = 1 + width;
     if major == 7 {
-        if width == 1 {
-            if arg < 32 {
-                return HeadRead::Refused {
-                    number: 3,
-                    place: 0,
-                };
-            }
-            return HeadRead::Head { major, arg, len };
+        if width == 1 && arg < 32 {
+            return Err(refused(Refusal::Reserved, 0));
         }
-        return HeadRead::Head { major, arg, len };
+    } else if arg < least_of(width) {
+        return Err(refused(Refusal::LongHead, 0));
     }
-    if arg < least_of(width) {
-        return HeadRead::Refused {
-            number: 5,
-            place: 0,
-        };
-    }
-    HeadRead::Head { major, arg, len }
+    Ok(Head {
+        major,
+        arg,
+        len: 1 + width,
+    })
 }
 
 // The least argument that needs this many bytes.
+#[tactic(auto, unfolding(crate::specs::Head::least_of, base::specs::Pick::pick), using(base::proofs::Tests::tests))]
 fn least_of(width: usize) -> u64
     ensures { result ≡ least_of width }
 {
-    if width == 0 {
-        return 0;
+    match width {
+        0 => 0,
+        1 => 24,
+        2 => 0x100,
+        4 => 0x1_0000,
+        _ => 0x1_0000_0000,
     }
-    if width == 1 {
-        return 24;
-    }
-    if width == 2 {
-        return 256;
-    }
-    if width == 4 {
-        return 65_536;
-    }
-    4_294_967_296
 }

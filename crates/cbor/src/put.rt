@@ -67,16 +67,16 @@ fn info(width: usize, arg: u64) -> u8
     27
 }
 
-// The n bytes that spell `value`, the most significant first, stored from `at` on.
+// The n bytes that spell `value`, the most significant first, stored from `at` on. Tried: a copy out of `to_be_bytes`
+// misses the speed of this loop, 39 against 16 instructions for a head of one byte and 44 against 24 for one of two.
+#[tactic(auto, using(crate::proofs::Stores::spell_turn, crate::proofs::Stores::spell_end))]
 fn spell(out: &mut [u8], at: usize, n: usize, value: u64)
     requires { at + n ≤ length out.old }
     ensures { out.new ≡ sets out.old at (bytes_of n value) }
 {
-    let mut left = n;
     let mut rest = value;
-    while 0 < left {
-        left -= 1;
-        out[at + left] = (rest % 256) as u8;
+    for i in (0..n).rev() {
+        out[at + i] = (rest % 256) as u8;
         rest /= 256;
     }
 }
@@ -98,14 +98,13 @@ pub fn all(out: &mut [u8], at: usize, s: &[u8]) -> usize
     end
 }
 
-// The bytes of s in the place of as many others: nothing is tested in the loop, so that it is compiled to a block copy.
+// The bytes of s in the place of as many others. Tried: `copy_from_slice` misses the speed of this loop, 1,248 against
+// 1,158 instructions to write the Discovery of 15 bytes.
 fn copy(to: &mut [u8], s: &[u8])
     requires { length to.old ≡ length s.now }
     ensures { to.new ≡ s.now }
 {
-    let mut i: usize = 0;
-    while i < s.len() {
+    for i in 0..s.len() {
         to[i] = s[i];
-        i += 1;
     }
 }

@@ -2,8 +2,6 @@
 ghost use Rattle.std.specs.Prelude.{◌≡◌, ◌+◌, ◌≤◌, ◌<◌, ◌^◌};
 ghost use Rattle.cbor.specs.Token.{nothing_at, token_of, TokenIs, SizeIs, items_in, up_to};
 
-use crate::head::HeadRead;
-use crate::item::ItemRead;
 use crate::{head, item};
 
 // The head at `at`: its major type and argument, where what it heads begins, and where the next head stands (after a
@@ -17,20 +15,22 @@ pub struct Token {
     pub next: usize,
 }
 
+// Not inlined, so that the short ways below are.
+#[inline(never)]
 pub fn token_at(s: &[u8], at: usize) -> Token
     ensures { TokenIs s.now at result }
 {
     if s.len() < at {
         return nothing_at(at);
     }
-    let head = head::read(&s[at..]);
-    match head {
-        HeadRead::Refused { .. } => nothing_at(at),
-        HeadRead::Head { major, arg, len } => token_of(at, s.len() - at, major, arg, len),
+    match head::read(&s[at..]) {
+        Err(_) => nothing_at(at),
+        Ok(head) => token_of(at, s.len() - at, head.major, head.arg, head.len),
     }
 }
 
 // The token at `at`, told by its first byte where it is an array of fewer than 24 items.
+#[inline]
 pub fn array_at(s: &[u8], at: usize) -> Token
     ensures { TokenIs s.now at result }
 {
@@ -46,6 +46,7 @@ pub fn array_at(s: &[u8], at: usize) -> Token
 }
 
 // The token at `at`, told by its first byte where it is a string of fewer than 24 bytes, or any other head of one byte.
+#[inline]
 pub fn string_at(s: &[u8], at: usize) -> Token
     ensures { TokenIs s.now at result }
 {
@@ -60,6 +61,7 @@ pub fn string_at(s: &[u8], at: usize) -> Token
 }
 
 // The token at `at`, told by its first bytes where it is an unsigned number up to 65,535.
+#[inline]
 pub fn number_at(s: &[u8], at: usize) -> Token
     ensures { TokenIs s.now at result }
 {
@@ -90,6 +92,7 @@ pub fn number_at(s: &[u8], at: usize) -> Token
 }
 
 // The token at `at`, told by its first bytes where it is an unsigned number up to 65,535 or null.
+#[inline]
 pub fn number_or_null_at(s: &[u8], at: usize) -> Token
     ensures { TokenIs s.now at result }
 {
@@ -151,11 +154,7 @@ pub fn size_at(levels: usize, s: &[u8], at: usize) -> usize
     if s.len() < at {
         return 0;
     }
-    let read = item::first(levels, &s[at..]);
-    match read {
-        ItemRead::Refused { .. } => 0,
-        ItemRead::Ends(end) => end,
-    }
+    item::first(levels, &s[at..]).unwrap_or(0)
 }
 
 // How many items an array has: 0 for what is no array.

@@ -1,15 +1,16 @@
 -- The judge's loops and choices.
 -- Assumes nothing.
-use Prim.Native.Nat.{ℕ, suc, ◌+◌, ◌-◌, ◌/◌, ◌%◌, ◌≤◌, ◌<◌}
-use mathlib.Core.Path.{◌≡◌}
-use mathlib.Core.Bool.{Bool, true, false}
+use Prim.Native.Nat.{ℕ, zero, suc, ◌+◌, ◌*◌, ◌-◌, ◌/◌, ◌%◌, ◌≤◌, ◌<◌}
+use mathlib.Core.Path.{◌≡◌, refl, ap, ◌∙◌}
+use mathlib.Core.Bool.{Bool, true, false, ◌&&◌}
 use mathlib.Core.List.{List}
 use native.Mathlib.Numerals.{add-one}
-use native.Mathlib.Nat.{sub-zero, add-sub_cancel_left}
+use native.Mathlib.Nat.{mul-add, mul-le-mul_left, mul-div-le, sub-zero, add-sub_cancel_left}
 use native.Mathlib.Decide.{dec_lt}
 use native.Mathlib.Omega.{arith}
 use lib.ListN.{length, take, drop}
 use borrow.Author.Tests.{eq-eqb, ne_eqb}
+use Rattle.std.specs.List.{list_all, range_with_len}
 use Rattle.options.specs.Text.{held}
 use Rattle.base.specs.Pick.{pick}
 use Rattle.base.proofs.Parts.{rest_is}
@@ -37,6 +38,18 @@ module _ (p : ℕ → Bool) (n i : ℕ) where
   unfolding all_from
   all_end h = let e : n - i ≡ 0 = omega arith in rw e
 
+-- the same over the numbers as a list
+joined : (s t : Bool) → (s && t) ≡ pick s t false
+unfolding pick
+joined true t = refl
+joined false t = refl
+
+pub all_listed : (p : ℕ → Bool) (n i : ℕ) → list_all p (range_with_len i n) ≡ all_from p n i
+unfolding all_from
+all_listed p zero i = refl
+all_listed p (suc n) i =
+    ap (λ t. p i && t) (all_listed p n (i + 1) ∙ ap (all_from p n) (add-one i)) ∙ joined (p i) (all_from p n (suc i))
+
 module _ (size : ℕ) (ok : ℕ → Bool) (list : List ℕ) where
   pub each_start : length list % size ≡ 0 → all_from ok (length list / size - 0) 0 ≡ ok_each size ok list
   unfolding ok_each pick
@@ -45,6 +58,12 @@ module _ (size : ℕ) (ok : ℕ → Bool) (list : List ℕ) where
   pub each_bad : (length list % size ≡ 0 → ⊥) → false ≡ ok_each size ok list
   unfolding ok_each pick
   each_bad h = rw (ne_eqb (length list % size) 0 h)
+
+-- a row lies in the list
+pub row_within : (size i n : ℕ) → 0 < size → i < n / size → size * i + size ≤ n
+row_within size i n some h =
+    let more : i + 1 ≤ n / size = omega arith in
+    omega (arith, mul-le-mul_left size more, mul-add size i 1, mul-div-le n size)
 
 module _ (source : List ℕ) (s : Span) where
   pub value_none : length source < s.at → true ≡ ok_value (held source s)

@@ -1,15 +1,15 @@
 -- Which descriptions speak of a message: every span lies in the source, rows are whole and of known kinds, each value
 -- is one item by itself, and a list is given only where the kind has one. All else is for the reader to judge.
+use Rattle.cbor.specs.Item.{ItemRead}
 use Rattle.std.specs.Prelude.{ℕ, zero, suc, ◌+◌, ◌*◌, ◌/◌, ◌%◌, Bool, true, false, List, length, get_or, ltb, eqb}
 use Rattle.options.specs.Text.{held}
 use Rattle.base.specs.Pick.{pick}
-use Rattle.cbor.specs.declared.item.ItemRead.{ItemRead}
 use Rattle.cbor.specs.Item.{first_item, framed_by}
 use Rattle.options.specs.declared.Span.{Span}
 use Rattle.description.specs.declared.rows.ObjectiveRow.{ObjectiveRow}
 use Rattle.description.specs.declared.rows.LocatorRow.{LocatorRow}
-use Rattle.description.specs.declared.GivenExtra.{GivenExtra}
-use Rattle.description.specs.declared.GivenExtra.TheVariants as X
+use Rattle.std.specs.Prelude.{Option, Some, None}
+use Rattle.description.specs.declared.GivenObjective.{GivenObjective}
 use Rattle.options.specs.declared.outcome.Outcome.{Outcome}
 use Rattle.options.specs.declared.outcome.Outcome.TheVariants as E
 use Rattle.description.specs.declared.Description.{Description}
@@ -19,7 +19,7 @@ use Rattle.description.specs.Meaning.{objective_row_of, locator_row_at, objectiv
 
 -- what was read of n bytes is one item and nothing else
 unfoldable pub alone : ℕ → ItemRead → Bool
-alone n r = framed_by (λ number place. false) true n r
+alone n r = framed_by (λ refusal place. false) true n r
 
 -- the bytes are one item and nothing else
 unfoldable pub whole : List ℕ → Bool
@@ -85,9 +85,9 @@ unfoldable pub ok_pairs : List ℕ → List ℕ → Bool
 ok_pairs source list = ok_each pair_row (ok_pair source list) list
 
 -- an objective that may be left out
-unfoldable pub ok_extra : List ℕ → GivenExtra → Bool
-ok_extra source X.Without = true
-ok_extra source (X.With o) = ok_objective_row source (objective_row_of o)
+unfoldable pub ok_extra : List ℕ → Option GivenObjective → Bool
+ok_extra source None = true
+ok_extra source (Some o) = ok_objective_row source (objective_row_of o)
 
 -- how a negotiation ends
 unfoldable pub ok_outcome : List ℕ → Outcome → Bool
@@ -100,7 +100,7 @@ unfoldable pub ok_discovery : List ℕ → Span → ObjectiveRow → Bool
 ok_discovery source i o = pick (inside source i) (ok_objective_row source o) false
 
 -- a Response's initiator, rows and objective, which may be left out
-unfoldable pub ok_response : List ℕ → List ℕ → Span → GivenExtra → Bool
+unfoldable pub ok_response : List ℕ → List ℕ → Span → Option GivenObjective → Bool
 ok_response source list i o = pick (inside source i) (pick (ok_rows source list) (ok_extra source o) false) false
 
 -- a Flood's initiator and rows

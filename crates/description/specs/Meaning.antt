@@ -10,8 +10,8 @@ use Rattle.rfc8990.specs.Message.{Loc, or_null, Obj, Pair, Tgts, Msg}
 use Rattle.description.specs.declared.GivenObjective.{GivenObjective}
 use Rattle.description.specs.declared.rows.ObjectiveRow.{ObjectiveRow}
 use Rattle.description.specs.declared.rows.LocatorRow.{LocatorRow}
-use Rattle.description.specs.declared.GivenExtra.{GivenExtra}
-use Rattle.description.specs.declared.GivenExtra.TheVariants as X
+use Rattle.std.specs.declared.option.Option as S
+use Rattle.std.specs.declared.option.Option.TheVariants.{Some, None}
 use Rattle.options.specs.declared.outcome.Outcome.{Outcome}
 use Rattle.options.specs.declared.outcome.Outcome.TheVariants as E
 use Rattle.description.specs.declared.Description.{Description}
@@ -75,9 +75,9 @@ targets_of source list true = Tgts.divert (locs_of source list)
 targets_of source list false = Tgts.locators (locs_of source list)
 
 -- a Response's objective, which may be left out
-unfoldable pub extra_of : List ℕ → GivenExtra → Option (Obj (List ℕ))
-extra_of source X.Without = none
-extra_of source (X.With o) = some (obj_of source (objective_row_of o))
+unfoldable pub extra_of : List ℕ → S.Option GivenObjective → Option (Obj (List ℕ))
+extra_of source None = none
+extra_of source (Some o) = some (obj_of source (objective_row_of o))
 
 -- an objective in seven numbers, from place k on: place and length of its name, flags, count, 0, place and length of
 -- its value

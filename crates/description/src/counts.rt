@@ -5,7 +5,7 @@ ghost use Rattle.rfc8990.specs.Encoding.{target_items, how_many, one_more};
 ghost use Rattle.description.specs.Meaning.{targets_of, extra_of};
 
 use crate::rows::LOCATOR_ROW;
-use crate::{GivenExtra, spans};
+use crate::{GivenObjective, spans};
 use options::Span;
 
 // How many items of a Response its locators are, or its divert is. That doesn't depend on the source, so `[]` stands
@@ -20,12 +20,13 @@ pub fn target_items(list: &[u64], divert: bool) -> u64
 }
 
 // 1 for an objective that is there, else 0. That doesn't depend on the source, so `[]` stands for it.
-pub fn how_many(extra: GivenExtra) -> u64
+#[tactic(auto, unfolding(rfc8990::specs::Encoding::how_many, crate::specs::Meaning::extra_of))]
+pub fn how_many(extra: Option<GivenObjective>) -> u64
     ensures { result ≡ how_many (extra_of [] extra) }
 {
     match extra {
-        GivenExtra::Without => 0,
-        GivenExtra::With(_) => 1,
+        None => 0,
+        Some(_) => 1,
     }
 }
 

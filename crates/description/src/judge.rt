@@ -1,16 +1,15 @@
 // The description judged by itself.
-ghost use Rattle.std.specs.Prelude.{◌≡◌, ◌+◌, ◌*◌, ◌≤◌, length};
+ghost use Rattle.std.specs.Prelude.{ℕ, Bool, ◌<◌, ◌≡◌, ◌+◌, ◌*◌, ◌≤◌, length};
 ghost use Rattle.options.specs.Text.{held};
 ghost use Rattle.description.specs.Meaning.{locator_row, pair_row, objective_row_of};
-ghost use Rattle.description.specs.Judge.{whole, inside, ok_value, ok_item, ok_objective_row, ok_locator_row};
+ghost use Rattle.description.specs.Judge.{ok_each, whole, inside, ok_value, ok_item, ok_objective_row, ok_locator_row};
 ghost use Rattle.description.specs.Judge.{blank_locator_row, ok_none_or, ok_row, ok_rows, ok_pair, ok_pairs};
 ghost use Rattle.description.specs.Judge.{ok_extra, ok_outcome, ok_discovery, ok_response, ok_flood, ok_parts};
 ghost use Rattle.description.specs.Judge.{has_list, ok_list, ok_described};
 
 use crate::rows::{LOCATOR_ROW, LocatorRow, OBJECTIVE_ROW, ObjectiveRow, PAIR_ROW};
-use crate::{Description, GivenExtra, GivenObjective, rows, spans};
+use crate::{Description, GivenObjective, rows, spans};
 use cbor::item;
-use cbor::item::ItemRead;
 use options::Span;
 use options::outcome::Outcome;
 
@@ -36,19 +35,7 @@ fn ok_list(list: &[u64], m: Description) -> bool
 fn has_list(m: Description) -> bool
     ensures { result ≡ has_list m }
 {
-    match m {
-        Description::Noop => false,
-        Description::Discovery { .. } => false,
-        Description::Response { .. } => true,
-        Description::RequestNegotiation { .. } => false,
-        Description::RequestSynchronization { .. } => false,
-        Description::Negotiate { .. } => false,
-        Description::End { .. } => false,
-        Description::Wait { .. } => false,
-        Description::Synch { .. } => false,
-        Description::Flood { .. } => true,
-        Description::Invalid { .. } => false,
-    }
+    matches!(m, Description::Response { .. } | Description::Flood { .. })
 }
 
 fn ok_parts(source: &[u8], list: &[u64], m: Description) -> bool
@@ -86,7 +73,7 @@ fn ok_discovery(source: &[u8], initiator: Span, o: GivenObjective) -> bool
     false
 }
 
-fn ok_response(source: &[u8], list: &[u64], initiator: Span, extra: GivenExtra) -> bool
+fn ok_response(source: &[u8], list: &[u64], initiator: Span, extra: Option<GivenObjective>) -> bool
     ensures { result ≡ ok_response source.now list.now initiator extra }
 {
     if is_inside(source, initiator) {
@@ -98,12 +85,13 @@ fn ok_response(source: &[u8], list: &[u64], initiator: Span, extra: GivenExtra) 
     false
 }
 
-fn ok_extra(source: &[u8], extra: GivenExtra) -> bool
+#[tactic(auto, unfolding(crate::specs::Judge::ok_extra))]
+fn ok_extra(source: &[u8], extra: Option<GivenObjective>) -> bool
     ensures { result ≡ ok_extra source.now extra }
 {
     match extra {
-        GivenExtra::Without => true,
-        GivenExtra::With(o) => ok_given(source, o),
+        None => true,
+        Some(o) => ok_given(source, o),
     }
 }
 
@@ -126,21 +114,27 @@ fn ok_flood(source: &[u8], list: &[u64], initiator: Span) -> bool
     false
 }
 
+// Whole rows of so many numbers, each of which passes.
+fn ok_each<F: Fn(usize) -> bool>(list: &[u64], size: usize, ok: F) -> bool
+    requires size { 0 < size }
+    requires callable { (i : ℕ) → size * i + size ≤ length list.now → F.pre ok i }
+    ensures { (p : ℕ → Bool) → ((i : ℕ) (r : Bool) → F.post ok i r → r ≡ p i) → result ≡ ok_each size p list.now }
+{
+    if list.len() % size != 0 {
+        return false;
+    }
+    for i in 0..list.len() / size {
+        if !ok(i) {
+            return false;
+        }
+    }
+    true
+}
+
 fn ok_rows(source: &[u8], list: &[u64]) -> bool
     ensures { result ≡ ok_rows source.now list.now }
 {
-    if list.len() % LOCATOR_ROW != 0 {
-        return false;
-    }
-    let rows = list.len() / LOCATOR_ROW;
-    let mut i: usize = 0;
-    while i < rows {
-        if !ok_row(source, list, i) {
-            return false;
-        }
-        i += 1;
-    }
-    true
+    ok_each(list, LOCATOR_ROW, |i| ok_row(source, list, i))
 }
 
 fn ok_row(source: &[u8], list: &[u64], i: usize) -> bool
@@ -154,18 +148,7 @@ fn ok_row(source: &[u8], list: &[u64], i: usize) -> bool
 fn ok_pairs(source: &[u8], list: &[u64]) -> bool
     ensures { result ≡ ok_pairs source.now list.now }
 {
-    if list.len() % PAIR_ROW != 0 {
-        return false;
-    }
-    let rows = list.len() / PAIR_ROW;
-    let mut i: usize = 0;
-    while i < rows {
-        if !ok_pair(source, list, i) {
-            return false;
-        }
-        i += 1;
-    }
-    true
+    ok_each(list, PAIR_ROW, |i| ok_pair(source, list, i))
 }
 
 fn ok_pair(source: &[u8], list: &[u64], i: usize) -> bool
@@ -280,12 +263,12 @@ fn ok_bytes(s: &[u8]) -> bool
 }
 
 // Whether the bytes are one item and nothing else.
+#[tactic(auto, unfolding(crate::specs::Judge::whole, crate::specs::Judge::alone), using(base::proofs::Picks::pick_same))]
 fn is_whole(s: &[u8]) -> bool
     ensures { result ≡ whole s.now }
 {
-    let read = item::first(0, s);
-    match read {
-        ItemRead::Refused { .. } => false,
-        ItemRead::Ends(end) => end == s.len(),
+    match item::first(0, s) {
+        Err(_) => false,
+        Ok(end) => end == s.len(),
     }
 }

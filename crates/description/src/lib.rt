@@ -19,13 +19,6 @@ pub struct GivenObjective {
     pub value: Span,
 }
 
-// An objective that may be left out.
-#[derive(Clone, Copy)]
-pub enum GivenExtra {
-    Without,
-    With(GivenObjective),
-}
-
 // A message to be written. Spans are bytes of the source. The locators of a Response, or of its divert, and the pairs
 // of a Flood are the rows of the list. A locator's row is five numbers: kind (103 to 106), place and length of its
 // address or text, protocol, port; for 106 protocol 0 and port 65,536 stand for null. A pair's row is twelve: place and
@@ -44,7 +37,7 @@ pub enum Description {
         initiator: Span,
         ttl: u32,
         divert: bool,
-        extra: GivenExtra,
+        extra: Option<GivenObjective>,
     },
     RequestNegotiation {
         session: u32,

@@ -1,6 +1,6 @@
 -- Locators and pairs, row by row.
 -- Assumes nothing.
-use Prim.Native.Nat.{ℕ, ◌+◌, ◌≤◌}
+use Prim.Native.Nat.{ℕ, zero, suc, ◌+◌, ◌≤◌}
 use mathlib.Core.Path.{◌≡◌, refl, sym, ap, ◌∙◌}
 use mathlib.Core.Bool.{Bool, true, false}
 use mathlib.Core.List.{List, [], ◌∷◌, ◌++◌, flat_map, append_assoc, append-nil}
@@ -10,8 +10,8 @@ use native.Mathlib.Omega.{arith}
 use lib.ListN.{length}
 use Rattle.encode.specs.Put.{Wrote}
 use Rattle.rfc8990.specs.Encoding.{target_items, how_many}
-use Rattle.description.specs.declared.GivenExtra.{GivenExtra}
-use Rattle.description.specs.declared.GivenExtra.TheVariants as X
+use Rattle.std.specs.Prelude.{Option, Some, None}
+use Rattle.description.specs.declared.GivenObjective.{GivenObjective}
 use Rattle.description.specs.Meaning.{list_of, targets_of, extra_of}
 use Rattle.description.proofs.Items.{length_locs}
 use Rattle.encode.proofs.Puts.{then, still}
@@ -41,16 +41,25 @@ module _ {A : Type 0} (encode : A → List ℕ) (row : ℕ → A) where
   unfolding first_rows
   rows_done i n p q v = rw (le_antisymm p q) at v
 
+  -- the same by the bytes of each
+  pub rows_bytes : (n : ℕ) → flat_map (λ i. encode (row i)) (list_of (λ i. i) n) ≡ flat_map encode (list_of row n)
+  unfolding list_of flat_map
+  rows_bytes zero = refl
+  rows_bytes (suc n) =
+      flat_more (λ i. encode (row i)) (list_of (λ i. i) n) n
+      ∙ ap (λ (t : List ℕ). t ++ encode (row n)) (rows_bytes n)
+      ∙ sym (flat_more encode (list_of row n) (row n))
+
 -- how many items a Response's parts are, over no bytes as over any source
 pub targets_many : (source list : List ℕ) (d : Bool) → target_items (targets_of [] list d) ≡ target_items (targets_of source list d)
 unfolding target_items targets_of
 targets_many source list true = refl
 targets_many source list false = length_locs [] list ∙ sym (length_locs source list)
 
-pub extra_many : (source : List ℕ) (m : GivenExtra) → how_many (extra_of [] m) ≡ how_many (extra_of source m)
+pub extra_many : (source : List ℕ) (m : Option GivenObjective) → how_many (extra_of [] m) ≡ how_many (extra_of source m)
 unfolding how_many extra_of
-extra_many source X.Without = refl
-extra_many source (X.With o) = refl
+extra_many source None = refl
+extra_many source (Some o) = refl
 
 -- and that they are few
 pub targets_few : (source list : List ℕ) (d : Bool) (t : ℕ) → t ≡ target_items (targets_of source list d) → t ≤ 1 + length list
@@ -58,7 +67,7 @@ unfolding target_items targets_of
 targets_few source list true t e = omega arith
 targets_few source list false t e = omega (arith, length_locs source list)
 
-pub extra_few : (source : List ℕ) (m : GivenExtra) (t : ℕ) → t ≡ how_many (extra_of source m) → t ≤ 1
+pub extra_few : (source : List ℕ) (m : Option GivenObjective) (t : ℕ) → t ≡ how_many (extra_of source m) → t ≤ 1
 unfolding how_many extra_of
-extra_few source X.Without t e = omega arith
-extra_few source (X.With o) t e = omega arith
+extra_few source None t e = omega arith
+extra_few source (Some o) t e = omega arith

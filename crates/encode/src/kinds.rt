@@ -8,7 +8,7 @@ ghost use Rattle.description.specs.Meaning.{objective_row_of, obj_of, targets_of
 
 use crate::{locator, objective, pair, put};
 use description::rows::{LOCATOR_ROW, PAIR_ROW};
-use description::{Description, GivenExtra, GivenObjective, counts, rows};
+use description::{Description, GivenObjective, counts, rows};
 use options::Span;
 use options::outcome::Outcome;
 
@@ -101,7 +101,7 @@ pub(crate) fn put_response(
     initiator: Span,
     ttl: u32,
     divert: bool,
-    extra: GivenExtra,
+    extra: Option<GivenObjective>,
 ) -> usize
     ensures { Wrote out.old out.new 0
         (encode_msg (Msg.response session (held source.now initiator) ttl
@@ -135,12 +135,17 @@ pub(crate) fn put_targets(
     locator::put_rows(out, at, source, list)
 }
 
-pub(crate) fn put_extra(out: &mut [u8], at: usize, source: &[u8], extra: GivenExtra) -> usize
+pub(crate) fn put_extra(
+    out: &mut [u8],
+    at: usize,
+    source: &[u8],
+    extra: Option<GivenObjective>,
+) -> usize
     ensures { Wrote out.old out.new at (maybe_obj (extra_of source.now extra)) result }
 {
     match extra {
-        GivenExtra::Without => at,
-        GivenExtra::With(o) => put_given(out, at, source, o),
+        None => at,
+        Some(o) => put_given(out, at, source, o),
     }
 }
 

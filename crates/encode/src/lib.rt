@@ -1,7 +1,7 @@
 // GRASP messages encoded (RFC 8990) from a description into a buffer that is lent, every head in its shortest form.
 #![tactic(auto)]
 
-ghost use Rattle.std.specs.Prelude.{◌≡◌, length, replicate};
+ghost use Rattle.std.specs.Prelude.{◌≡◌};
 ghost use Rattle.rfc8990.specs.Encoding.{encode_msg};
 ghost use Rattle.description.specs.Meaning.{msg_of};
 ghost use Rattle.encode.specs.Put.{front_end, front_put};
@@ -23,18 +23,8 @@ pub fn message(out: &mut [u8], source: &[u8], list: &[u64], m: Description) -> u
 {
     let end = kinds::put_message(out, source, list, m);
     if out.len() < end {
-        clear(out);
+        out.fill(0);
         return out.len() + 1;
     }
     end
-}
-
-fn clear(out: &mut [u8])
-    ensures { out.new ≡ replicate (length out.old) 0 }
-{
-    let mut i: usize = 0;
-    while i < out.len() {
-        out[i] = 0;
-        i += 1;
-    }
 }

@@ -18,13 +18,12 @@ pub(crate) fn put_rows(out: &mut [u8], at: usize, source: &[u8], list: &[u64]) -
         (flat_map encode_loc (locs_of source.now list.now)) result }
 {
     let rows = list.len() / LOCATOR_ROW;
-    let mut end = at;
-    let mut i: usize = 0;
-    while i < rows {
-        end = put_row(out, end, source, list, i);
-        i += 1;
-    }
-    end
+    put::each(
+        out,
+        at,
+        rows,
+        |out, at, i| put_row(out, at, source, list, i),
+    )
 }
 
 pub(crate) fn put_row(out: &mut [u8], at: usize, source: &[u8], list: &[u64], i: usize) -> usize

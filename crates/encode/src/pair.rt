@@ -15,13 +15,12 @@ pub(crate) fn put_pairs(out: &mut [u8], at: usize, source: &[u8], list: &[u64]) 
         (flat_map encode_pair (pairs_of source.now list.now)) result }
 {
     let rows = list.len() / PAIR_ROW;
-    let mut end = at;
-    let mut i: usize = 0;
-    while i < rows {
-        end = put_pair(out, end, source, list, i);
-        i += 1;
-    }
-    end
+    put::each(
+        out,
+        at,
+        rows,
+        |out, at, i| put_pair(out, at, source, list, i),
+    )
 }
 
 pub(crate) fn put_pair(out: &mut [u8], at: usize, source: &[u8], list: &[u64], i: usize) -> usize

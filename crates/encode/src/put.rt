@@ -1,7 +1,9 @@
 // The steps of the encoder. Each puts some bytes from `at` on and answers where they end; a step that would end after
 // the buffer answers more than the buffer's length. So no step asks for room, and the end of the last one tells whether
 // all of them fit.
-ghost use Rattle.std.specs.Prelude.{[], ◌∷◌, ◌<◌};
+ghost use Rattle.std.specs.Prelude.{ℕ, List, [], ◌∷◌, ◌<◌};
+ghost use mathlib.Core.List.{flat_map};
+ghost use Rattle.description.specs.Meaning.{list_of};
 ghost use Rattle.options.specs.Text.{held};
 ghost use Rattle.cbor.specs.Put.{head};
 ghost use Rattle.encode.specs.Put.{Wrote};
@@ -54,4 +56,23 @@ pub(crate) fn part_string(out: &mut [u8], at: usize, major: u8, source: &[u8], s
     let n = spans::covered(source, s);
     let next = head(out, at, major, n as u64);
     part(out, next, source, s)
+}
+
+// So many rows, one after the other.
+pub(crate) fn each<F: Fn(&mut [u8], usize, usize) -> usize>(
+    out: &mut [u8],
+    at: usize,
+    rows: usize,
+    put_row: F,
+) -> usize
+    requires callable { (o : _) (end i : ℕ) → i < rows → F.pre put_row o end i }
+    ensures { (row : ℕ → List ℕ)
+        → ((o o' : _) (end i r : ℕ) → F.post put_row o end i r o' → Wrote o.now o'.now end (row i) r)
+        → Wrote out.old out.new at (flat_map row (list_of (λ i. i) rows)) result }
+{
+    let mut end = at;
+    for i in 0..rows {
+        end = put_row(out, end, i);
+    }
+    end
 }

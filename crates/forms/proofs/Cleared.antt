@@ -6,16 +6,17 @@ use lib.ListN.{length, take, drop, get_or}
 use Prim.Native.Nat.{ℕ}
 use native.Mathlib.Nat.{mul-div_cancel_left}
 use lib.Dec.{lit<}
+use Rattle.std.specs.Prelude.{Some, None}
 use Rattle.base.specs.Pick.{pick}
 use Rattle.options.specs.declared.Span.{Span}
 use Rattle.options.specs.declared.outcome.Outcome.{Outcome}
 use Rattle.message.specs.declared.Targets.{Targets}
-use Rattle.message.specs.declared.Extra.{Extra}
+use Rattle.message.specs.Fields.{Extra}
 use Rattle.message.specs.declared.Message.{Message}
 use Rattle.message.specs.declared.Message.TheVariants as M
 use Rattle.message.specs.Fields.{objective_of}
 use Rattle.description.specs.declared.Description.TheVariants as D
-use Rattle.forms.specs.declared.described.Described.TheVariants.{As}
+use Rattle.std.specs.Prelude.{Some}
 use Rattle.forms.specs.Block.{front_block, with_objective, discovery_block, exchange_block, with_extra, with_series, targets_block, response_block}
 use Rattle.forms.specs.Block.{with_span, outcome_block, end_block, invalid_block, block_of}
 use Rattle.forms.specs.Describe.{given_of, given_extra, is_divert, description_of}
@@ -30,10 +31,10 @@ response_cleared : (session : ℕ) (i : Span) (ttl : ℕ) (targets : Targets) (e
     ≡ block_for (D.Response session i ttl (is_divert targets) (given_extra extra)) (row_numbers (target_rows targets))
 unfolding cleared pick response_block targets_block with_extra with_objective front_block with_series block_for is_divert given_extra
     given_of target_rows row_numbers
-response_cleared session i ttl (Targets.Locators first series) Extra.Without = rw (mul-div_cancel_left series.many {n = 5} (lit< tt))
-response_cleared session i ttl (Targets.Locators first series) (Extra.With o) = rw (mul-div_cancel_left series.many {n = 5} (lit< tt))
-response_cleared session i ttl (Targets.Divert first series) Extra.Without = rw (mul-div_cancel_left series.many {n = 5} (lit< tt))
-response_cleared session i ttl (Targets.Divert first series) (Extra.With o) = rw (mul-div_cancel_left series.many {n = 5} (lit< tt))
+response_cleared session i ttl (Targets.Locators first series) None = rw (mul-div_cancel_left series.many {n = 5} (lit< tt))
+response_cleared session i ttl (Targets.Locators first series) (Some o) = rw (mul-div_cancel_left series.many {n = 5} (lit< tt))
+response_cleared session i ttl (Targets.Divert first series) None = rw (mul-div_cancel_left series.many {n = 5} (lit< tt))
+response_cleared session i ttl (Targets.Divert first series) (Some o) = rw (mul-div_cancel_left series.many {n = 5} (lit< tt))
 
 -- an End's
 end_cleared : (session : ℕ) (outcome : Outcome) → cleared (end_block session outcome) ≡ block_for (D.End session outcome) 0
@@ -51,22 +52,22 @@ invalid_cleared session item = refl
 response_objective : (session : ℕ) (i : Span) (ttl : ℕ) (targets : Targets) (extra : Extra)
     → take 8 (drop 5 (response_block session i ttl targets extra)) ≡ objective_read extra
 unfolding response_block targets_block with_extra with_objective front_block with_series
-response_objective session i ttl (Targets.Locators first series) Extra.Without = refl
-response_objective session i ttl (Targets.Locators first series) (Extra.With o) = refl
-response_objective session i ttl (Targets.Divert first series) Extra.Without = refl
-response_objective session i ttl (Targets.Divert first series) (Extra.With o) = refl
+response_objective session i ttl (Targets.Locators first series) None = refl
+response_objective session i ttl (Targets.Locators first series) (Some o) = refl
+response_objective session i ttl (Targets.Divert first series) None = refl
+response_objective session i ttl (Targets.Divert first series) (Some o) = refl
 
 response_first : (session : ℕ) (i : Span) (ttl : ℕ) (targets : Targets) (extra : Extra)
     → get_or (response_block session i ttl targets extra) 14 0 ≡ first_at (target_rows targets)
 unfolding response_block targets_block with_extra with_objective front_block with_series target_rows
-response_first session i ttl (Targets.Locators first series) Extra.Without = refl
-response_first session i ttl (Targets.Locators first series) (Extra.With o) = refl
-response_first session i ttl (Targets.Divert first series) Extra.Without = refl
-response_first session i ttl (Targets.Divert first series) (Extra.With o) = refl
+response_first session i ttl (Targets.Locators first series) None = refl
+response_first session i ttl (Targets.Locators first series) (Some o) = refl
+response_first session i ttl (Targets.Divert first series) None = refl
+response_first session i ttl (Targets.Divert first series) (Some o) = refl
 
 -- and in an End
 end_bare : (session : ℕ) (outcome : Outcome)
-    → (take 8 (drop 5 (end_block session outcome)) ≡ objective_read Extra.Without) × (get_or (end_block session outcome) 14 0 ≡ 0)
+    → (take 8 (drop 5 (end_block session outcome)) ≡ objective_read None) × (get_or (end_block session outcome) 14 0 ≡ 0)
 unfolding end_block outcome_block with_span front_block
 end_bare session Outcome.Accept = (refl, refl)
 end_bare session Outcome.Decline = (refl, refl)
@@ -92,7 +93,7 @@ cleared_block (M.Invalid session item) = invalid_cleared session item
 
 -- So it is taken as that description, whose numbers have the widths of their types.
 pub cleared_described : (m : Message) → DescriptionFits (description_of m)
-    → described_by (cleared (block_of m)) (row_numbers (rows_in m)) ≡ As (description_of m)
+    → described_by (cleared (block_of m)) (row_numbers (rows_in m)) ≡ Some (description_of m)
 cleared_described m fits =
     let numbers = row_numbers (rows_in m) in
     let is = cleared_block m in

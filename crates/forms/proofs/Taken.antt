@@ -19,14 +19,13 @@ use Rattle.options.specs.declared.Span.{Span}
 use Rattle.options.specs.declared.outcome.Outcome.{Outcome}
 use Rattle.options.specs.Text.{span_of}
 use Rattle.message.specs.Opening.{most_number}
-use Rattle.description.specs.declared.GivenExtra.{GivenExtra}
+use Rattle.std.specs.Prelude.{Option, Some, None}
+use Rattle.description.specs.declared.GivenObjective.{GivenObjective}
 use Rattle.description.specs.declared.Description.{Description}
 use Rattle.description.specs.declared.Description.TheVariants as D
 use Rattle.description.specs.Meaning.{locator_row, pair_row}
 use Rattle.description.specs.Judge.{all_from}
 use Rattle.forms.specs.declared.described.Narrow.{Narrow}
-use Rattle.forms.specs.declared.described.Described.{Described}
-use Rattle.forms.specs.declared.described.Described.TheVariants.{Nothing, As}
 use Rattle.forms.specs.Described.{allowed_in, field_fits, all_fit, is_blank, given_objective, described_objective, described_targets, described_response}
 use Rattle.forms.specs.Described.{described_end, described_flood, described_kind, described_by}
 use Rattle.forms.specs.BlockFor.{targets_sort, block_for, DescriptionFits}
@@ -90,8 +89,8 @@ pub block_long : (d : Description) (numbers : ℕ) → length (block_for d numbe
 unfolding block_for
 block_long D.Noop numbers = refl
 block_long (D.Discovery session initiator o) numbers = refl
-block_long (D.Response session initiator ttl divert GivenExtra.Without) numbers = refl
-block_long (D.Response session initiator ttl divert (GivenExtra.With o)) numbers = refl
+block_long (D.Response session initiator ttl divert None) numbers = refl
+block_long (D.Response session initiator ttl divert (Some o)) numbers = refl
 block_long (D.RequestNegotiation session o) numbers = refl
 block_long (D.RequestSynchronization session o) numbers = refl
 block_long (D.Negotiate session o) numbers = refl
@@ -123,13 +122,13 @@ zeros_blank f = zeros_fit f _ 19 0
 -- ---- what is taken is a description's
 module _ (f : List ℕ) (numbers : ℕ) (long : length f ≡ 19) where
   -- what a block says is what its numbers are
-  abbrev Says : Described → Type 0
-  Says r = (d : Description) → r ≡ As d → (f ≡ block_for d numbers) × DescriptionFits d
+  abbrev Says : Option Description → Type 0
+  Says r = (d : Description) → r ≡ Some d → (f ≡ block_for d numbers) × DescriptionFits d
 
-  nothing : Says Nothing
+  nothing : Says None
   nothing d q = absurd (let z : ◌≡◌ {A = ℕ} 0 1 = cc in omega arith)
 
-  given : (d : Description) → SameFrom f (block_for d numbers) 19 0 → DescriptionFits d → Says (As d)
+  given : (d : Description) → SameFrom f (block_for d numbers) 19 0 → DescriptionFits d → Says (Some d)
   given d same fits d' q =
       let again : d ≡ d' = cc in
       let is : f ≡ block_for d numbers = same_from f (block_for d numbers) 19 0 (sym long) (sym (block_long d numbers)) same in
@@ -142,64 +141,64 @@ module _ (f : List ℕ) (numbers : ℕ) (long : length f ≡ 19) where
     zeros k e = fit_zeros f (allowed_in k) 19 0 (rw e at fit)
 
     -- a kind's description, whose numbers stand in its places
-    noop_says : get_or f 0 0 ≡ 0 → Says (As D.Noop)
+    noop_says : get_or f 0 0 ≡ 0 → Says (Some D.Noop)
     unfolding lacking allowed_in has_bit pick block_for
     noop_says k = let z = zeros 0 k in given _ (omega arith) tt
 
-    discovery_says : get_or f 0 0 ≡ 1 → get_or f 5 0 ≡ 1 → Says (As (D.Discovery (get_or f 1 0) (span_of (get_or f 2 0) (get_or f 3 0))
+    discovery_says : get_or f 0 0 ≡ 1 → get_or f 5 0 ≡ 1 → Says (Some (D.Discovery (get_or f 1 0) (span_of (get_or f 2 0) (get_or f 3 0))
         (given_objective f (narrow f))))
     unfolding lacking allowed_in has_bit pick block_for given_objective
     discovery_says k one = let z = zeros 1 k in given _ (omega arith) (omega arith, (omega arith, omega arith))
 
-    request_negotiation_says : get_or f 0 0 ≡ 3 → get_or f 5 0 ≡ 1 → Says (As (D.RequestNegotiation (get_or f 1 0) (given_objective f (narrow f))))
+    request_negotiation_says : get_or f 0 0 ≡ 3 → get_or f 5 0 ≡ 1 → Says (Some (D.RequestNegotiation (get_or f 1 0) (given_objective f (narrow f))))
     unfolding lacking allowed_in has_bit pick block_for given_objective
     request_negotiation_says k one = let z = zeros 3 k in given _ (omega arith) (omega arith, (omega arith, omega arith))
 
-    request_synchronization_says : get_or f 0 0 ≡ 4 → get_or f 5 0 ≡ 1 → Says (As (D.RequestSynchronization (get_or f 1 0) (given_objective f (narrow f))))
+    request_synchronization_says : get_or f 0 0 ≡ 4 → get_or f 5 0 ≡ 1 → Says (Some (D.RequestSynchronization (get_or f 1 0) (given_objective f (narrow f))))
     unfolding lacking allowed_in has_bit pick block_for given_objective
     request_synchronization_says k one = let z = zeros 4 k in given _ (omega arith) (omega arith, (omega arith, omega arith))
 
-    negotiate_says : get_or f 0 0 ≡ 5 → get_or f 5 0 ≡ 1 → Says (As (D.Negotiate (get_or f 1 0) (given_objective f (narrow f))))
+    negotiate_says : get_or f 0 0 ≡ 5 → get_or f 5 0 ≡ 1 → Says (Some (D.Negotiate (get_or f 1 0) (given_objective f (narrow f))))
     unfolding lacking allowed_in has_bit pick block_for given_objective
     negotiate_says k one = let z = zeros 5 k in given _ (omega arith) (omega arith, (omega arith, omega arith))
 
-    synch_says : get_or f 0 0 ≡ 8 → get_or f 5 0 ≡ 1 → Says (As (D.Synch (get_or f 1 0) (given_objective f (narrow f))))
+    synch_says : get_or f 0 0 ≡ 8 → get_or f 5 0 ≡ 1 → Says (Some (D.Synch (get_or f 1 0) (given_objective f (narrow f))))
     unfolding lacking allowed_in has_bit pick block_for given_objective
     synch_says k one = let z = zeros 8 k in given _ (omega arith) (omega arith, (omega arith, omega arith))
 
-    wait_says : get_or f 0 0 ≡ 7 → Says (As (D.Wait (get_or f 1 0) (get_or f 4 0)))
+    wait_says : get_or f 0 0 ≡ 7 → Says (Some (D.Wait (get_or f 1 0) (get_or f 4 0)))
     unfolding lacking allowed_in has_bit pick block_for
     wait_says k = let z = zeros 7 k in given _ (omega arith) (omega arith, omega arith)
 
-    invalid_says : get_or f 0 0 ≡ 99 → Says (As (D.Invalid (get_or f 1 0) (span_of (get_or f 17 0) (get_or f 18 0))))
+    invalid_says : get_or f 0 0 ≡ 99 → Says (Some (D.Invalid (get_or f 1 0) (span_of (get_or f 17 0) (get_or f 18 0))))
     unfolding lacking allowed_in has_bit pick block_for
     invalid_says k = let z = zeros 99 k in given _ (omega arith) (omega arith)
 
     flood_leaf : get_or f 0 0 ≡ 9 → get_or f 13 0 ≡ 3 → get_or f 15 0 ≡ numbers / pair_row
-        → Says (As (D.Flood (get_or f 1 0) (span_of (get_or f 2 0) (get_or f 3 0)) (get_or f 4 0)))
+        → Says (Some (D.Flood (get_or f 1 0) (span_of (get_or f 2 0) (get_or f 3 0)) (get_or f 4 0)))
     unfolding lacking allowed_in has_bit pick block_for
     flood_leaf k sort many = let z = zeros 9 k in given _ (omega arith) (omega arith, omega arith)
 
-    accept_leaf : get_or f 0 0 ≡ 6 → get_or f 16 0 ≡ 1 → get_or f 17 0 ≡ 0 → get_or f 18 0 ≡ 0 → Says (As (D.End (get_or f 1 0) Outcome.Accept))
+    accept_leaf : get_or f 0 0 ≡ 6 → get_or f 16 0 ≡ 1 → get_or f 17 0 ≡ 0 → get_or f 18 0 ≡ 0 → Says (Some (D.End (get_or f 1 0) Outcome.Accept))
     unfolding lacking allowed_in has_bit pick block_for
     accept_leaf k sort at len = let z = zeros 6 k in given _ (omega arith) (omega arith)
 
-    decline_leaf : get_or f 0 0 ≡ 6 → get_or f 16 0 ≡ 2 → get_or f 17 0 ≡ 0 → get_or f 18 0 ≡ 0 → Says (As (D.End (get_or f 1 0) Outcome.Decline))
+    decline_leaf : get_or f 0 0 ≡ 6 → get_or f 16 0 ≡ 2 → get_or f 17 0 ≡ 0 → get_or f 18 0 ≡ 0 → Says (Some (D.End (get_or f 1 0) Outcome.Decline))
     unfolding lacking allowed_in has_bit pick block_for
     decline_leaf k sort at len = let z = zeros 6 k in given _ (omega arith) (omega arith)
 
-    reason_leaf : get_or f 0 0 ≡ 6 → get_or f 16 0 ≡ 3 → Says (As (D.End (get_or f 1 0) (Outcome.Reason (span_of (get_or f 17 0) (get_or f 18 0)))))
+    reason_leaf : get_or f 0 0 ≡ 6 → get_or f 16 0 ≡ 3 → Says (Some (D.End (get_or f 1 0) (Outcome.Reason (span_of (get_or f 17 0) (get_or f 18 0)))))
     unfolding lacking allowed_in has_bit pick block_for
     reason_leaf k sort = let z = zeros 6 k in given _ (omega arith) (omega arith)
 
     module _ (k : get_or f 0 0 ≡ 2) (many : get_or f 15 0 ≡ numbers / locator_row) where
       with_leaf : (divert : Bool) → get_or f 13 0 ≡ targets_sort divert → get_or f 5 0 ≡ 1
-          → Says (As (D.Response (get_or f 1 0) (span_of (get_or f 2 0) (get_or f 3 0)) (get_or f 4 0) divert (GivenExtra.With (given_objective f (narrow f)))))
+          → Says (Some (D.Response (get_or f 1 0) (span_of (get_or f 2 0) (get_or f 3 0)) (get_or f 4 0) divert (Some (given_objective f (narrow f)))))
       unfolding lacking allowed_in has_bit pick block_for given_objective
       with_leaf divert sort one = let z = zeros 2 k in given _ (omega arith) (omega arith, omega arith, (omega arith, omega arith))
 
       without_leaf : (divert : Bool) → get_or f 13 0 ≡ targets_sort divert → Zeros f objective_eight
-          → Says (As (D.Response (get_or f 1 0) (span_of (get_or f 2 0) (get_or f 3 0)) (get_or f 4 0) divert GivenExtra.Without))
+          → Says (Some (D.Response (get_or f 1 0) (span_of (get_or f 2 0) (get_or f 3 0)) (get_or f 4 0) divert None))
       unfolding lacking allowed_in has_bit pick block_for
       without_leaf divert sort y = let z = zeros 2 k in given _ (omega arith) (omega arith, omega arith, tt)
 
@@ -215,9 +214,9 @@ module _ (f : List ℕ) (numbers : ℕ) (long : length f ≡ 19) where
         (λ _. pick-case Says (eqb k 5) (λ e. negotiate_says (eqb-true k 5 e) one)
         (λ _. pick-case Says (eqb k 8) (λ e. synch_says (eqb-true k 8 e) one) (λ _. nothing)))))
 
-    targets_says : (extra : GivenExtra)
+    targets_says : (extra : Option GivenObjective)
         → ((divert : Bool) → get_or f 13 0 ≡ targets_sort divert
-        → Says (As (D.Response (get_or f 1 0) (span_of (get_or f 2 0) (get_or f 3 0)) (get_or f 4 0) divert extra)))
+        → Says (Some (D.Response (get_or f 1 0) (span_of (get_or f 2 0) (get_or f 3 0)) (get_or f 4 0) divert extra)))
         → Says (described_targets (get_or f 13 0) (narrow f) (span_of (get_or f 2 0) (get_or f 3 0)) extra)
     unfolding described_targets
     targets_says extra leaf =
@@ -231,7 +230,7 @@ module _ (f : List ℕ) (numbers : ℕ) (long : length f ≡ 19) where
         pick-case Says (eqb (get_or f 15 0) (numbers / locator_row))
         (λ many. pick-case Says (eqb (get_or f 5 0) 0)
         (λ _. pick-case Says (is_blank f)
-        (λ blank. targets_says GivenExtra.Without (λ divert sort. without_leaf k (eqb-true _ _ many) divert sort (blank_zeros f blank))) (λ _. nothing))
+        (λ blank. targets_says None (λ divert sort. without_leaf k (eqb-true _ _ many) divert sort (blank_zeros f blank))) (λ _. nothing))
         (λ _. pick-case Says (eqb (get_or f 5 0) 1)
         (λ one. targets_says _ (λ divert sort. with_leaf k (eqb-true _ _ many) divert sort (eqb-true _ _ one))) (λ _. nothing)))
         (λ _. nothing)
@@ -293,28 +292,28 @@ passes f numbers z session ttl flags count =
     )
 
 -- a Response's
-targets_taken : (divert : Bool) (n : Narrow) (initiator : Span) (extra : GivenExtra)
-    → described_targets (targets_sort divert) n initiator extra ≡ As (D.Response n.session initiator n.ttl divert extra)
+targets_taken : (divert : Bool) (n : Narrow) (initiator : Span) (extra : Option GivenObjective)
+    → described_targets (targets_sort divert) n initiator extra ≡ Some (D.Response n.session initiator n.ttl divert extra)
 unfolding described_targets pick
 targets_taken false n initiator extra = refl
 targets_taken true n initiator extra = refl
 
-response_taken : (session : ℕ) (initiator : Span) (ttl : ℕ) (divert : Bool) (extra : GivenExtra) (numbers : ℕ)
+response_taken : (session : ℕ) (initiator : Span) (ttl : ℕ) (divert : Bool) (extra : Option GivenObjective) (numbers : ℕ)
     → DescriptionFits (D.Response session initiator ttl divert extra)
-    → described_by (block_for (D.Response session initiator ttl divert extra) numbers) numbers ≡ As (D.Response session initiator ttl divert extra)
+    → described_by (block_for (D.Response session initiator ttl divert extra) numbers) numbers ≡ Some (D.Response session initiator ttl divert extra)
 unfolding block_for lacking allowed_in has_bit pick described_kind described_response given_objective
-response_taken session initiator ttl divert GivenExtra.Without numbers fits =
+response_taken session initiator ttl divert None numbers fits =
     passes _ numbers (omega arith) (omega arith) (omega arith) (omega arith) (omega arith)
     ∙ rw (
       eq-eqb (numbers / 5) (numbers / 5) refl,
-      zeros_blank (block_for (D.Response session initiator ttl divert GivenExtra.Without) numbers) (omega arith),
-    ) (targets_taken divert _ initiator GivenExtra.Without)
-response_taken session initiator ttl divert (GivenExtra.With o) numbers fits =
+      zeros_blank (block_for (D.Response session initiator ttl divert None) numbers) (omega arith),
+    ) (targets_taken divert _ initiator None)
+response_taken session initiator ttl divert (Some o) numbers fits =
     passes _ numbers (omega arith) (omega arith) (omega arith) (omega arith) (omega arith)
-    ∙ rw (eq-eqb (numbers / 5) (numbers / 5) refl) (targets_taken divert _ initiator (GivenExtra.With o))
+    ∙ rw (eq-eqb (numbers / 5) (numbers / 5) refl) (targets_taken divert _ initiator (Some o))
 
 -- kind by kind
-taken : (d : Description) (numbers : ℕ) → DescriptionFits d → described_by (block_for d numbers) numbers ≡ As d
+taken : (d : Description) (numbers : ℕ) → DescriptionFits d → described_by (block_for d numbers) numbers ≡ Some d
 unfolding block_for lacking allowed_in has_bit pick described_kind described_objective given_objective described_end described_flood
 taken D.Noop numbers fits = passes _ numbers (omega arith) (omega arith) (omega arith) (omega arith) (omega arith)
 taken (D.Discovery session initiator o) numbers fits = passes _ numbers (omega arith) (omega arith) (omega arith) (omega arith) (omega arith)
@@ -337,5 +336,5 @@ taken (D.Invalid session item) numbers fits = passes _ numbers (omega arith) (om
 -- and the description's numbers have the widths of their types: every description has a block, a block says one at
 -- most, and nothing else is taken.
 pub described_exactly : (f : List ℕ) (numbers : ℕ) (d : Description) → length f ≡ 19
-    → described_by f numbers ≡ As d ↔ (f ≡ block_for d numbers) × DescriptionFits d
+    → described_by f numbers ≡ Some d ↔ (f ≡ block_for d numbers) × DescriptionFits d
 described_exactly f numbers d long = (block_says f numbers long d, λ (e, fits). ap (λ (g : List ℕ). described_by g numbers) e ∙ taken d numbers fits)

@@ -1,4 +1,5 @@
 -- What was read, as numbers in fixed places (`include/grasp.h` names them).
+use Rattle.std.specs.Prelude.{Some, None}
 use Rattle.std.specs.Prelude.{ℕ, ◌-◌, List, [], ◌∷◌, replicate}
 use Rattle.std.proofs.lemmas.List.Edits.{sets}
 use Rattle.options.specs.declared.Span.{Span}
@@ -7,7 +8,7 @@ use Rattle.options.specs.Text.{span_of}
 use Rattle.options.specs.Pair.{objective_numbers}
 use Rattle.message.specs.declared.Series.{Series}
 use Rattle.message.specs.declared.Targets.{Targets}
-use Rattle.message.specs.declared.Extra.{Extra}
+use Rattle.message.specs.Fields.{Extra}
 use Rattle.options.specs.declared.outcome.Outcome.{Outcome}
 use Rattle.message.specs.declared.Message.{Message}
 use Rattle.message.specs.declared.Message.TheVariants as M
@@ -35,8 +36,8 @@ exchange_block kind session o = with_objective (front_block kind session (span_o
 
 -- an objective that may be left out
 unfoldable pub with_extra : List ℕ → Extra → List ℕ
-with_extra b Extra.Without = b
-with_extra b (Extra.With o) = with_objective b o
+with_extra b None = b
+with_extra b (Some o) = with_objective b o
 
 -- places 13 to 15: locators (1), a divert (2), pairs (3)
 unfoldable pub with_series : List ℕ → ℕ → Series → List ℕ

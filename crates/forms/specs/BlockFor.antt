@@ -1,15 +1,16 @@
 -- The block that describes a message to the writer, as `include/grasp.h` has it: nineteen numbers in fixed places, 0
 -- where the message lacks a field. The places of a count's head (10) and of the first locator or pair (14) are the
 -- reader's alone, and hold 0.
+use Rattle.std.specs.Prelude.{Some, None}
 use Rattle.std.specs.Prelude.{ℕ, ◌/◌, ◌^◌, ◌<◌, Bool, true, false, List, [], ◌∷◌, ◌++◌, get_or, set, replicate, eqb}
 use Rattle.std.proofs.lemmas.List.Edits.{sets}
 use Rattle.base.specs.Pick.{pick}
 use Rattle.options.specs.declared.Span.{Span}
 use Rattle.options.specs.declared.outcome.Outcome.{Outcome}
 use Rattle.options.specs.Text.{span_of}
-use Rattle.message.specs.declared.Extra.{Extra}
+use Rattle.message.specs.Fields.{Extra}
 use Rattle.description.specs.declared.GivenObjective.{GivenObjective}
-use Rattle.description.specs.declared.GivenExtra.{GivenExtra}
+use Rattle.std.specs.Prelude.{Option, Some, None}
 use Rattle.description.specs.declared.Description.{Description}
 use Rattle.description.specs.declared.Description.TheVariants as D
 use Rattle.forms.specs.declared.rows.Rows.{Rows}
@@ -20,9 +21,9 @@ abbrev pub opening_numbers : ℕ → ℕ → Span → ℕ → List ℕ
 opening_numbers kind session initiator ttl = kind ∷ session ∷ initiator.at ∷ initiator.len ∷ ttl ∷ []
 
 -- 5 to 12: whether there is an objective, place and length of its name, flags, count, 0, place and length of its value
-abbrev pub extra_numbers : GivenExtra → List ℕ
-extra_numbers GivenExtra.Without = 0 ∷ 0 ∷ 0 ∷ 0 ∷ 0 ∷ 0 ∷ 0 ∷ 0 ∷ []
-extra_numbers (GivenExtra.With o) =
+abbrev pub extra_numbers : Option GivenObjective → List ℕ
+extra_numbers None = 0 ∷ 0 ∷ 0 ∷ 0 ∷ 0 ∷ 0 ∷ 0 ∷ 0 ∷ []
+extra_numbers (Some o) =
     1 ∷ o.name.at ∷ o.name.len ∷ o.flags ∷ o.count ∷ 0 ∷ o.value.at ∷ o.value.len ∷ []
 
 -- 13 to 15: locators (1), a divert (2), pairs (3) or no list (0); 0; how many rows the list has
@@ -42,11 +43,11 @@ no_span = span_of 0 0
 -- those with an objective, and no list
 abbrev pub objective_block : ℕ → ℕ → Span → GivenObjective → List ℕ
 objective_block kind session initiator o =
-    opening_numbers kind session initiator 0 ++ extra_numbers (GivenExtra.With o) ++ rows_numbers 0 0
+    opening_numbers kind session initiator 0 ++ extra_numbers (Some o) ++ rows_numbers 0 0
     ++ item_numbers 0 no_span
 
 -- those with a list and no outcome: so many rows, and an objective or none
-abbrev pub list_block : ℕ → ℕ → Span → ℕ → GivenExtra → ℕ → ℕ → List ℕ
+abbrev pub list_block : ℕ → ℕ → Span → ℕ → Option GivenObjective → ℕ → ℕ → List ℕ
 list_block kind session initiator ttl extra sort many =
     opening_numbers kind session initiator ttl ++ extra_numbers extra ++ rows_numbers sort many ++ item_numbers 0
     no_span
@@ -54,7 +55,7 @@ list_block kind session initiator ttl extra sort many =
 -- those with neither an objective nor a list
 abbrev pub item_block : ℕ → ℕ → ℕ → ℕ → Span → List ℕ
 item_block kind session time sort span =
-    opening_numbers kind session no_span time ++ extra_numbers GivenExtra.Without ++ rows_numbers 0 0
+    opening_numbers kind session no_span time ++ extra_numbers None ++ rows_numbers 0 0
     ++ item_numbers sort span
 
 -- locators, or a divert of them
@@ -77,7 +78,7 @@ block_for (D.End session (Outcome.Reason reason)) numbers = item_block 6 session
 block_for (D.Wait session time) numbers = item_block 7 session time 0 no_span
 block_for (D.Synch session o) numbers = objective_block 8 session no_span o
 block_for (D.Flood session initiator ttl) numbers =
-    list_block 9 session initiator ttl GivenExtra.Without 3 (numbers / 12)
+    list_block 9 session initiator ttl None 3 (numbers / 12)
 block_for (D.Invalid session item) numbers = item_block 99 session 0 0 item
 
 -- ---- the widths of a description's types
@@ -86,9 +87,9 @@ abbrev pub GivenFits : GivenObjective → Type 0
 GivenFits o = (o.flags < 2 ^ 8) × (o.count < 2 ^ 8)
 
 -- of an objective that may be left out
-abbrev pub ExtraFits : GivenExtra → Type 0
-ExtraFits GivenExtra.Without = Unit {0}
-ExtraFits (GivenExtra.With o) = GivenFits o
+abbrev pub ExtraFits : Option GivenObjective → Type 0
+ExtraFits None = Unit {0}
+ExtraFits (Some o) = GivenFits o
 
 -- a session, a ttl and a waiting time have 32 bits
 abbrev pub DescriptionFits : Description → Type 0
@@ -115,8 +116,8 @@ cleared f = pick (eqb (get_or f 0 0) 9) (sets (unplaced f) 5 (replicate 8 0)) (u
 
 -- 5 to 12, as the reader fills them: the message's objective, with the place of its count's head
 abbrev pub objective_read : Extra → List ℕ
-objective_read Extra.Without = 0 ∷ 0 ∷ 0 ∷ 0 ∷ 0 ∷ 0 ∷ 0 ∷ 0 ∷ []
-objective_read (Extra.With o) =
+objective_read None = 0 ∷ 0 ∷ 0 ∷ 0 ∷ 0 ∷ 0 ∷ 0 ∷ 0 ∷ []
+objective_read (Some o) =
     1 ∷ o.name.at ∷ o.name.len ∷ o.flags ∷ o.count ∷ o.count_at ∷ o.value.at ∷ o.value.len ∷ []
 
 -- 14, as the reader fills it: where the first locator or pair stands

@@ -1,13 +1,10 @@
 -- The description of a message that was read: the same numbers, and spans of its bytes.
-use Rattle.std.specs.Prelude.{Bool, true, false}
+use Rattle.std.specs.Prelude.{Bool, true, false, Option, Some, None}
 use Rattle.options.specs.declared.objective.Objective.{Objective}
 use Rattle.message.specs.declared.Targets.{Targets}
-use Rattle.message.specs.declared.Extra.{Extra}
 use Rattle.message.specs.declared.Message.{Message}
 use Rattle.message.specs.declared.Message.TheVariants as M
 use Rattle.description.specs.declared.GivenObjective.{GivenObjective}
-use Rattle.description.specs.declared.GivenExtra.TheVariants as X
-use Rattle.description.specs.declared.GivenExtra.{GivenExtra}
 use Rattle.description.specs.declared.Description.{Description}
 use Rattle.description.specs.declared.Description.TheVariants as D
 
@@ -16,9 +13,9 @@ unfoldable pub given_of : Objective → GivenObjective
 given_of o = record { name = o.name; flags = o.flags; count = o.count; value = o.value }
 
 -- a Response's objective, which may be left out
-unfoldable pub given_extra : Extra → GivenExtra
-given_extra Extra.Without = X.Without
-given_extra (Extra.With o) = X.With (given_of o)
+unfoldable pub given_extra : Option Objective → Option GivenObjective
+given_extra None = None
+given_extra (Some o) = Some (given_of o)
 
 -- locators, or a divert of them
 unfoldable pub is_divert : Targets → Bool

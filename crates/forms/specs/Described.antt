@@ -6,14 +6,13 @@ use Rattle.options.specs.declared.Span.{Span}
 use Rattle.options.specs.Text.{span_of}
 use Rattle.message.specs.Opening.{most_number}
 use Rattle.description.specs.declared.GivenObjective.{GivenObjective}
-use Rattle.description.specs.declared.GivenExtra.{GivenExtra}
+use Rattle.std.specs.Prelude.{Option, Some, None}
 use Rattle.options.specs.declared.outcome.Outcome.{Outcome}
+use Rattle.description.specs.declared.Description.{Description}
 use Rattle.description.specs.declared.Description.TheVariants as D
 use Rattle.description.specs.Meaning.{locator_row, pair_row}
 use Rattle.description.specs.Judge.{all_from}
 use Rattle.forms.specs.declared.described.Narrow.{Narrow}
-use Rattle.forms.specs.declared.described.Described.{Described}
-use Rattle.forms.specs.declared.described.Described.TheVariants.{Nothing, As}
 use Rattle.forms.specs.Block.{most_places}
 
 -- ---- the places that a description has; the place of a count's head (10) and that of the first locator or pair (14)
@@ -83,66 +82,66 @@ given_objective f n = record {
 }
 
 -- kinds 1, 3, 4, 5 and 8
-unfoldable pub described_objective : ℕ → Narrow → Span → GivenObjective → Described
+unfoldable pub described_objective : ℕ → Narrow → Span → GivenObjective → Option Description
 described_objective kind n initiator o =
-    pick (eqb kind 1) (As (D.Discovery n.session initiator o))
-    (pick (eqb kind 3) (As (D.RequestNegotiation n.session o))
-    (pick (eqb kind 4) (As (D.RequestSynchronization n.session o))
-    (pick (eqb kind 5) (As (D.Negotiate n.session o))
-    (pick (eqb kind 8) (As (D.Synch n.session o)) Nothing))))
+    pick (eqb kind 1) (Some (D.Discovery n.session initiator o))
+    (pick (eqb kind 3) (Some (D.RequestNegotiation n.session o))
+    (pick (eqb kind 4) (Some (D.RequestSynchronization n.session o))
+    (pick (eqb kind 5) (Some (D.Negotiate n.session o))
+    (pick (eqb kind 8) (Some (D.Synch n.session o)) None))))
 
 -- a Response with locators (1) or a divert (2)
-unfoldable pub described_targets : ℕ → Narrow → Span → GivenExtra → Described
+unfoldable pub described_targets : ℕ → Narrow → Span → Option GivenObjective → Option Description
 described_targets sort n initiator extra =
-    pick (eqb sort 1) (As (D.Response n.session initiator n.ttl false extra))
-    (pick (eqb sort 2) (As (D.Response n.session initiator n.ttl true extra)) Nothing)
+    pick (eqb sort 1) (Some (D.Response n.session initiator n.ttl false extra))
+    (pick (eqb sort 2) (Some (D.Response n.session initiator n.ttl true extra)) None)
 
 -- a Response, with an objective or without; as many locators are said as the list has rows
-unfoldable pub described_response : List ℕ → ℕ → Narrow → Described
+unfoldable pub described_response : List ℕ → ℕ → Narrow → Option Description
 described_response f numbers n =
     let initiator = span_of (get_or f 2 0) (get_or f 3 0) in
-    unless (eqb (get_or f 15 0) (numbers / locator_row)) Nothing
+    unless (eqb (get_or f 15 0) (numbers / locator_row)) None
     (pick (eqb (get_or f 5 0) 0)
-    (unless (is_blank f) Nothing (described_targets (get_or f 13 0) n initiator GivenExtra.Without))
-    (unless (eqb (get_or f 5 0) 1) Nothing
-    (described_targets (get_or f 13 0) n initiator (GivenExtra.With (given_objective f n)))))
+    (unless (is_blank f) None (described_targets (get_or f 13 0) n initiator None))
+    (unless (eqb (get_or f 5 0) 1) None
+    (described_targets (get_or f 13 0) n initiator (Some (given_objective f n)))))
 
 -- an End: accept (1), decline (2), decline with a reason (3)
-unfoldable pub described_end : List ℕ → Narrow → Described
+unfoldable pub described_end : List ℕ → Narrow → Option Description
 described_end f n =
-    pick (eqb (get_or f 16 0) 3) (As (D.End n.session (Outcome.Reason (span_of (get_or f 17 0) (get_or f 18 0)))))
-    (unless (eqb (get_or f 17 0) 0) Nothing
-    (unless (eqb (get_or f 18 0) 0) Nothing
-    (pick (eqb (get_or f 16 0) 1) (As (D.End n.session Outcome.Accept))
-    (pick (eqb (get_or f 16 0) 2) (As (D.End n.session Outcome.Decline)) Nothing))))
+    pick (eqb (get_or f 16 0) 3) (Some (D.End n.session (Outcome.Reason (span_of (get_or f 17 0) (get_or f 18 0)))))
+    (unless (eqb (get_or f 17 0) 0) None
+    (unless (eqb (get_or f 18 0) 0) None
+    (pick (eqb (get_or f 16 0) 1) (Some (D.End n.session Outcome.Accept))
+    (pick (eqb (get_or f 16 0) 2) (Some (D.End n.session Outcome.Decline)) None))))
 
 -- a Flood: pairs (3), as many as the list has rows
-unfoldable pub described_flood : List ℕ → ℕ → Narrow → Described
+unfoldable pub described_flood : List ℕ → ℕ → Narrow → Option Description
 described_flood f numbers n =
-    unless (eqb (get_or f 13 0) 3) Nothing
-    (unless (eqb (get_or f 15 0) (numbers / pair_row)) Nothing
-    (As (D.Flood n.session (span_of (get_or f 2 0) (get_or f 3 0)) n.ttl)))
+    unless (eqb (get_or f 13 0) 3) None
+    (unless (eqb (get_or f 15 0) (numbers / pair_row)) None
+    (Some (D.Flood n.session (span_of (get_or f 2 0) (get_or f 3 0)) n.ttl)))
 
 -- by the kind, once every place fits it
-unfoldable pub described_kind : List ℕ → ℕ → Narrow → Described
+unfoldable pub described_kind : List ℕ → ℕ → Narrow → Option Description
 described_kind f numbers n =
-    pick (eqb (get_or f 0 0) 0) (As D.Noop)
+    pick (eqb (get_or f 0 0) 0) (Some D.Noop)
     (pick (eqb (get_or f 0 0) 2) (described_response f numbers n)
     (pick (eqb (get_or f 0 0) 6) (described_end f n)
-    (pick (eqb (get_or f 0 0) 7) (As (D.Wait n.session n.ttl))
+    (pick (eqb (get_or f 0 0) 7) (Some (D.Wait n.session n.ttl))
     (pick (eqb (get_or f 0 0) 9) (described_flood f numbers n)
-    (pick (eqb (get_or f 0 0) 99) (As (D.Invalid n.session (span_of (get_or f 17 0) (get_or f 18 0))))
-    (unless (eqb (get_or f 5 0) 1) Nothing
+    (pick (eqb (get_or f 0 0) 99) (Some (D.Invalid n.session (span_of (get_or f 17 0) (get_or f 18 0))))
+    (unless (eqb (get_or f 5 0) 1) None
     (described_objective (get_or f 0 0) n (span_of (get_or f 2 0) (get_or f 3 0)) (given_objective f n))))))))
 
 -- what a block says beside a list of so many numbers: nothing where a place that the kind lacks isn't 0, or a number is
 -- too wide
-unfoldable pub described_by : List ℕ → ℕ → Described
+unfoldable pub described_by : List ℕ → ℕ → Option Description
 described_by f numbers =
-    unless (all_fit f (allowed_in (get_or f 0 0))) Nothing
-    (pick (ltb most_number (get_or f 1 0)) Nothing
-    (pick (ltb most_number (get_or f 4 0)) Nothing
-    (pick (ltb 255 (get_or f 8 0)) Nothing
-    (pick (ltb 255 (get_or f 9 0)) Nothing
+    unless (all_fit f (allowed_in (get_or f 0 0))) None
+    (pick (ltb most_number (get_or f 1 0)) None
+    (pick (ltb most_number (get_or f 4 0)) None
+    (pick (ltb 255 (get_or f 8 0)) None
+    (pick (ltb 255 (get_or f 9 0)) None
     (described_kind f numbers
     (record { session = get_or f 1 0; ttl = get_or f 4 0; flags = get_or f 8 0; count = get_or f 9 0 }))))))

@@ -1,11 +1,13 @@
 -- The list of a message that was read: its locators or pairs as rows of numbers, as the writer takes them.
 use Rattle.std.specs.Prelude.{ℕ, zero, suc, ◌+◌, ◌*◌, ◌/◌, List, length, set, ltb}
 use Rattle.std.proofs.lemmas.List.Edits.{sets}
+use Rattle.std.specs.Prelude.{Ok, Err}
+use Rattle.options.specs.Part.{Read}
+use Rattle.options.specs.declared.locator.Locator.{Locator}
+use Rattle.options.specs.declared.pair.Pair.{Pair}
 use Rattle.base.specs.Pick.{pick}
 use Rattle.options.specs.declared.objective.Objective.{Objective}
-use Rattle.options.specs.declared.pair.Tag.{Tag}
-use Rattle.options.specs.declared.locator.LocatorRead.{LocatorRead}
-use Rattle.options.specs.declared.pair.PairRead.{PairRead}
+use Rattle.options.specs.Pair.{Tag}
 use Rattle.options.specs.Locator.{locator_at, locator_numbers}
 use Rattle.options.specs.Pair.{pair_at, pair_numbers}
 use Rattle.message.specs.declared.Series.{Series}
@@ -31,14 +33,14 @@ series_filled size next row series list =
 
 -- ---- locators
 -- the place after a locator that was read
-unfoldable pub locator_next_from : ℕ → LocatorRead → ℕ
-locator_next_from at (LocatorRead.Bad place) = at
-locator_next_from at (LocatorRead.Got l size bad) = at + size
+unfoldable pub locator_next_from : ℕ → Read Locator → ℕ
+locator_next_from at (Err e) = at
+locator_next_from at (Ok l) = at + l.size
 
 -- the list with the numbers of a locator that was read in row i
-unfoldable pub locator_stored_from : ℕ → List ℕ → LocatorRead → List ℕ
-locator_stored_from i list (LocatorRead.Bad place) = list
-locator_stored_from i list (LocatorRead.Got l size bad) = sets list (locator_row * i) (locator_numbers l)
+unfoldable pub locator_stored_from : ℕ → List ℕ → Read Locator → List ℕ
+locator_stored_from i list (Err e) = list
+locator_stored_from i list (Ok l) = sets list (locator_row * i) (locator_numbers l.value)
 
 -- the place after the locator at `at`
 unfoldable pub locator_next : List ℕ → ℕ → ℕ
@@ -54,14 +56,14 @@ unfoldable pub pair_cells : Objective → Tag → List ℕ
 pair_cells o tag = set (pair_numbers o tag) 4 0
 
 -- the place after a pair that was read
-unfoldable pub pair_next_from : ℕ → PairRead → ℕ
-pair_next_from at (PairRead.Bad place) = at
-pair_next_from at (PairRead.Got o tag size bad long) = at + size
+unfoldable pub pair_next_from : ℕ → Read Pair → ℕ
+pair_next_from at (Err e) = at
+pair_next_from at (Ok r) = at + r.size
 
 -- the list with the numbers of a pair that was read in row i
-unfoldable pub pair_stored_from : ℕ → List ℕ → PairRead → List ℕ
-pair_stored_from i list (PairRead.Bad place) = list
-pair_stored_from i list (PairRead.Got o tag size bad long) = sets list (pair_row * i) (pair_cells o tag)
+unfoldable pub pair_stored_from : ℕ → List ℕ → Read Pair → List ℕ
+pair_stored_from i list (Err e) = list
+pair_stored_from i list (Ok r) = sets list (pair_row * i) (pair_cells r.value.objective r.value.tag)
 
 -- the place after the pair at `at`
 unfoldable pub pair_next : List ℕ → ℕ → ℕ

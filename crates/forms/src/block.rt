@@ -4,7 +4,7 @@ ghost use Rattle.forms.specs.Block.{front_block, with_objective, discovery_block
 ghost use Rattle.forms.specs.Block.{with_extra, with_series, targets_block, response_block, with_span};
 ghost use Rattle.forms.specs.Block.{outcome_block, end_block, invalid_block, block_of};
 
-use message::{Extra, Message, Series, Targets};
+use message::{Message, Series, Targets};
 use options::Span;
 use options::objective::Objective;
 use options::outcome::Outcome;
@@ -70,7 +70,7 @@ fn response(
     initiator: Span,
     ttl: u32,
     targets: Targets,
-    extra: Extra,
+    extra: Option<Objective>,
 )
     ensures { b.new ≡ response_block session initiator ttl targets extra }
 {
@@ -125,12 +125,12 @@ fn put_objective(b: &mut [u64; 19], o: Objective)
     b[12] = o.value.len as u64;
 }
 
-fn put_extra(b: &mut [u64; 19], extra: Extra)
+fn put_extra(b: &mut [u64; 19], extra: Option<Objective>)
     ensures { b.new ≡ with_extra b.old extra }
 {
     match extra {
-        Extra::Without => {}
-        Extra::With(objective) => put_objective(b, objective),
+        None => {}
+        Some(objective) => put_objective(b, objective),
     }
 }
 

@@ -5,7 +5,7 @@ ghost use Rattle.message.specs.Shape.{exchange_of};
 ghost use Rattle.message.specs.declared.Message.{Message};
 ghost use Rattle.forms.specs.Describe.{given_of, given_extra, is_divert, description_of};
 
-use description::{Description, GivenExtra, GivenObjective};
+use description::{Description, GivenObjective};
 use message::{Message, Targets};
 use options::Span;
 use options::objective::Objective;
@@ -57,7 +57,7 @@ fn response_of(
     initiator: Span,
     ttl: u32,
     targets: Targets,
-    extra: message::Extra,
+    extra: Option<Objective>,
 ) -> Description
     ensures { result ≡ description_of (Message.Response session initiator ttl targets extra) }
 {
@@ -100,12 +100,13 @@ fn given_of(o: Objective) -> GivenObjective
     }
 }
 
-fn extra_of(extra: message::Extra) -> GivenExtra
+#[tactic(auto, unfolding(crate::specs::Describe::given_extra))]
+fn extra_of(extra: Option<Objective>) -> Option<GivenObjective>
     ensures { result ≡ given_extra extra }
 {
     match extra {
-        message::Extra::Without => GivenExtra::Without,
-        message::Extra::With(objective) => GivenExtra::With(given_of(objective)),
+        None => None,
+        Some(objective) => Some(given_of(objective)),
     }
 }
 

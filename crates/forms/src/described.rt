@@ -6,16 +6,9 @@ ghost use Rattle.forms.specs.Described.{described_targets, described_response, d
 ghost use Rattle.forms.specs.Described.{described_flood, described_objective, described_kind, described_by};
 
 use description::rows::{LOCATOR_ROW, PAIR_ROW};
-use description::{Description, GivenExtra, GivenObjective};
+use description::{Description, GivenObjective};
 use options::Span;
 use options::outcome::Outcome;
-
-// What a block says: nothing that could be written, or a description.
-#[derive(Clone, Copy)]
-pub enum Described {
-    Nothing,
-    As(Description),
-}
 
 // The numbers of a block that a message has in 32 or 8 bits.
 #[derive(Clone, Copy)]
@@ -26,8 +19,9 @@ pub struct Narrow {
     pub count: u8,
 }
 
-// What a block says beside a list of so many numbers.
-pub fn described_by(fields: &[u64; 19], numbers: usize) -> Described
+// What a block says beside a list of so many numbers: a description, or nothing that could be written.
+#[tactic(auto, unfolding(crate::specs::Described::described_by, base::specs::Pick::pick))]
+pub fn described_by(fields: &[u64; 19], numbers: usize) -> Option<Description>
     ensures { result ≡ described_by fields.now numbers }
 {
     let session = fields[1];
@@ -35,19 +29,19 @@ pub fn described_by(fields: &[u64; 19], numbers: usize) -> Described
     let flags = fields[8];
     let count = fields[9];
     if !all_fit(fields, allowed(fields[0])) {
-        return Described::Nothing;
+        return None;
     }
     if 4_294_967_295 < session {
-        return Described::Nothing;
+        return None;
     }
     if 4_294_967_295 < ttl {
-        return Described::Nothing;
+        return None;
     }
     if 255 < flags {
-        return Described::Nothing;
+        return None;
     }
     if 255 < count {
-        return Described::Nothing;
+        return None;
     }
     let narrow = Narrow {
         session: session as u32,
@@ -58,12 +52,13 @@ pub fn described_by(fields: &[u64; 19], numbers: usize) -> Described
     by_kind(fields, numbers, narrow)
 }
 
-fn by_kind(fields: &[u64; 19], numbers: usize, n: Narrow) -> Described
+#[tactic(auto, unfolding(crate::specs::Described::described_kind, base::specs::Pick::pick))]
+fn by_kind(fields: &[u64; 19], numbers: usize, n: Narrow) -> Option<Description>
     ensures { result ≡ described_kind fields.now numbers n }
 {
     let kind = fields[0];
     if kind == 0 {
-        return Described::As(Description::Noop);
+        return Some(Description::Noop);
     }
     if kind == 2 {
         return described_response(fields, numbers, n);
@@ -72,7 +67,7 @@ fn by_kind(fields: &[u64; 19], numbers: usize, n: Narrow) -> Described
         return described_end(fields, n);
     }
     if kind == 7 {
-        return Described::As(Description::Wait {
+        return Some(Description::Wait {
             session: n.session,
             time: n.ttl,
         });
@@ -81,13 +76,13 @@ fn by_kind(fields: &[u64; 19], numbers: usize, n: Narrow) -> Described
         return described_flood(fields, numbers, n);
     }
     if kind == 99 {
-        return Described::As(Description::Invalid {
+        return Some(Description::Invalid {
             session: n.session,
             item: span(fields[17], fields[18]),
         });
     }
     if fields[5] != 1 {
-        return Described::Nothing;
+        return None;
     }
     described_objective(
         kind,
@@ -98,62 +93,60 @@ fn by_kind(fields: &[u64; 19], numbers: usize, n: Narrow) -> Described
 }
 
 // Kinds 1, 3, 4, 5 and 8, which have an objective.
+#[tactic(auto, unfolding(crate::specs::Described::described_objective, base::specs::Pick::pick))]
 fn described_objective(
     kind: u64,
     n: Narrow,
     initiator: Span,
     objective: GivenObjective,
-) -> Described
+) -> Option<Description>
     ensures { result ≡ described_objective kind n initiator objective }
 {
     let session = n.session;
     if kind == 1 {
-        return Described::As(Description::Discovery {
+        return Some(Description::Discovery {
             session,
             initiator,
             objective,
         });
     }
     if kind == 3 {
-        return Described::As(Description::RequestNegotiation { session, objective });
+        return Some(Description::RequestNegotiation { session, objective });
     }
     if kind == 4 {
-        return Described::As(Description::RequestSynchronization { session, objective });
+        return Some(Description::RequestSynchronization { session, objective });
     }
     if kind == 5 {
-        return Described::As(Description::Negotiate { session, objective });
+        return Some(Description::Negotiate { session, objective });
     }
     if kind == 8 {
-        return Described::As(Description::Synch { session, objective });
+        return Some(Description::Synch { session, objective });
     }
-    Described::Nothing
+    None
 }
 
-fn described_response(fields: &[u64; 19], numbers: usize, n: Narrow) -> Described
+#[tactic(auto, unfolding(crate::specs::Described::described_response, base::specs::Pick::pick))]
+fn described_response(fields: &[u64; 19], numbers: usize, n: Narrow) -> Option<Description>
     ensures { result ≡ described_response fields.now numbers n }
 {
     if fields[15] != (numbers / LOCATOR_ROW) as u64 {
-        return Described::Nothing;
+        return None;
     }
     let initiator = span(fields[2], fields[3]);
     if fields[5] == 0 {
         if !is_blank(fields) {
-            return Described::Nothing;
+            return None;
         }
-        return response(fields[13], n, initiator, GivenExtra::Without);
+        return response(fields[13], n, initiator, None);
     }
     if fields[5] != 1 {
-        return Described::Nothing;
+        return None;
     }
-    response(
-        fields[13],
-        n,
-        initiator,
-        GivenExtra::With(given_objective(fields, n)),
-    )
+    response(fields[13], n, initiator, Some(given_objective(fields, n)))
 }
 
 // The places that may hold other numbers than 0, as the bits of a mask, by the kind.
+#[tactic(auto, unfolding(crate::specs::Described::allowed_in, base::specs::Pick::pick))]
 fn allowed(kind: u64) -> u32
     ensures { result ≡ allowed_in kind }
 {
@@ -185,12 +178,7 @@ fn allowed(kind: u64) -> u32
 fn all_fit(fields: &[u64; 19], mask: u32) -> bool
     ensures { result ≡ all_fit fields.now mask }
 {
-    for i in 0..19 {
-        if !field_fits(fields, mask, i) {
-            return false;
-        }
-    }
-    true
+    (0..19).all(|i| field_fits(fields, mask, i))
 }
 
 fn field_fits(fields: &[u64; 19], mask: u32, i: usize) -> bool
@@ -210,74 +198,73 @@ fn is_blank(fields: &[u64; 19]) -> bool
     all_fit(fields, 0x0007_e01f)
 }
 
-fn response(sort: u64, n: Narrow, initiator: Span, extra: GivenExtra) -> Described
+#[tactic(auto, unfolding(crate::specs::Described::described_targets, base::specs::Pick::pick))]
+fn response(
+    sort: u64,
+    n: Narrow,
+    initiator: Span,
+    extra: Option<GivenObjective>,
+) -> Option<Description>
     ensures { result ≡ described_targets sort n initiator extra }
 {
-    let session = n.session;
-    let ttl = n.ttl;
-    if sort == 1 {
-        return Described::As(Description::Response {
-            session,
-            initiator,
-            ttl,
-            divert: false,
-            extra,
-        });
-    }
-    if sort == 2 {
-        return Described::As(Description::Response {
-            session,
-            initiator,
-            ttl,
-            divert: true,
-            extra,
-        });
-    }
-    Described::Nothing
+    let divert = match sort {
+        1 => false,
+        2 => true,
+        _ => return None,
+    };
+    Some(Description::Response {
+        session: n.session,
+        initiator,
+        ttl: n.ttl,
+        divert,
+        extra,
+    })
 }
 
-fn described_end(fields: &[u64; 19], n: Narrow) -> Described
+#[tactic(auto, unfolding(crate::specs::Described::described_end, base::specs::Pick::pick))]
+fn described_end(fields: &[u64; 19], n: Narrow) -> Option<Description>
     ensures { result ≡ described_end fields.now n }
 {
     let session = n.session;
     let reason = span(fields[17], fields[18]);
     if fields[16] == 3 {
-        return Described::As(Description::End {
+        return Some(Description::End {
             session,
             outcome: Outcome::Reason(reason),
         });
     }
     if fields[17] != 0 {
-        return Described::Nothing;
+        return None;
     }
     if fields[18] != 0 {
-        return Described::Nothing;
+        return None;
     }
     if fields[16] == 1 {
-        return Described::As(Description::End {
+        return Some(Description::End {
             session,
             outcome: Outcome::Accept,
         });
     }
     if fields[16] == 2 {
-        return Described::As(Description::End {
+        return Some(Description::End {
             session,
             outcome: Outcome::Decline,
         });
     }
-    Described::Nothing
+    None
 }
 
-fn described_flood(fields: &[u64; 19], numbers: usize, n: Narrow) -> Described
+#[tactic(auto, unfolding(crate::specs::Described::described_flood, base::specs::Pick::pick))]
+fn described_flood(fields: &[u64; 19], numbers: usize, n: Narrow) -> Option<Description>
     ensures { result ≡ described_flood fields.now numbers n }
 {
     if fields[13] != 3 {
-        return Described::Nothing;
+        return None;
     }
     if fields[15] != (numbers / PAIR_ROW) as u64 {
-        return Described::Nothing;
+        return None;
     }
-    Described::As(Description::Flood {
+    Some(Description::Flood {
         session: n.session,
         initiator: span(fields[2], fields[3]),
         ttl: n.ttl,

@@ -1,35 +1,26 @@
 -- What `grasp_write` answers and leaves: what the writer gives for the description that a block says.
 use Rattle.std.specs.Prelude.{ℕ, List, length}
-use Rattle.writer.specs.declared.Written.{Written}
+use Rattle.std.specs.Result.{result_unwrap_or}
+use Rattle.base.specs.Refusal.{answer_number}
 use Rattle.writer.specs.Write.{write_answer, write_out}
-use Rattle.forms.specs.declared.described.Described.{Described}
-use Rattle.forms.specs.declared.described.Described.TheVariants.{Nothing, As}
+use Rattle.std.specs.Prelude.{Option, Some, None}
+use Rattle.description.specs.declared.Description.{Description}
 use Rattle.forms.specs.Described.{described_by}
 
--- a refusal's number, and 0 where there is none
-unfoldable pub number_of : Written → ℕ
-number_of (Written.Refused number) = number
-number_of (Written.Length n) = 0
-
--- the length that is left: the new one, and on a refusal the one before
-unfoldable pub length_after : Written → ℕ → ℕ
-length_after (Written.Refused number) before = before
-length_after (Written.Length n) before = n
-
 -- the number by what a block says: 18 where it says nothing that could be written, and then nothing changes
-unfoldable pub number_by : List ℕ → List ℕ → List ℕ → Described → ℕ
-number_by source list out Nothing = 18
-number_by source list out (As d) = number_of (write_answer source list d out)
+unfoldable pub number_by : List ℕ → List ℕ → List ℕ → Option Description → ℕ
+number_by source list out None = 18
+number_by source list out (Some d) = answer_number (write_answer source list d out)
 
 -- the output that is left
-unfoldable pub bytes_by : List ℕ → List ℕ → List ℕ → Described → List ℕ
-bytes_by source list out Nothing = out
-bytes_by source list out (As d) = write_out source list d out
+unfoldable pub bytes_by : List ℕ → List ℕ → List ℕ → Option Description → List ℕ
+bytes_by source list out None = out
+bytes_by source list out (Some d) = write_out source list d out
 
--- and the length
-unfoldable pub length_by : List ℕ → List ℕ → List ℕ → ℕ → Described → ℕ
-length_by source list out before Nothing = before
-length_by source list out before (As d) = length_after (write_answer source list d out) before
+-- and the length: on a refusal the one before
+unfoldable pub length_by : List ℕ → List ℕ → List ℕ → ℕ → Option Description → ℕ
+length_by source list out before None = before
+length_by source list out before (Some d) = result_unwrap_or (write_answer source list d out) before
 
 -- what `grasp_write` answers: a refusal's number, or 0
 unfoldable pub write_number : List ℕ → List ℕ → List ℕ → List ℕ → ℕ

@@ -4,7 +4,9 @@ ghost use Rattle.node.specs.Call.{call_of};
 ghost use Rattle.host.specs.Call.{left_of};
 ghost use Rattle.grasp.specs.Call.{host_call};
 
-use host::{call, records};
+use crate::records;
+use host::call;
+use host::records::node_of;
 
 // 0 and the record's numbers, the table, the output and the answer (verdict, handed up, mask, length) as the call
 // leaves them; or the number of the refusal, and all of them as they were. The table is lent as 2,048 bytes; another
@@ -25,7 +27,7 @@ pub fn grasp_node_call(
         (call_of clock interface names.now message.now out.old)
         answer.old }
 {
-    let node = records::node_of(address, numbers);
+    let node = node_of(address, numbers);
     let kept = call::call_into(node, bytes, clock, interface, names, message, out, answer);
     records::put(kept, numbers)
 }

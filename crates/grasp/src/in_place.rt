@@ -2,12 +2,12 @@
 // and stores the one that comes back.
 // A refusal leaves the record, and all else, as it was.
 ghost use Rattle.std.specs.Prelude.{◌≡◌};
-ghost use Rattle.node_state.specs.Record.{keeps, set_links};
 ghost use Rattle.node.specs.Call.{call_of};
 ghost use Rattle.host.specs.Call.{left_of, call_left};
-ghost use Rattle.host.specs.Records.{fresh_over};
+ghost use Rattle.host.specs.Records.{keeps, put_over, fresh_over, links_over};
 
-use host::{call, records};
+use base::refusal::Refusal;
+use host::call;
 use node_state::Record;
 
 // 0 and a fresh record, or 12.
@@ -22,18 +22,28 @@ pub fn grasp_record_fresh(
     ensures { keeps result node.new
         ≡ fresh_over node.old address.now port ttl interfaces links }
 {
-    let kept = records::fresh_over(*node, address, port, ttl, interfaces, links);
-    *node = kept.node;
-    kept.refusal
+    put(Record::fresh(*address, port, ttl, interfaces, links), node)
 }
 
 // 0 and the record with other links, or the number of the refusal.
 pub fn grasp_record_set_links(node: &mut Record, links: u64) -> u8
-    ensures { keeps result node.new ≡ set_links node.old links }
+    ensures { keeps result node.new ≡ links_over node.old links }
 {
-    let kept = (*node).set_links(links);
-    *node = kept.node;
-    kept.refusal
+    put(node.set_links(links), node)
+}
+
+// 0 and the record that is given in the place of the one that was there, or the number of the refusal and that one.
+#[tactic(auto, unfolding(host::specs::Records::put_over))]
+fn put(kept: Result<Record, Refusal>, node: &mut Record) -> u8
+    ensures { keeps result node.new ≡ put_over node.old kept }
+{
+    match kept {
+        Ok(next) => {
+            *node = next;
+            0
+        }
+        Err(refusal) => u8::from(refusal),
+    }
 }
 
 // 0 and the record, the table, the output and the answer as the node call leaves them, or the number of the refusal.
@@ -52,7 +62,8 @@ pub fn grasp_record_call(
         (call_of clock interface names.now message.now out.old)
         answer.old }
 {
-    let kept = call::call_into(*node, bytes, clock, interface, names, message, out, answer);
-    *node = kept.node;
-    kept.refusal
+    put(
+        call::call_into(*node, bytes, clock, interface, names, message, out, answer),
+        node,
+    )
 }

@@ -3,19 +3,16 @@ ghost use Rattle.std.specs.Prelude.{◌≡◌};
 ghost use Rattle.grasp.specs.Reading.{read_number, read_block, locator_end, locator_after, pair_end, pair_after};
 
 use forms::block;
-use options::locator::LocatorRead;
-use options::pair::PairRead;
-use reader::Reading;
 
 // 0 and the message's block, or the number of the refusal and the block as it was.
+#[tactic(auto, unfolding(crate::specs::Reading::read_number, crate::specs::Reading::number_from, crate::specs::Reading::read_block, crate::specs::Reading::block_from))]
 pub fn grasp_read(bytes: &[u8], fields: &mut [u64; 19]) -> u8
     ensures value { result ≡ read_number bytes.now }
     ensures fields_after { fields.new ≡ read_block bytes.now fields.old }
 {
-    let reading = reader::read(bytes);
-    match reading {
-        Reading::Refused(number) => number,
-        Reading::Read(m) => {
+    match reader::read(bytes) {
+        Err(refusal) => u8::from(refusal),
+        Ok(m) => {
             block::fill(fields, m);
             0
         }
@@ -27,12 +24,11 @@ pub fn grasp_locator(bytes: &[u8], at: usize, fields: &mut [u64; 5]) -> usize
     ensures value { result ≡ locator_end bytes.now at }
     ensures fields_after { fields.new ≡ locator_after bytes.now at fields.old }
 {
-    let read = options::locator::read_at(bytes, at);
-    match read {
-        LocatorRead::Bad(_) => 0,
-        LocatorRead::Got { locator, size, .. } => {
-            *fields = options::locator::numbers_of(locator);
-            at + size
+    match options::locator::read_at(bytes, at) {
+        Err(_) => 0,
+        Ok(l) => {
+            *fields = options::locator::numbers_of(l.value);
+            at + l.size
         }
     }
 }
@@ -42,17 +38,11 @@ pub fn grasp_pair(bytes: &[u8], at: usize, fields: &mut [u64; 12]) -> usize
     ensures value { result ≡ pair_end bytes.now at }
     ensures fields_after { fields.new ≡ pair_after bytes.now at fields.old }
 {
-    let read = options::pair::read_at(bytes, at);
-    match read {
-        PairRead::Bad(_) => 0,
-        PairRead::Got {
-            objective,
-            tag,
-            size,
-            ..
-        } => {
-            *fields = options::pair::numbers_of(objective, tag);
-            at + size
+    match options::pair::read_at(bytes, at) {
+        Err(_) => 0,
+        Ok(p) => {
+            *fields = options::pair::numbers_of(p.value.objective, p.value.tag);
+            at + p.size
         }
     }
 }

@@ -2,11 +2,11 @@
 ghost use Rattle.std.specs.Prelude.{◌≡◌};
 ghost use Rattle.grasp.specs.Writing.{write_number, write_bytes, write_length};
 
+use base::refusal::Refusal;
 use forms::described;
-use forms::described::Described;
-use writer::Written;
 
 // 0 with the length and the encoding at the front of `out`, or the number of the refusal with both as they were.
+#[tactic(auto, unfolding(crate::specs::Writing::write_number, crate::specs::Writing::number_by, crate::specs::Writing::write_bytes, crate::specs::Writing::bytes_by, crate::specs::Writing::write_length, crate::specs::Writing::length_by))]
 pub fn grasp_write(
     source: &[u8],
     list: &[u64],
@@ -20,18 +20,14 @@ pub fn grasp_write(
     ensures length_after { length.new ≡ write_length source.now list.now fields.now
         out.old length.old }
 {
-    let described = described::described_by(fields, list.len());
-    match described {
-        Described::Nothing => 18,
-        Described::As(description) => {
-            let written = writer::write(source, list, description, out);
-            match written {
-                Written::Refused(number) => number,
-                Written::Length(n) => {
-                    *length = n as u64;
-                    0
-                }
-            }
+    let Some(description) = described::described_by(fields, list.len()) else {
+        return u8::from(Refusal::NoSuchMessage);
+    };
+    match writer::write(source, list, description, out) {
+        Ok(n) => {
+            *length = n as u64;
+            0
         }
+        Err(refusal) => u8::from(refusal),
     }
 }

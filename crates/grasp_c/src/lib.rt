@@ -1,5 +1,6 @@
 // The functions of `grasp` as the C archive exports them: each calls the one of its name and states its clauses again.
-// The archive is `libgrasp.a`, and `include/grasp.h` documents it.
+// The archive is `libgrasp.a`, and `include/grasp.h` documents it. They stand twice for the C interface: exports need a
+// crate of their own, and the laws of `grasp_laws` rest on a library.
 #![tactic(auto)]
 
 ghost use Rattle.std.specs.Prelude.{◌≡◌};
@@ -8,8 +9,9 @@ ghost use Rattle.grasp.specs.Writing.{write_bytes, write_number, write_length};
 ghost use Rattle.node.specs.Call.{call_of};
 ghost use Rattle.host.specs.Call.{left_of, call_left};
 ghost use Rattle.grasp.specs.Call.{host_call};
-ghost use Rattle.node_state.specs.Record.{fresh, set_links, keeps};
-ghost use Rattle.host.specs.Records.{numbers_after, node_of, fresh_over};
+ghost use Rattle.base.specs.Refusal.{answer_number};
+ghost use Rattle.node_state.specs.Record.{fresh, set_links};
+ghost use Rattle.host.specs.Records.{numbers_after, node_of, keeps, fresh_over, links_over};
 ghost use Rattle.grasp.specs.Negotiating.{step_number, state_after};
 
 use node_state::Record;
@@ -98,7 +100,7 @@ pub extern "C" fn grasp_fresh(
     links: u64,
     numbers: &mut [u64; 6],
 ) -> u8
-    ensures value { result ≡ (fresh address.now port ttl interfaces links).refusal }
+    ensures value { result ≡ answer_number (fresh address.now port ttl interfaces links) }
     ensures numbers_after { numbers.new ≡ numbers_after (fresh address.now port ttl interfaces links)
         numbers.old }
 {
@@ -108,7 +110,7 @@ pub extern "C" fn grasp_fresh(
 // 0 and the numbers with other links, or the number of the refusal and the numbers as they were.
 #[unsafe(no_mangle)]
 pub extern "C" fn grasp_set_links(address: &[u8; 16], numbers: &mut [u64; 6], links: u64) -> u8
-    ensures value { result ≡ (set_links (node_of address.now numbers.old) links).refusal }
+    ensures value { result ≡ answer_number (set_links (node_of address.now numbers.old) links) }
     ensures numbers_after { numbers.new ≡ numbers_after
         (set_links (node_of address.now numbers.old) links) numbers.old }
 {
@@ -135,7 +137,7 @@ pub extern "C" fn grasp_record_fresh(
 // 0 and the record with other links, or the number of the refusal.
 #[unsafe(no_mangle)]
 pub extern "C" fn grasp_record_set_links(node: &mut Record, links: u64) -> u8
-    ensures { keeps result node.new ≡ set_links node.old links }
+    ensures { keeps result node.new ≡ links_over node.old links }
 {
     grasp::in_place::grasp_record_set_links(node, links)
 }

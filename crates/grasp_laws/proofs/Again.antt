@@ -1,6 +1,9 @@
 -- A message that was read in C and is written in C is the same bytes. For readers: each statement at the end stands
 -- alone.
 -- Assumes nothing.
+use Rattle.base.proofs.Refusals.{some_number}
+use Rattle.std.specs.Prelude.{Ok, Err}
+use Rattle.reader.specs.Read.{Reading}
 use mathlib.Core.Path.{◌≡◌, refl, sym, ap, ap₂, ◌∙◌}
 use mathlib.Core.Logic.{◌≢◌}
 use mathlib.Core.List.{List, [], ◌∷◌, ◌++◌}
@@ -10,31 +13,32 @@ use native.Mathlib.Omega.{arith}
 use lib.ListN.{length, take, get_or, set, replicate, length-replicate}
 use lib.Seq.{sets}
 use borrow.Author.Tests.{eq-eqb, ne_eqb}
+use Rattle.std.specs.Prelude.{Some, None}
+use Rattle.options.specs.declared.pair.Pair as P
+use Rattle.options.specs.Part.{Read}
+use Rattle.options.specs.declared.locator.Locator.{Locator}
 use Rattle.base.specs.Pick.{pick}
 use Rattle.base.specs.BigEndian.{Bytes}
 use Rattle.cbor.specs.Tree.{Item, Items}
 use Rattle.options.specs.declared.Span.{Span}
 use Rattle.options.specs.declared.outcome.Outcome.{Outcome}
 use Rattle.options.specs.declared.objective.Objective.{Objective}
-use Rattle.options.specs.declared.locator.LocatorRead.{LocatorRead}
-use Rattle.options.specs.declared.pair.PairRead.{PairRead}
 use Rattle.options.specs.Locator.{locator_numbers}
 use Rattle.options.specs.Pair.{pair_numbers}
 use Rattle.rfc8990.specs.Message.{Loc, Obj, Pair, Tgts, Msg}
 use Rattle.rfc8990.specs.Cddl.{Value, Number, ObjectiveItem, OptionalItems, TgtsItems, MessageItem}
 use Rattle.message.specs.declared.Series.{Series}
 use Rattle.message.specs.declared.Targets.{Targets}
-use Rattle.message.specs.declared.Extra.{Extra}
+use Rattle.message.specs.Fields.{Extra}
 use Rattle.message.specs.declared.Message.{Message}
 use Rattle.message.specs.declared.Message.TheVariants as M
 use Rattle.message_laws.specs.Holds.{ObjectiveHolds, InTurn, LocatorReads, PairReads, SeriesHolds, TargetsHold, ExtraHolds, MessageHolds}
-use Rattle.reader.specs.declared.Reading.{Reading}
 use Rattle.reader.specs.Read.{read_of}
 use Rattle.reader.proofs.Exact.{accepted_exactly, accepted_holds}
 use Rattle.reader.proofs.Refused.{refused_exactly}
 use Rattle.description.specs.Meaning.{locator_row, pair_row}
 use Rattle.forms.specs.declared.rows.Rows.{Rows}
-use Rattle.forms.specs.declared.described.Described.TheVariants.{As}
+use Rattle.std.specs.Prelude.{Some}
 use Rattle.forms.specs.Block as B
 use Rattle.forms.specs.Describe.{given_of, given_extra, description_of}
 use Rattle.forms.specs.Described.{described_by}
@@ -50,7 +54,6 @@ use Rattle.writer_laws.proofs.Again.{described_written}
 use Rattle.grasp.specs.Reading as G
 use Rattle.grasp.specs.Writing as W
 use Rattle.grasp_laws.specs.Gathered.{locator_rows, pair_rows, rows_gathered, WritesAgain}
-use Rattle.grasp_laws.proofs.Numbers.{row_some}
 
 -- ---- the widths of what was read
 objective_fits : {s : List ℕ} {o : Objective} {obj : Obj Value} {x : Item} → ObjectiveHolds s o obj → ObjectiveItem x obj → GivenFits (given_of o)
@@ -97,10 +100,10 @@ Listed f (Rows.Pairs series) = (get_or f 13 0 ≡ 3) × (get_or f 14 0 ≡ serie
 targets_listed : (session : ℕ) (i : Span) (ttl : ℕ) (targets : Targets) (extra : Extra)
     → Listed (B.response_block session i ttl targets extra) (R.target_rows targets)
 unfolding R.target_rows B.response_block B.targets_block B.with_extra B.with_objective B.front_block B.with_series sets
-targets_listed session i ttl (Targets.Locators first series) Extra.Without = (λ e. omega arith, λ e. omega arith, refl, refl)
-targets_listed session i ttl (Targets.Locators first series) (Extra.With o) = (λ e. omega arith, λ e. omega arith, refl, refl)
-targets_listed session i ttl (Targets.Divert first series) Extra.Without = (λ e. omega arith, λ e. omega arith, refl, refl)
-targets_listed session i ttl (Targets.Divert first series) (Extra.With o) = (λ e. omega arith, λ e. omega arith, refl, refl)
+targets_listed session i ttl (Targets.Locators first series) None = (λ e. omega arith, λ e. omega arith, refl, refl)
+targets_listed session i ttl (Targets.Locators first series) (Some o) = (λ e. omega arith, λ e. omega arith, refl, refl)
+targets_listed session i ttl (Targets.Divert first series) None = (λ e. omega arith, λ e. omega arith, refl, refl)
+targets_listed session i ttl (Targets.Divert first series) (Some o) = (λ e. omega arith, λ e. omega arith, refl, refl)
 
 outcome_listed : (session : ℕ) (outcome : Outcome) → Listed (B.end_block session outcome) Rows.Nothing
 unfolding B.end_block B.outcome_block B.with_span B.front_block sets
@@ -147,7 +150,7 @@ module _ (s : List ℕ) where
         chain = Chain.step {rows = h.rows} (locator_five r.locator) (λ i list. ap (R.locator_stored_from i list) r.read) (λ _. tt)
             (ap (R.locator_next_from at) r.read ∙ sym r.after) h.chain;
         same = λ block.
-            let after : G.locator_after s at block ≡ numbers = ap (λ (x : LocatorRead). G.locator_from x block) r.read in
+            let after : G.locator_after s at block ≡ numbers = ap (λ (x : Read Locator). G.locator_from x block) r.read in
             let end : G.locator_end s at ≡ next = ap (G.locator_end_from at) r.read ∙ sym r.after in
             ap₂ (λ (b : List ℕ) (k : ℕ). b ++ locator_rows s (length ls) k b) after end ∙ ap (λ (l : List ℕ). numbers ++ l) (h.same numbers);
       }
@@ -164,7 +167,7 @@ module _ (s : List ℕ) where
         chain = Chain.step {rows = h.rows} (pair_twelve r.objective r.tag) (λ i list. ap (R.pair_stored_from i list) r.read) (λ _. tt)
             (ap (R.pair_next_from at) r.read ∙ sym r.after) h.chain;
         same = λ block.
-            let after : G.pair_after s at block ≡ numbers = ap (λ (x : PairRead). G.pair_from x block) r.read in
+            let after : G.pair_after s at block ≡ numbers = ap (λ (x : Read P.Pair). G.pair_from x block) r.read in
             let end : G.pair_end s at ≡ next = ap (G.pair_end_from at) r.read ∙ sym r.after in
             ap₂ (λ (b : List ℕ) (k : ℕ). set b 4 0 ++ pair_rows s (length ps) k b) after end ∙ ap (λ (l : List ℕ). set numbers 4 0 ++ l) (h.same numbers);
       }
@@ -219,16 +222,16 @@ module _ (s : List ℕ) where
 
 -- ---- what a call leaves
 -- where `grasp_read` answers 0 a message was read
-read_some : (s : List ℕ) → Bytes s → G.read_number s ≡ 0 → (m : Message) × (read_of s ≡ Reading.Read m)
+read_some : (s : List ℕ) → G.read_number s ≡ 0 → (m : Message) × (read_of s ≡ Ok m)
 unfolding G.read_number G.number_from
-read_some s b = by (read_of s) refl
+read_some s = by (read_of s) refl
   where
-    by : (r : Reading) → read_of s ≡ r → G.number_from r ≡ 0 → (m : Message) × (read_of s ≡ Reading.Read m)
-    by (Reading.Refused n) q e = absurd (omega (arith, row_some ((refused_exactly s n b).0 q)))
-    by (Reading.Read m) q e = (m, q)
+    by : (r : Reading) → read_of s ≡ r → G.number_from r ≡ 0 → (m : Message) × (read_of s ≡ Ok m)
+    by (Err refusal) q e = absurd (omega (arith, some_number refusal))
+    by (Ok m) q e = (m, q)
 
 -- and it leaves the message's block
-read_block_lem : (s fields : List ℕ) (m : Message) → read_of s ≡ Reading.Read m → G.read_block s fields ≡ B.block_of m
+read_block_lem : (s fields : List ℕ) (m : Message) → read_of s ≡ Ok m → G.read_block s fields ≡ B.block_of m
 unfolding G.read_block G.block_from
 read_block_lem s fields m q = ap (λ (r : Reading). G.block_from r fields) q
 
@@ -236,8 +239,8 @@ read_block_lem s fields m q = ap (λ (r : Reading). G.block_from r fields) q
 
 -- The block of a message that was read, with the reader's places cleared, is taken as that message's description, beside
 -- a list of its rows.
-pub read_taken : (s : List ℕ) (m : Message) → Bytes s → read_of s ≡ Reading.Read m
-    → described_by (cleared (B.block_of m)) (R.row_numbers (R.rows_in m)) ≡ As (description_of m)
+pub read_taken : (s : List ℕ) (m : Message) → Bytes s → read_of s ≡ Ok m
+    → described_by (cleared (B.block_of m)) (R.row_numbers (R.rows_in m)) ≡ Some (description_of m)
 read_taken s m b q =
     let a = (accepted_exactly s b).0 (m, q) in
     cleared_described m (message_fits (accepted_holds s m q a) a.message.is)
@@ -247,9 +250,9 @@ read_taken s m b q =
 -- at first, and those bytes as the source, into an output with room for them.
 pub read_then_written : (s fields locator pair out : List ℕ) (before : ℕ) → Bytes s → G.read_number s ≡ 0 → length s ≤ length out
     → WritesAgain s (rows_gathered s (G.read_block s fields) locator pair) (cleared (G.read_block s fields)) out before
-unfolding W.write_number W.number_by W.number_of W.write_length W.length_by W.length_after W.write_bytes W.bytes_by R.rows_end R.rows_filled
+unfolding W.write_number W.number_by W.write_length W.length_by W.write_bytes W.bytes_by R.rows_end R.rows_filled
 read_then_written s fields locator pair out before b zero few =
-    let (m, q) = read_some s b zero in
+    let (m, q) = read_some s zero in
     let a = (accepted_exactly s b).0 (m, q) in
     let list : List ℕ = replicate most_numbers 0 in
     let room : R.rows_end m list ≤ length list = rows_fit s list m q (omega (arith, length-replicate {A = ℕ} most_numbers 0)) in

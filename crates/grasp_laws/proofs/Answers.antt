@@ -10,11 +10,11 @@ use borrow.Author.Tests.{eq-eqb}
 use Rattle.base.specs.Pick.{pick}
 use Rattle.node_state.specs.declared.Record.{Record}
 use Rattle.node.specs.declared.Verdict.{Verdict}
-use Rattle.node.specs.declared.Reply.TheVariants.{Given}
-use Rattle.node.specs.Call.{Call, node_call}
+use Rattle.std.specs.Prelude.{Ok}
+use Rattle.node.specs.Call.{Call, verdict_given, node_call}
 use Rattle.host.specs.Records.{node_of}
 use Rattle.host.specs.Table.{table_bytes, loaded}
-use Rattle.host.specs.Call.{verdict_number, up_number, reply_numbers, answer_from, table_in, answer_numbers, call_left}
+use Rattle.host.specs.Call.{verdict_number, up_number, table_in, answer_numbers, left_after, call_left}
 use Rattle.grasp.specs.Call.{host_call}
 
 -- for readers
@@ -22,15 +22,15 @@ use Rattle.grasp.specs.Call.{host_call}
 -- Where the node replies with a verdict, `grasp_record_call` answers 0, and the answer's numbers are the verdict's, 1 or
 -- 0 for handed up or not, the mask and the length; the output is the node's.
 pub record_call_answers : (r : Record) (bytes : List ℕ) (c : Call) (answer : List ℕ) (v : Verdict) (up : Bool) (mask len : ℕ) → length bytes ≡ table_bytes
-    → (node_call r (loaded bytes) c).called.reply ≡ Given v up mask len
+    → (node_call r (loaded bytes) c).answer ≡ Ok (verdict_given v up mask len)
     → ((call_left r bytes c answer).refusal ≡ 0) × ((call_left r bytes c answer).answer ≡ verdict_number v ∷ up_number up ∷ mask ∷ len ∷ [])
     × ((call_left r bytes c answer).output ≡ (node_call r (loaded bytes) c).output)
-unfolding call_left table_in answer_from reply_numbers answer_numbers pick
+unfolding call_left left_after table_in answer_numbers pick
 record_call_answers r bytes c answer v up mask len sized e = rw (eq-eqb (length bytes) table_bytes sized, e) (refl, refl, refl)
 
 -- So does `grasp_node_call`, on the record that the numbers say.
 pub node_call_answers : (address f bytes : List ℕ) (c : Call) (answer : List ℕ) (v : Verdict) (up : Bool) (mask len : ℕ) → length bytes ≡ table_bytes
-    → (node_call (node_of address f) (loaded bytes) c).called.reply ≡ Given v up mask len
+    → (node_call (node_of address f) (loaded bytes) c).answer ≡ Ok (verdict_given v up mask len)
     → ((host_call address f bytes c answer).refusal ≡ 0) × ((host_call address f bytes c answer).answer ≡ verdict_number v ∷ up_number up ∷ mask ∷ len ∷ [])
     × ((host_call address f bytes c answer).output ≡ (node_call (node_of address f) (loaded bytes) c).output)
 unfolding host_call

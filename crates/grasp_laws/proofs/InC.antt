@@ -5,19 +5,22 @@ use mathlib.Core.Path.{◌≡◌, refl, sym, ap, subst}
 use mathlib.Core.List.{List}
 use mathlib.Core.Logic.{◌≢◌}
 use native.Mathlib.Omega.{arith}
-use lib.Dec.{eqb, lit<}
+use lib.Dec.{lit<}
 use lib.ListN.{length, replicate, length-replicate}
 use Rattle.base.specs.BigEndian.{Bytes}
 use Rattle.base.specs.Lists.{Every}
 use Rattle.base.specs.Pick.{pick}
 use Rattle.base.proofs.Picks.{pick-case, both}
 use Rattle.node_state.specs.declared.Record.{Record}
-use Rattle.node_state.specs.declared.RecordAnswer.{RecordAnswer}
-use Rattle.node_state.specs.Record.{links_bad, keeps, begun, blank, fresh}
+use Rattle.std.specs.Prelude.{Result}
+use Rattle.base.specs.declared.refusal.Refusal.{Refusal}
+use Rattle.std.specs.Result.{result_unwrap_or}
+use Rattle.base.specs.Refusal.{answer_number}
+use Rattle.node_state.specs.Record.{links_bad, begun, blank, fresh}
 use Rattle.node_laws.proofs.Whole.{whole}
 use Rattle.negotiation.specs.Turns.{BoundedIn}
 use Rattle.negotiation.proofs.Turns.{negotiation_bounded}
-use Rattle.host.specs.Records.{node_numbers, numbers_after, fresh_over}
+use Rattle.host.specs.Records.{node_numbers, numbers_after, put_over, fresh_over}
 use Rattle.host.specs.Table.{loaded}
 use Rattle.host.specs.Widths.{RecordFits}
 use Rattle.host.specs.States.{state_of}
@@ -37,11 +40,11 @@ zero_bytes (suc n) zero = lit< tt
 zero_bytes (suc n) (suc i) = zero_bytes n i
 
 module _ (address : List ℕ) (port ttl interfaces mask : ℕ) where
-  over_tally : (before : Record) → ((fresh address port ttl interfaces mask).refusal ≢ 0 → before ≡ blank)
+  over_tally : (before : Record) → (answer_number (fresh address port ttl interfaces mask) ≢ 0 → before ≡ blank)
       → (fresh_over before address port ttl interfaces mask).node.tally ≡ 0
-  unfolding fresh_over fresh pick
+  unfolding put_over fresh pick
   over_tally before =
-      both (λ (k : RecordAnswer). (k.refusal ≢ 0 → before ≡ blank) → (pick (eqb k.refusal 0) k (keeps k.refusal before)).node.tally ≡ 0)
+      both (λ (k : Result Record Refusal). (answer_number k ≢ 0 → before ≡ blank) → (put_over before k).node.tally ≡ 0)
       (links_bad interfaces mask) (λ zeros. ap (λ (r : Record). r.tally) (zeros (λ e. omega arith))) (λ _. refl)
 
   -- the numbers are those of a record that has tallied nothing
@@ -51,11 +54,12 @@ module _ (address : List ℕ) (port ttl interfaces mask : ℕ) where
     none : node.tally ≡ 0
     are : numbers ≡ node_numbers node
 
-  begins : (before : List ℕ) → ((fresh address port ttl interfaces mask).refusal ≢ 0 → before ≡ replicate 6 0) → port < 2 ^ 16 → ttl < 2 ^ 32
+  begins : (before : List ℕ) → (answer_number (fresh address port ttl interfaces mask) ≢ 0 → before ≡ replicate 6 0) → port < 2 ^ 16 → ttl < 2 ^ 32
       → Begins (numbers_after (fresh address port ttl interfaces mask) before)
   unfolding fresh numbers_after node_numbers pick
   begins before zeros p l =
-      pick-case (λ (k : RecordAnswer). (k.refusal ≢ 0 → before ≡ replicate 6 0) → RecordFits k.node → Begins (numbers_after k before))
+      pick-case
+      (λ (k : Result Record Refusal). (answer_number k ≢ 0 → before ≡ replicate 6 0) → RecordFits (result_unwrap_or k blank) → Begins (numbers_after k before))
       (links_bad interfaces mask)
       (λ _ zeros _. record {
         node = begun address 0 0 0 0;

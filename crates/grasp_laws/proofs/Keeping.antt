@@ -2,27 +2,30 @@
 -- so are the relays; a record as numbers is seen as one in place.
 -- Assumes nothing.
 use Prim.Native.Nat.{ℕ}
-use mathlib.Core.Path.{◌≡◌, refl, ap, ◌∙◌}
+use mathlib.Core.Path.{◌≡◌, refl, sym, ap, ◌∙◌}
 use mathlib.Core.List.{List, [], ◌∷◌}
 use native.Mathlib.Omega.{arith}
 use lib.Dec.{eqb}
-use borrow.Author.Tests.{ne_eqb}
+use borrow.Author.Tests.{ne_eqb, eqb-false}
 use Rattle.base.specs.Pick.{pick}
 use Rattle.base.specs.Lists.{Every}
+use Rattle.base.specs.Refusal.{number_of}
+use Rattle.base.proofs.Refusals.{some_number}
 use Rattle.base.proofs.Picks.{pick-case, both}
 use Rattle.node_state.specs.declared.Record.{Record}
-use Rattle.node_state.specs.declared.RecordAnswer.{RecordAnswer}
-use Rattle.node_state.specs.Record.{keeps, linked, set_links}
+use Rattle.std.specs.Prelude.{Result, Ok, Err}
+use Rattle.base.specs.declared.refusal.Refusal.{Refusal}
+use Rattle.std.specs.Result.{result_unwrap_or}
+use Rattle.node_state.specs.Record.{linked, set_links, links_set}
 use Rattle.node.specs.declared.Verdict.{Verdict}
 use Rattle.node.specs.declared.Verdict.TheVariants.{Own, Answer, Duplicate, Last, Nowhere, NoRow, Relay, Noop, Hand}
-use Rattle.node.specs.declared.Reply.{Reply}
-use Rattle.node.specs.declared.Reply.TheVariants.{Refused, Given}
-use Rattle.node.specs.Call.{Call, node_call}
+use Rattle.node.specs.declared.Given.{Given}
+use Rattle.node.specs.Call.{Call, After, node_call}
 use Rattle.node_laws.specs.Relays.{Seen, seen_of}
 use Rattle.node_laws.specs.History.{Event, call, links, steps, finally, is_relay, says_relay, mask_of, length_of, seen, relays_of}
 use Rattle.host.specs.Records.{node_of, node_numbers}
 use Rattle.host.specs.Table.{saved}
-use Rattle.host.specs.Call.{verdict_number, reply_numbers, answer_from, answer_numbers, Left, left_of, call_left}
+use Rattle.host.specs.Call.{verdict_number, answer_numbers, Left, left_of, left_after, call_left}
 use Rattle.host.specs.Widths.{RecordFits, TableFits}
 use Rattle.host.proofs.HandedBack.{record_back, linked_record_fits, call_table_fits, saved_in, put_back, left_back, left_still, left_fits, other_back}
 use Rattle.grasp.specs.Call.{host_call}
@@ -48,17 +51,15 @@ relay_number Hand = refl
 in_front : Call → Left Record → List Seen → List Seen
 in_front c k rest = pick (is_host_relay (step_left c k)) (host_seen (step_left c k) ∷ rest) rest
 
--- by its reply; r, bytes and answer are as before it
-module _ (r node : Record) (bytes table output answer : List ℕ) (c : Call) (rest : List Seen) where
-  by_reply : (x : Reply)
-      → in_front c
-      (pick (eqb (reply_numbers x node).refusal 0) (left_of 0 (reply_numbers x node).node table output (answer_numbers (reply_numbers x node)))
-      (left_of (reply_numbers x node).refusal r bytes c.output answer)) rest
-      ≡ pick (says_relay x) (seen_of c (mask_of x) (length_of x) output ∷ rest) rest
-  unfolding in_front reply_numbers answer_numbers says_relay mask_of length_of pick
-  by_reply (Refused number) =
-      pick-case (λ (k : Left Record). in_front c k rest ≡ rest) (eqb number 0) (λ _. refl) (λ e. rw e refl)
-  by_reply (Given v up mask len) = rw (relay_number v) refl
+-- by its answer; r, bytes and answer are as before it
+module _ (r : Record) (bytes answer : List ℕ) (c : Call) (n : After) (rest : List Seen) where
+  by_answer : (x : Result Given Refusal)
+      → in_front c (left_after r bytes c answer n x) rest ≡ pick (says_relay x) (seen_of c (mask_of x) (length_of x) n.output ∷ rest) rest
+  unfolding in_front left_after answer_numbers says_relay mask_of length_of pick
+  by_answer (Err refusal) =
+      let some : number_of refusal ≡ 0 → ⊥ = λ z. let k = some_number refusal in omega arith in
+      rw (ne_eqb (number_of refusal) 0 some) refl
+  by_answer (Ok given) = rw (relay_number given.verdict) refl
 
 -- ---- a list, the record in place
 
@@ -71,13 +72,10 @@ events_of (strays bytes c answer ∷ es) = events_of es
 
 module _ (r : Record) (t : List ℕ) (c : Call) (answer : List ℕ) (fits : TableFits t) (rest : List Seen) where
   relay_alike : in_front c (call_left r (saved t) c answer) rest
-      ≡ pick (says_relay (node_call r t c).called.reply)
+      ≡ pick (says_relay (node_call r t c).answer)
       (seen (record { node = r; table = t; call = c; after = node_call r t c }) ∷ rest) rest
-  unfolding call_left answer_from
-  relay_alike =
-      rw (saved_in t fits)
-      (by_reply r (node_call r t c).called.node (saved t) (saved (node_call r t c).table) (node_call r t c).output answer c rest
-      (node_call r t c).called.reply)
+  unfolding call_left
+  relay_alike = rw (saved_in t fits) (by_answer r (saved t) answer c (node_call r t c) rest (node_call r t c).answer)
 
 -- a call that is lent other bytes is no relay
 stray_alike : (r : Record) (bytes : List ℕ) (c : Call) (answer : List ℕ) (rest : List Seen) → EventFits (strays bytes c answer)
@@ -95,16 +93,16 @@ pub record Alike (r : Record) (t : List ℕ) (es : List HostEvent) : Type 0 wher
 pub alike : (es : List HostEvent) (r : Record) (t : List ℕ) → TableFits t → Every EventFits es → Alike r t es
 unfolding host_steps host_finally host_relays steps finally relays_of events_of in_front
 alike [] r t fits h = record { relays = refl; final = refl }
-alike (sets mask ∷ es) r t fits h = let rest = alike es (set_links r mask).node t fits h.1 in record { relays = rest.relays; final = rest.final }
+alike (sets mask ∷ es) r t fits h = let rest = alike es (links_set r mask) t fits h.1 in record { relays = rest.relays; final = rest.final }
 alike (calls c answer ∷ es) r t fits h =
     let k = call_left r (saved t) c answer in
     let n = node_call r t c in
     let (number, node, table) = left_back r t c answer fits in
-    let rest = alike es n.called.node n.table (call_table_fits r t c h.0.clock h.0.message fits) h.1 in
-    let later : host_relays (host_steps in_place_form k.node k.table es) ≡ relays_of (steps n.called.node n.table (events_of es)) =
+    let rest = alike es n.node n.table (call_table_fits r t c h.0.clock h.0.message fits) h.1 in
+    let later : host_relays (host_steps in_place_form k.node k.table es) ≡ relays_of (steps n.node n.table (events_of es)) =
     rw (node, table) rest.relays in
     record {
-      relays = ap (λ (l : List Seen). in_front c k l) later ∙ relay_alike r t c answer fits (relays_of (steps n.called.node n.table (events_of es)));
+      relays = ap (λ (l : List Seen). in_front c k l) later ∙ relay_alike r t c answer fits (relays_of (steps n.node n.table (events_of es)));
       final = rw (node, table) rest.final;
     }
 alike (strays bytes c answer ∷ es) r t fits h =
@@ -114,20 +112,13 @@ alike (strays bytes c answer ∷ es) r t fits h =
 
 -- ---- a record as numbers
 
--- a setting of links keeps the address, and a refused one the record
-links_address : (r : Record) (mask : ℕ) → (set_links r mask).node.address ≡ r.address
+-- a setting of links keeps the address
+links_address : (r : Record) (mask : ℕ) → (links_set r mask).address ≡ r.address
 unfolding set_links linked
 links_address r mask = both Same _ refl (both Same _ refl refl)
   where
-    Same : RecordAnswer → Type 0
-    Same k = k.node.address ≡ r.address
-
-links_still : (r : Record) (mask : ℕ) → ((set_links r mask).refusal ≡ 0 → ⊥) → (set_links r mask).node ≡ r
-unfolding set_links
-links_still r mask = both Still _ (λ _. refl) (both Still _ (λ _. refl) (λ ne. absurd (ne refl)))
-  where
-    Still : RecordAnswer → Type 0
-    Still k = (k.refusal ≡ 0 → ⊥) → k.node ≡ r
+    Same : Result Record Refusal → Type 0
+    Same k = (result_unwrap_or k r).address ≡ r.address
 
 module _ (address : List ℕ) where
   -- a record that its address and its numbers say
@@ -138,8 +129,8 @@ module _ (address : List ℕ) where
   kept_back : (r : Record) → Kept r → node_of address (node_numbers r) ≡ r
   kept_back r kept = rw (← kept.at) (record_back r kept.fits)
 
-  set_alike : (r : Record) (mask : ℕ) → Kept r → (as_numbers address).set (node_numbers r) mask ≡ node_numbers (set_links r mask).node
-  set_alike r mask kept = rw (kept_back r kept) (put_back r (set_links r mask) (links_still r mask))
+  set_alike : (r : Record) (mask : ℕ) → Kept r → (as_numbers address).set (node_numbers r) mask ≡ node_numbers (links_set r mask)
+  set_alike r mask kept = rw (kept_back r kept) (put_back r (set_links r mask))
 
   call_alike : (r : Record) (bytes : List ℕ) (c : Call) (answer : List ℕ) → Kept r
       → host_call address (node_numbers r) bytes c answer
@@ -147,9 +138,12 @@ module _ (address : List ℕ) where
   unfolding host_call
   call_alike r bytes c answer kept =
       let k = call_left r bytes c answer in
-      rw (kept_back r kept, put_back r (keeps k.refusal k.node) (left_still r bytes c answer)) refl
+      let same : pick (eqb k.refusal 0) (node_numbers k.node) (node_numbers r) ≡ node_numbers k.node =
+      pick-case (λ (l : List ℕ). l ≡ node_numbers k.node) (eqb k.refusal 0) (λ _. refl)
+      (λ e. ap node_numbers (sym (left_still r bytes c answer (eqb-false k.refusal 0 e)))) in
+      rw (kept_back r kept, same) refl
 
-  kept_links : (r : Record) (mask : ℕ) → Kept r → Kept (set_links r mask).node
+  kept_links : (r : Record) (mask : ℕ) → Kept r → Kept (links_set r mask)
   kept_links r mask kept = record { fits = linked_record_fits r mask kept.fits; at = links_address r mask ∙ kept.at }
 
   kept_call : (r : Record) (bytes : List ℕ) (c : Call) (answer : List ℕ) → Kept r → Kept (call_left r bytes c answer).node
@@ -164,7 +158,7 @@ module _ (address : List ℕ) where
   unfolding host_steps host_finally
   numbers_alike [] r table kept = record { steps = refl; final = refl }
   numbers_alike (sets mask ∷ es) r table kept =
-      let rest = numbers_alike es (set_links r mask).node table (kept_links r mask kept) in
+      let rest = numbers_alike es (links_set r mask) table (kept_links r mask kept) in
       record { steps = rw (set_alike r mask kept) rest.steps; final = rw (set_alike r mask kept) rest.final }
   numbers_alike (calls c answer ∷ es) r table kept =
       let k = call_left r table c answer in

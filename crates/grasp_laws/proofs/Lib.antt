@@ -6,8 +6,6 @@ pub mod NotOurs
 pub mod Again
 pub mod Leaves
 pub mod Answers
--- For their proofs: what C keeps and sees of a list of calls, and of a list of steps, held against the node's lists; no
--- refusal of a message has the number 0.
+-- For their proofs: what C keeps and sees of a list of calls, and of a list of steps, held against the node's lists.
 mod Keeping
 mod Stepping
-mod Numbers

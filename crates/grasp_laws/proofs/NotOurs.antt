@@ -14,10 +14,11 @@ use Rattle.reader.specs.Read.{read_of}
 use Rattle.negotiation.specs.declared.Side.TheVariants.{Us}
 use Rattle.negotiation.specs.declared.State.{State}
 use Rattle.negotiation.specs.declared.State.TheVariants.{Closed}
-use Rattle.negotiation.specs.declared.Stepped.{Stepped}
-use Rattle.negotiation.specs.declared.Stepped.TheVariants.{Refused}
+use Rattle.std.specs.Prelude.{Err}
+use Rattle.base.specs.Refusal.{number_of}
+use Rattle.negotiation.specs.Step.{Stepped}
 use Rattle.host.specs.States.{side_of, state_of}
-use Rattle.grasp.specs.Negotiating.{stepped_number, numbers_from, step_by, step_number, state_after}
+use Rattle.grasp.specs.Negotiating.{numbers_from, step_by, step_number, state_after}
 use Rattle.grasp_laws.specs.HostSteps.{NotOurs, no_step}
 use Rattle.grasp_laws.proofs.Stepping.{closed_step}
 
@@ -46,16 +47,16 @@ closed f side h l =
     Shut s = s ≡ Closed
 
 -- the step is a closed state's
-closed_by : (f message : List ℕ) (side : ℕ) → NotOurs f side → step_by (state_of f) message side ≡ Refused (no_step (read_of message))
+closed_by : (f message : List ℕ) (side : ℕ) → NotOurs f side → step_by (state_of f) message side ≡ Err (no_step (read_of message))
 unfolding step_by
 closed_by f message side h =
-    pick-case (λ (x : Stepped). x ≡ Refused (no_step (read_of message))) (ltb 1 side) (λ _. closed_step message Us)
+    pick-case (λ (x : Stepped). x ≡ Err (no_step (read_of message))) (ltb 1 side) (λ _. closed_step message Us)
     (λ e. rw (closed f side h (ltb-false 1 side e)) (closed_step message (side_of side)))
 
 -- for readers
 
 -- It is refused, by the message's own number or else by 20, and the numbers stay.
 pub not_ours : (f message : List ℕ) (side : ℕ) → NotOurs f side
-    → (step_number f message side ≡ no_step (read_of message)) × (state_after f message side ≡ f)
-unfolding step_number state_after stepped_number numbers_from
+    → (step_number f message side ≡ number_of (no_step (read_of message))) × (state_after f message side ≡ f)
+unfolding step_number state_after numbers_from
 not_ours f message side h = rw (closed_by f message side h) (refl, refl)

@@ -1,6 +1,7 @@
 -- What C keeps and sees of a list of steps: the four numbers say the state that the node's list leaves, and the same
 -- messages are accepted. A step by no side is refused, and leaves the numbers.
 -- Assumes nothing.
+use Rattle.reader.specs.Read.{Reading}
 use Prim.Native.Nat.{ℕ}
 use mathlib.Core.Path.{◌≡◌, refl, ap, ◌∙◌}
 use mathlib.Core.Bool.{Bool, true, false}
@@ -11,44 +12,41 @@ use borrow.Author.Tests.{ne_eqb}
 use Rattle.base.specs.Pick.{pick}
 use Rattle.base.specs.BigEndian.{Bytes}
 use Rattle.base.specs.Lists.{Every}
-use Rattle.reader.specs.declared.Reading.{Reading}
+use Rattle.std.specs.Prelude.{Ok, Err}
+use Rattle.base.specs.declared.refusal.Refusal.{Refusal}
+use Rattle.base.specs.Refusal.{number_of, answer_number}
+use Rattle.base.proofs.Refusals.{some_number}
 use Rattle.reader.specs.Read.{read_of}
-use Rattle.reader.proofs.Refused as R
 use Rattle.negotiation.specs.declared.Side.{Side}
 use Rattle.negotiation.specs.declared.Side.TheVariants.{Us}
 use Rattle.negotiation.specs.declared.State.{State}
 use Rattle.negotiation.specs.declared.State.TheVariants.{Closed}
-use Rattle.negotiation.specs.declared.Stepped.{Stepped}
-use Rattle.negotiation.specs.declared.Stepped.TheVariants.{Refused, Moved}
-use Rattle.negotiation.specs.Step.{state_step, reading_step, step}
+use Rattle.negotiation.specs.Step.{Stepped, state_step, reading_step, step}
 use Rattle.negotiation.specs.Turns.{Sent, after, steps_of, is_moved, accepted_of}
-use Rattle.negotiation.proofs.Accepted.{refused_exactly}
 use Rattle.host.specs.States.{side_of, state_of, state_numbers}
 use Rattle.host.proofs.Fits.{state_fits}
 use Rattle.host.proofs.HandedBack.{state_back, step_fits}
-use Rattle.grasp.specs.Negotiating.{stepped_number, numbers_from, step_by, step_number, state_after}
+use Rattle.grasp.specs.Negotiating.{numbers_from, step_by, step_number, state_after}
 use Rattle.grasp_laws.specs.HostSteps.{HostSent, host_accepted, no_step}
-use Rattle.grasp_laws.proofs.Numbers.{row_some}
 
--- a refused step has another number than 0
-refused_some : (state : State) (message : List ℕ) (sender : Side) {n : ℕ} → Bytes message → step state message sender ≡ Refused n → n ≡ 0 → ⊥
-refused_some state message sender bytes e z =
-    omega (arith, row_some ((R.refused_exactly message 0 bytes).0 ((refused_exactly state message sender 0 (λ w. omega arith)).0 (e ∙ ap Refused z))))
+-- a refusal has another number than 0
+refused_some : (refusal : Refusal) → number_of refusal ≡ 0 → ⊥
+refused_some refusal z = let some = some_number refusal in omega arith
 
 -- ---- one step
 
 -- a closed state refuses every message
-pub closed_step : (message : List ℕ) (sender : Side) → step Closed message sender ≡ Refused (no_step (read_of message))
+pub closed_step : (message : List ℕ) (sender : Side) → step Closed message sender ≡ Err (no_step (read_of message))
 unfolding step reading_step state_step no_step
 closed_step message sender = by (read_of message)
   where
-    by : (r : Reading) → reading_step Closed r sender ≡ Refused (no_step r)
-    by (Reading.Refused number) = refl
-    by (Reading.Read m) = refl
+    by : (r : Reading) → reading_step Closed r sender ≡ Err (no_step r)
+    by (Err refusal) = refl
+    by (Ok m) = refl
 
 -- what C's step adds to the accepted messages
 adds : List ℕ → List ℕ → List HostSent → Stepped → List (List ℕ)
-adds f bytes ms x = pick (eqb (stepped_number x) 0) (bytes ∷ host_accepted (numbers_from x f) ms) (host_accepted (numbers_from x f) ms)
+adds f bytes ms x = pick (eqb (answer_number x) 0) (bytes ∷ host_accepted (numbers_from x f) ms) (host_accepted (numbers_from x f) ms)
 
 -- the node's list: steps by a side
 abbrev sent_of : HostSent → Sent
@@ -64,16 +62,16 @@ Same f ms = host_accepted f ms ≡ accepted_of (steps_of (state_of f) (by_sides 
 
 module _ (f : List ℕ) (m : HostSent) (ms : List HostSent) (bytes : Bytes m.bytes) (rest : (g : List ℕ) → Same g ms) where
   by_none : adds f m.bytes ms (step Closed m.bytes Us) ≡ accepted_of (steps_of (state_of f) (by_sides ms))
-  unfolding adds stepped_number numbers_from pick
+  unfolding adds numbers_from pick
   by_none =
       let e = closed_step m.bytes Us in
-      rw (e, ne_eqb (no_step (read_of m.bytes)) 0 (refused_some Closed m.bytes Us bytes e)) (rest f)
+      rw (e, ne_eqb (number_of (no_step (read_of m.bytes))) 0 (refused_some (no_step (read_of m.bytes)))) (rest f)
 
   by_side : (x : Stepped) → step (state_of f) m.bytes (side_of m.side) ≡ x
       → adds f m.bytes ms x ≡ accepted_of (record { bytes = m.bytes; answer = x } ∷ steps_of (after (state_of f) x) (by_sides ms))
-  unfolding adds stepped_number numbers_from accepted_of is_moved after pick
-  by_side (Refused number) e = rw (ne_eqb number 0 (refused_some (state_of f) m.bytes (side_of m.side) bytes e)) (rest f)
-  by_side (Moved next) e =
+  unfolding adds numbers_from accepted_of is_moved after pick
+  by_side (Err refusal) e = rw (ne_eqb (number_of refusal) 0 (refused_some refusal)) (rest f)
+  by_side (Ok next) e =
       let back = state_back next (step_fits (state_of f) m.bytes (side_of m.side) next (state_fits f) e) in
       ap (λ (l : List (List ℕ)). m.bytes ∷ l)
       (rest (state_numbers next) ∙ ap (λ (s : State). accepted_of (steps_of s (by_sides ms))) back)

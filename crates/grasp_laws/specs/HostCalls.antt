@@ -4,7 +4,7 @@ use Rattle.std.specs.Prelude.{ℕ, ◌^◌, ◌<◌, Bool, ◌&&◌, List, [], �
 use Rattle.base.specs.Pick.{pick}
 use Rattle.base.specs.BigEndian.{Bytes}
 use Rattle.node_state.specs.declared.Record.{Record}
-use Rattle.node_state.specs.Record.{set_links}
+use Rattle.node_state.specs.Record.{set_links, links_set}
 use Rattle.node.specs.Call.{Call}
 use Rattle.node_laws.specs.Relays.{Seen, seen_of, Demanded}
 use Rattle.host.specs.Records.{node_of, numbers_after}
@@ -26,7 +26,7 @@ pub record Form (R : Type 0) : Type 0 where
 abbrev pub in_place_form : Form Record
 in_place_form =
     record {
-      set = λ r mask. (set_links r mask).node;
+      set = links_set;
       called = call_left;
       interfaces = λ r. r.interfaces;
       tally = λ r. r.tally;

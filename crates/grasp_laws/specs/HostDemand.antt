@@ -3,6 +3,7 @@
 use Rattle.std.specs.Prelude.{ℕ, ◌^◌, ◌<◌, List, ◌≢◌, ◌≡◌, replicate}
 use Rattle.base.specs.BigEndian.{Bytes}
 use Rattle.base.specs.Lists.{Every}
+use Rattle.base.specs.Refusal.{answer_number}
 use Rattle.node_state.specs.declared.Record.{Record}
 use Rattle.node_state.specs.Record.{blank, fresh}
 use Rattle.negotiation.specs.Turns.{BoundedIn}
@@ -15,11 +16,11 @@ use Rattle.grasp_laws.specs.HostSteps.{HostSent, host_accepted}
 pub record Demand3InC : Type 0 where
   -- the record in place, which `grasp_record_fresh` filled
   pub in_place : (before : Record) (address : List ℕ) (port ttl interfaces mask : ℕ) (events : List HostEvent)
-      → ((fresh address port ttl interfaces mask).refusal ≢ 0 → before ≡ blank) → Every EventFits events
+      → (answer_number (fresh address port ttl interfaces mask) ≢ 0 → before ≡ blank) → Every EventFits events
       → HostList in_place_form (fresh_over before address port ttl interfaces mask).node (replicate 2048 0) events
   -- the record as six numbers, which `grasp_fresh` filled; port and ttl have the widths of C's types
   pub numbers : (before address : List ℕ) (port ttl interfaces mask : ℕ) (events : List HostEvent)
-      → ((fresh address port ttl interfaces mask).refusal ≢ 0 → before ≡ replicate 6 0) → Every EventFits events
+      → (answer_number (fresh address port ttl interfaces mask) ≢ 0 → before ≡ replicate 6 0) → Every EventFits events
       → port < 2 ^ 16 → ttl < 2 ^ 32
       → HostList (as_numbers address) (numbers_after (fresh address port ttl interfaces mask) before) (replicate 2048 0)
       events

@@ -1,8 +1,11 @@
 -- A list of calls of `grasp_step` on one negotiation state, each given the four numbers as the one before it left them
 -- (rules 13.9); and numbers that are no state and no side (rules 11.9).
+use Rattle.std.specs.Prelude.{Ok, Err}
+use Rattle.reader.specs.Read.{Reading}
 use Rattle.std.specs.Prelude.{ℕ, ◌^◌, ◌≤◌, ◌<◌, List, [], ◌∷◌, eqb, get_or}
 use Rattle.base.specs.Pick.{pick}
-use Rattle.reader.specs.declared.Reading.{Reading}
+use Rattle.base.specs.declared.refusal.Refusal.{Refusal}
+use Rattle.base.specs.declared.refusal.Refusal.TheVariants.{NotAllowed}
 use Rattle.grasp.specs.Negotiating.{step_number, state_after}
 
 -- a message's bytes, and any number for the side that sent it
@@ -26,6 +29,6 @@ pub data NotOurs (f : List ℕ) (side : ℕ) : Type 0 where
   side : 1 < side → NotOurs f side
 
 -- 20 after 1 to 11: the message's own refusal, else 20
-unfoldable pub no_step : Reading → ℕ
-no_step (Reading.Refused number) = number
-no_step (Reading.Read m) = 20
+unfoldable pub no_step : Reading → Refusal
+no_step (Err refusal) = refusal
+no_step (Ok m) = NotAllowed

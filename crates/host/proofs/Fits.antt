@@ -1,5 +1,7 @@
 -- Records, tables and states whose numbers have their widths: which they are, and what a node call leaves of them.
 -- Assumes nothing.
+use Rattle.std.specs.Prelude.{Ok, Err}
+use Rattle.reader.specs.Read.{Reading}
 use Prim.Native.Nat.{ℕ, zero, suc, ◌+◌, ◌*◌, ◌^◌, ◌<◌}
 use mathlib.Core.Path.{◌≡◌, refl, ◌∙◌}
 use mathlib.Core.Bool.{Bool, true, false}
@@ -14,10 +16,11 @@ use Rattle.base.proofs.Picks.{pick-case, both}
 use Rattle.base.proofs.Digits.{big_endian_lt}
 use Rattle.base.proofs.Parts.{bytes_drop}
 use Rattle.message.specs.Opening.{most_number}
-use Rattle.reader.specs.declared.Reading.{Reading}
 use Rattle.reader.specs.Read.{read_of}
 use Rattle.node_state.specs.declared.Record.{Record}
-use Rattle.node_state.specs.declared.RecordAnswer.{RecordAnswer}
+use Rattle.base.specs.declared.refusal.Refusal.{Refusal}
+use Rattle.std.specs.Result.{result_unwrap_or}
+use Rattle.std.specs.Prelude.{Result}
 use Rattle.node_state.specs.declared.key.Key.{Key}
 use Rattle.node_state.specs.Record.{blank, clocked, tallied, others}
 use Rattle.node_state.specs.Table.{table_numbers, put_row, free_rows, freed, lowest_free}
@@ -28,6 +31,7 @@ use Rattle.node.specs.declared.Verdict.TheVariants.{Own, Answer, Duplicate, Last
 use Rattle.node.specs.declared.role.Spread.{Spread}
 use Rattle.node.specs.declared.role.Role.{Role}
 use Rattle.node.specs.Role.{role_of, RoleIn, key_in}
+use Rattle.node.proofs.Outcomes.{call_case}
 use Rattle.node.specs.Call.{Call, After, refuse, quiet, verdict_on, answered, relayed, carried_out, taken, received, node_call}
 use Rattle.host.specs.Table.{numbers_in, loaded}
 use Rattle.host.specs.States.{state_of}
@@ -92,7 +96,7 @@ module _ (r : Record) (t : List ℕ) (c : Call) where
   table = freed c.clock t
 
   -- what holds of each way that a call can go
-  module _ (P : After → Type 0) (refuses : (n : ℕ) → P (refuse n r t c)) (silent : (v : Verdict) (up : Bool) → P (quiet v up node table c))
+  module _ (P : After → Type 0) (refuses : (refusal : Refusal) → P (refuse refusal r t c)) (silent : (v : Verdict) (up : Bool) → P (quiet v up node table c))
       (answers : (s : Spread) → P (answered node table c s)) (relays : (s : Spread) → RoleIn c.message (Role.Spreads s) → P (relayed node table c s)) where
     carried_goes : (s : Spread) (v : Verdict) → RoleIn c.message (Role.Spreads s) → P (carried_out node table c s v)
     unfolding carried_out
@@ -114,29 +118,29 @@ module _ (r : Record) (t : List ℕ) (c : Call) where
 
     received_goes : (reading : Reading) → read_of c.message ≡ reading → P (received r t c reading)
     unfolding received
-    received_goes (Reading.Refused number) e = refuses number
-    received_goes (Reading.Read m) e = taken_goes (role_of m) (record { is = m; read = e; plays = refl })
+    received_goes (Err refusal) e = refuses (refusal)
+    received_goes (Ok m) e = taken_goes (role_of m) (record { is = m; read = e; plays = refl })
 
     pub call_goes : P (node_call r t c)
-    unfolding node_call
-    call_goes = both P _ (received_goes (read_of c.message) refl) (refuses _)
+    call_goes = call_case P r t c (λ _. received_goes (read_of c.message) refl) (λ refusal _. refuses refusal)
 
   -- of the record and the table that it leaves, as of those that it was given, of those at its clock, and of those that
   -- a relay leaves
   pub call_leaves : (P : Record → List ℕ → Type 0) → P node table
       → ((s : Spread) → RoleIn c.message (Role.Spreads s)
       → P (tallied node (ones (others node c.interface))) (put_row table (lowest_free table) (key_in c.message s) c.clock))
-      → P r t → P (node_call r t c).called.node (node_call r t c).table
+      → P r t → P (node_call r t c).node (node_call r t c).table
   unfolding refuse quiet answered relayed clocked
-  call_leaves P took relays given = call_goes (λ a. P a.called.node a.table) (λ _. given) (λ _ _. took) (λ _. took) relays
+  call_leaves P took relays given = call_goes (λ a. P a.node a.table) (λ _. given) (λ _ _. took) (λ _. took) relays
 
 -- ---- what numbers say
 
 pub blank_fits : RecordFits blank
 blank_fits = record { port = omega arith; ttl = omega arith; interfaces = omega arith; links = omega arith }
 
-abbrev pub KeptFits : RecordAnswer → Type 0
-KeptFits k = RecordFits k.node
+-- the record that is left
+abbrev pub KeptFits : Record → Result Record Refusal → Type 0
+KeptFits r k = RecordFits (result_unwrap_or k r)
 
 -- clock and tally have any width here
 pub counted_fits : {r : Record} (clock tally : ℕ) → RecordFits r

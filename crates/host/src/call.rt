@@ -1,28 +1,16 @@
 // The node call on a table of 2,048 bytes, with its answer as numbers.
 ghost use Rattle.std.specs.Prelude.{◌≡◌};
 ghost use Rattle.node.specs.Call.{call_of};
-ghost use Rattle.host.specs.Call.{verdict_number, up_number, answer_from, left_of, call_left};
+ghost use Rattle.host.specs.Call.{verdict_number, answer_numbers, left_by, call_left};
 
 use crate::table;
-use node::{CallAnswer, Reply, Verdict, call};
+use base::refusal::Refusal;
+use node::{Given, Verdict, call};
+use node_state::Record;
 use node_state::table::NUMBERS;
-use node_state::{Record, RecordAnswer};
 
-// A node call's answer: the number of the refusal, 0 for none; the verdict's number (the header names them), whether
-// the message is handed up, the mask of the interfaces to send on, how many bytes to send, all 0 for a refusal; and the
-// record.
-#[derive(Clone, Copy)]
-pub struct CallNumbers {
-    pub refusal: u8,
-    pub verdict: u8,
-    pub handed_up: u8,
-    pub mask: u8,
-    pub length: u64,
-    pub node: Record,
-}
-
-// The number of the refusal and the record; the answer goes into four numbers: verdict, handed up, mask, length. A
-// refusal leaves all as it was.
+// A node call on a table of bytes, and the record after it; the answer goes into four numbers: verdict, handed up,
+// mask, length. A refusal leaves all as it was.
 pub fn call_into(
     node: Record,
     bytes: &mut [u8],
@@ -32,81 +20,41 @@ pub fn call_into(
     message: &[u8],
     out: &mut [u8],
     answer: &mut [u64; 4],
-) -> RecordAnswer
-    ensures { left_of result.refusal result.node bytes.new out.new answer.new
+) -> Result<Record, Refusal>
+    ensures { left_by node result bytes.new out.new answer.new
         ≡ call_left node bytes.old
         (call_of clock interface names.now message.now out.old)
         answer.old }
 {
     if bytes.len() != table::BYTES {
+        // A table of one number is always refused.
         let mut none = [0u64; 1];
-        let called = call::node_call(node, &mut none, clock, interface, names, message, out);
-        let a = answer_from(called);
-        let refusal = a.refusal;
-        return RecordAnswer { refusal, node };
+        let called = call::node_call(node, &mut none, clock, interface, names, message, out)?;
+        return Ok(called.node);
     }
     let mut numbers = [0u64; NUMBERS];
     table::load(bytes, &mut numbers);
-    let called = call::node_call(node, &mut numbers, clock, interface, names, message, out);
-    let a = answer_from(called);
-    let refusal = a.refusal;
-    if refusal != 0 {
-        return RecordAnswer { refusal, node };
-    }
+    let called = call::node_call(node, &mut numbers, clock, interface, names, message, out)?;
     table::save(&numbers, bytes);
-    *answer = [
-        a.verdict as u64,
-        a.handed_up as u64,
-        a.mask as u64,
-        a.length,
-    ];
-    let next = a.node;
-    RecordAnswer {
-        refusal: 0,
-        node: next,
-    }
+    *answer = numbers_of(called.given);
+    Ok(called.node)
 }
 
-// An answer as numbers.
-fn answer_from(called: CallAnswer) -> CallNumbers
-    ensures { result ≡ answer_from called }
+// An answer's four numbers.
+#[tactic(auto, unfolding(crate::specs::Call::answer_numbers, crate::specs::Call::up_number))]
+fn numbers_of(given: Given) -> [u64; 4]
+    ensures { result ≡ answer_numbers given }
 {
-    let reply = called.reply;
-    let node = called.node;
-    match reply {
-        Reply::Refused(number) => CallNumbers {
-            refusal: number,
-            verdict: 0,
-            handed_up: 0,
-            mask: 0,
-            length: 0,
-            node,
-        },
-        Reply::Given {
-            verdict,
-            handed_up,
-            mask,
-            length,
-        } => CallNumbers {
-            refusal: 0,
-            verdict: verdict_number(verdict),
-            handed_up: up_number(handed_up),
-            mask,
-            length: length as u64,
-            node,
-        },
-    }
+    let handed_up = if given.handed_up { 1 } else { 0 };
+    [
+        verdict_number(given.verdict) as u64,
+        handed_up,
+        given.mask as u64,
+        given.length as u64,
+    ]
 }
 
-fn up_number(handed_up: bool) -> u8
-    ensures { result ≡ up_number handed_up }
-{
-    if handed_up {
-        return 1;
-    }
-    0
-}
-
+// A number, since C is answered with it.
 fn verdict_number(verdict: Verdict) -> u8
     ensures { result ≡ verdict_number verdict }
 {

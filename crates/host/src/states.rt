@@ -58,6 +58,7 @@ pub fn side_of(number: u64) -> Side
     Side::Them
 }
 
+// A number, since C keeps a side so.
 fn number_of(side: Side) -> u64
     ensures { result ≡ side_number side }
 {

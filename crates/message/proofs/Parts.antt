@@ -11,6 +11,8 @@ use native.Mathlib.Omega.{arith}
 use lib.ListN.{length, drop, length-drop}
 use lib.Dec.{eqb, lit≤}
 use borrow.Author.Tests.{ltb-false, eqb-true}
+use Rattle.options.specs.Text.{Noted}
+use Rattle.std.specs.Prelude.{Result, Ok, Err, Some, None}
 use Rattle.base.proofs.Bools.{and_left, and_right, or_true}
 use Rattle.base.proofs.Picks.{pick-case, both}
 use Rattle.cbor.specs.declared.token.Token.{Token}
@@ -18,32 +20,31 @@ use Rattle.cbor.specs.Token.{token_at}
 use Rattle.cbor.proofs.Tokens.{token_end, token_has}
 use Rattle.options.specs.declared.Span.{Span}
 use Rattle.options.specs.declared.objective.Objective.{Objective}
-use Rattle.options.specs.declared.objective.ObjectiveRead.{ObjectiveRead}
-use Rattle.options.specs.declared.locators.LocatorsRead.{LocatorsRead}
-use Rattle.options.specs.declared.divert.DivertRead.{DivertRead}
-use Rattle.options.specs.declared.outcome.OutcomeRead.{OutcomeRead}
+use Rattle.options.specs.declared.outcome.Outcome.{Outcome}
 use Rattle.options.specs.declared.pair.Pair.{Pair}
-use Rattle.options.specs.declared.pair.PairRead.{PairRead}
 use Rattle.options.specs.Text.{content_of}
-use Rattle.options.specs.Divert.{divert_at}
+use Rattle.options.specs.Part.{Read}
+use Rattle.options.specs.Locators.{LocatorsRead}
+use Rattle.options.specs.Divert.{DivertRead, divert_at}
 use Rattle.options.specs.Objective.{objective_at}
 use Rattle.options.specs.Pair.{pair_at}
 use Rattle.options.proofs.Fits.{ObjectiveParts, ObjectiveOk, objective_within, PairOk, pair_within}
 use Rattle.options.proofs.Series.{LocatorsOk, locators_ok, DivertOk, divert_ok}
 use Rattle.message.specs.declared.Series.{Series}
 use Rattle.message.specs.declared.Targets.{Targets}
-use Rattle.message.specs.declared.Extra.{Extra}
+use Rattle.message.specs.Fields.{Extra}
 use Rattle.message.specs.declared.Message.{Message}
 use Rattle.message.specs.declared.Message.TheVariants as M
 use Rattle.message.specs.declared.opening.Opening.{Opening}
-use Rattle.message.specs.declared.opening.OpeningRead.{OpeningRead}
-use Rattle.message.specs.declared.sequence.PairsRead.{PairsRead}
-use Rattle.message.specs.declared.shape.Shape.{Shape}
+use Rattle.base.specs.declared.refusal.Refused.{Refused}
+use Rattle.base.specs.Refusal.{number_of}
 use Rattle.message.specs.declared.Examined.{Examined}
-use Rattle.message.specs.Opening.{most_number, objective_levels, is_initiator, opening_at}
+use Rattle.message.specs.Sequence.{PairsRead}
+use Rattle.message.specs.Opening.{Before, most_number, objective_levels, is_initiator, opening_at}
 use Rattle.message.specs.Shape.{noop_at, discovered, discovery_at, exchange_of, exchanged, exchange_at, wait_at, invalid_at, ended, end_at}
 use Rattle.message.specs.Response.{rest_of, rest_at, located_of, located_at, targets_of, targets_at, response_by, response_at}
 use Rattle.message.specs.Flood.{flooded_by, flooded_of, flooded_at, flood_by, flood_at}
+use Rattle.message.proofs.Clear.{clear_case}
 use Rattle.message.proofs.Fits.{PairsRan, pairs_ran}
 use Rattle.message.specs.Examined.{by_kind, judged_shape, examined}
 
@@ -63,8 +64,8 @@ TargetsSix s (Targets.Divert first series) = Six s series
 
 -- a count of at most 255
 abbrev pub SmallCount : Extra → Type 0
-SmallCount Extra.Without = Unit {0}
-SmallCount (Extra.With o) = o.count ≤ 255
+SmallCount None = Unit {0}
+SmallCount (Some o) = o.count ≤ 255
 
 abbrev pub MessageParts : List ℕ → Message → Type 0
 MessageParts s M.Noop = Unit {0}
@@ -122,9 +123,9 @@ module _ (s : List ℕ) where
   objective_read_lem at = objective_within objective_levels s at at _ _ refl refl
 
   -- an opening
-  abbrev OpeningParts : OpeningRead → Type 0
-  OpeningParts (OpeningRead.Bad place) = Unit {0}
-  OpeningParts (OpeningRead.Got opening next) = (next ≤ length s) × Opened s opening.session opening.initiator
+  abbrev OpeningParts : Before Opening → Type 0
+  OpeningParts (Err e) = Unit {0}
+  OpeningParts (Ok (opening, next)) = (next ≤ length s) × Opened s opening.session opening.initiator
 
   opening_parts : (at : ℕ) → OpeningParts (opening_at s at)
   unfolding opening_at
@@ -135,16 +136,16 @@ module _ (s : List ℕ) where
 
   -- ---- the shapes
   module _ (kind : ℕ) where
-    abbrev pub ShapeParts : Shape → Type 0
-    ShapeParts (Shape.Bad place) = Unit {0}
-    ShapeParts (Shape.Good m end bad long) = OfKind kind m × MessageParts s m
+    abbrev pub ShapeParts : Read Message → Type 0
+    ShapeParts (Err e) = Unit {0}
+    ShapeParts (Ok m) = OfKind kind m.value × MessageParts s m.value
 
     -- Discovery
-    discovered_parts : (session at : ℕ) (i : Span) (x : ObjectiveRead) → kind ≡ 1 → at ≤ length s → Opened s session i → ObjectiveOk at (length s - at) x
+    discovered_parts : (session at : ℕ) (i : Span) (x : Read Objective) → kind ≡ 1 → at ≤ length s → Opened s session i → ObjectiveOk at (length s - at) x
         → ShapeParts (discovered session i at x)
     unfolding discovered
-    discovered_parts session at i (ObjectiveRead.Bad place) one low h ok = tt
-    discovered_parts session at i (ObjectiveRead.Got o size bad long) one low h ok = (one, (h, objective_in_lem low ok.0))
+    discovered_parts session at i (Err e) one low h ok = tt
+    discovered_parts session at i (Ok o) one low h ok = (one, (h, objective_in_lem low ok.0))
 
     discovery_parts : (n at : ℕ) → kind ≡ 1 → ShapeParts (discovery_at s n at)
     unfolding discovery_at
@@ -161,65 +162,65 @@ module _ (s : List ℕ) where
         → ObjectiveParts (length s) first.objective
         → PairsRan s (n - 1) at x → 6 ≤ at → ShapeParts (flooded_by opening first (record { at = from; many = n }) x)
     unfolding flooded_by
-    flooded_by_lem from n at opening first (PairsRead.Bad place) nine h parts ran six = tt
-    flooded_by_lem from n at opening first (PairsRead.Ran end bad long) nine h parts ran six = (nine, (h, parts, omega arith))
+    flooded_by_lem from n at opening first (Err e) nine h parts ran six = tt
+    flooded_by_lem from n at opening first (Ok r) nine h parts ran six = (nine, (h, parts, omega arith))
 
-    flooded_of_lem : (n at : ℕ) (opening : Opening) (x : PairRead) → kind ≡ 9 → Opened s opening.session opening.initiator → PairOk at (length s - at) x
+    flooded_of_lem : (n at : ℕ) (opening : Opening) (x : Read Pair) → kind ≡ 9 → Opened s opening.session opening.initiator → PairOk at (length s - at) x
         → ShapeParts (flooded_of s opening n at x)
     unfolding flooded_of
-    flooded_of_lem n at opening (PairRead.Bad place) nine h ok = tt
-    flooded_of_lem n at opening (PairRead.Got o tag size bad long) nine h ok =
-        flooded_by_lem at n (at + size) opening _ _ nine h (objective_in_lem (omega arith) ok.0)
-        (pairs_ran s (n - 1) (at + size) bad long (omega arith)) (omega arith)
+    flooded_of_lem n at opening (Err e) nine h ok = tt
+    flooded_of_lem n at opening (Ok p) nine h ok =
+        flooded_by_lem at n (at + p.size) opening _ _ nine h (objective_in_lem (omega arith) ok.0)
+        (pairs_ran s (n - 1) (at + p.size) p.bad p.long (omega arith)) (omega arith)
 
     flood_parts : (n at : ℕ) → kind ≡ 9 → ShapeParts (flood_at s n at)
     unfolding flood_at flood_by flooded_at
     flood_parts n at nine = both ShapeParts _ tt (by (opening_at s at) (opening_parts at))
       where
-        by : (x : OpeningRead) → OpeningParts x → ShapeParts (flood_by s n x)
-        by (OpeningRead.Bad place) h = tt
-        by (OpeningRead.Got opening next) h = flooded_of_lem (n - 4) next opening (pair_at s next) nine h.1 (pair_within s next next _ _ refl refl)
+        by : (x : Before Opening) → OpeningParts x → ShapeParts (flood_by s n x)
+        by (Err e) h = tt
+        by (Ok (opening, next)) h = flooded_of_lem (n - 4) next opening (pair_at s next) nine h.1 (pair_within s next next _ _ refl refl)
 
     -- Response
     module _ (opening : Opening) (h : Opened s opening.session opening.initiator) where
-      rest_parts : (targets : Targets) (left at bad : ℕ) → TargetsSix s targets → ShapeParts (rest_at s opening targets left at bad)
+      rest_parts : (targets : Targets) (left at : ℕ) (bad : Noted) → TargetsSix s targets → ShapeParts (rest_at s opening targets left at bad)
       unfolding rest_at rest_of
       rest_parts targets left at bad six = both ShapeParts _ (tt, (h, six, tt)) (by (objective_at objective_levels s at) (objective_read_lem at))
         where
-          by : (x : ObjectiveRead) → ObjectiveOk at (length s - at) x → ShapeParts (rest_of s opening targets left at bad x)
-          by (ObjectiveRead.Bad place) ok = tt
-          by (ObjectiveRead.Got o size bad' long) ok = both ShapeParts _ (tt, (h, six, ok.0.limit)) tt
+          by : (x : Read Objective) → ObjectiveOk at (length s - at) x → ShapeParts (rest_of s opening targets left at bad x)
+          by (Err e) ok = tt
+          by (Ok o) ok = both ShapeParts _ (tt, (h, six, ok.0.limit)) tt
 
       located_parts : (n at : ℕ) (x : LocatorsRead) → LocatorsOk at (drop at s) (suc (n - 1)) 0 x → ShapeParts (located_of s opening n at x)
       unfolding located_of
-      located_parts n at (LocatorsRead.Bad place) ok = tt
-      located_parts n at (LocatorsRead.Ran first end left bad) ok = rest_parts _ left (at + end) bad (omega (arith, length-drop at s))
+      located_parts n at (Err e) ok = tt
+      located_parts n at (Ok l) ok = rest_parts _ l.left (at + l.end) l.bad (omega (arith, length-drop at s))
 
       targets_parts : (n at : ℕ) (x : DivertRead) → at ≤ length s → DivertOk at (drop at s) x → ShapeParts (targets_of s opening n at x)
       unfolding targets_of located_at
-      targets_parts n at DivertRead.Other low ok = located_parts n at _ (locators_ok at (drop at s) 0 (n - 1) (omega arith))
-      targets_parts n at (DivertRead.Bad place) low ok = tt
-      targets_parts n at (DivertRead.Got first from many size bad) low ok = rest_parts _ (n - 1) (at + size) bad (omega (arith, length-drop at s))
+      targets_parts n at (Ok None) low ok = located_parts n at _ (locators_ok at (drop at s) 0 (n - 1) (omega arith))
+      targets_parts n at (Err e) low ok = tt
+      targets_parts n at (Ok (Some d)) low ok = rest_parts _ (n - 1) (at + d.size) d.bad (omega (arith, length-drop at s))
 
     response_parts : (n at : ℕ) → ShapeParts (response_at s n at)
     unfolding response_at response_by targets_at
     response_parts n at = both ShapeParts _ tt (by (opening_at s at) (opening_parts at))
       where
-        by : (x : OpeningRead) → OpeningParts x → ShapeParts (response_by s n x)
-        by (OpeningRead.Bad place) h = tt
-        by (OpeningRead.Got opening next) (low, h) = targets_parts opening h (n - 4) next (divert_at s next) low (divert_ok next (drop next s))
+        by : (x : Before Opening) → OpeningParts x → ShapeParts (response_by s n x)
+        by (Err e) h = tt
+        by (Ok (opening, next)) (low, h) = targets_parts opening h (n - 4) next (divert_at s next) low (divert_ok next (drop next s))
 
     -- the other kinds
-    ended_parts : (session at : ℕ) (x : OutcomeRead) → session ≤ most_number → ShapeParts (ended session at x)
+    ended_parts : (session at : ℕ) (x : Read Outcome) → session ≤ most_number → ShapeParts (ended session at x)
     unfolding ended
-    ended_parts session at (OutcomeRead.Bad place) h = tt
-    ended_parts session at (OutcomeRead.Got o size bad) h = (tt, h)
+    ended_parts session at (Err e) h = tt
+    ended_parts session at (Ok o) h = (tt, h)
 
-    exchanged_parts : (session at : ℕ) (x : ObjectiveRead) → session ≤ most_number → at ≤ length s → ObjectiveOk at (length s - at) x
+    exchanged_parts : (session at : ℕ) (x : Read Objective) → session ≤ most_number → at ≤ length s → ObjectiveOk at (length s - at) x
         → ShapeParts (exchanged kind session at x)
     unfolding exchanged exchange_of
-    exchanged_parts session at (ObjectiveRead.Bad place) h low ok = tt
-    exchanged_parts session at (ObjectiveRead.Got o size bad long) h low ok =
+    exchanged_parts session at (Err e) h low ok = tt
+    exchanged_parts session at (Ok o) h low ok =
         let parts = objective_in_lem low ok.0 in
         both Parts _ (tt, (h, parts)) (both Parts _ (tt, (h, parts)) (both Parts _ (tt, (h, parts)) (tt, (h, parts))))
       where
@@ -239,18 +240,18 @@ module _ (s : List ℕ) where
         (both P _ tt (both P _ tt (pick-case P _ (λ _. tt) (λ e. both P _ (tt, ltb-false most_number _ e) (both P _ tt (tt, ltb-false most_number _ e))))))
         (both P _ (pick-case P _ (λ _. tt) (λ e. exchanged_parts _ _ _ (ltb-false most_number _ e) (token_end s at) (objective_read_lem _))) tt)))))))
       where
-        P : Shape → Type 0
+        P : Read Message → Type 0
         P = ShapeParts
 
   -- ---- the answer
-  abbrev pub ExaminedParts : Examined → Type 0
-  ExaminedParts (Examined.Refused number place) = number ≤ 11
-  ExaminedParts (Examined.Accepted m end) = MessageParts s m
+  abbrev pub ExaminedParts : Result Examined Refused → Type 0
+  ExaminedParts (Err e) = number_of e.refusal ≤ 11
+  ExaminedParts (Ok m) = MessageParts s m.message
 
-  judged_parts : (kind : ℕ) (x : Shape) → ShapeParts kind x → ExaminedParts (judged_shape x)
+  judged_parts : (kind : ℕ) (x : Read Message) → ShapeParts kind x → ExaminedParts (judged_shape x)
   unfolding judged_shape
-  judged_parts kind (Shape.Bad place) h = lit≤ tt
-  judged_parts kind (Shape.Good m end bad long) h = both ExaminedParts _ (both ExaminedParts _ h.1 (lit≤ tt)) (lit≤ tt)
+  judged_parts kind (Err e) h = lit≤ tt
+  judged_parts kind (Ok m) h = clear_case ExaminedParts m.bad (clear_case ExaminedParts m.long h.1 (λ place. lit≤ tt)) (λ place. lit≤ tt)
 
   pub examined_parts : ExaminedParts (examined s)
   unfolding examined
@@ -258,5 +259,5 @@ module _ (s : List ℕ) where
       let read = judged_parts _ _ (kind_parts (token_at s (token_at s 0).next).arg _ _) in
       both P _ (lit≤ tt) (both P _ (both P _ (both P _ read (lit≤ tt)) read) (lit≤ tt))
     where
-      P : Examined → Type 0
+      P : Result Examined Refused → Type 0
       P = ExaminedParts

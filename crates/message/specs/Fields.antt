@@ -1,11 +1,18 @@
 -- What a message that was read holds: its kind's number (rules 1.2), its session, initiator and (first) objective.
-use Rattle.std.specs.Prelude.{ℕ}
+use Rattle.std.specs.Prelude.{ℕ, Option, Some, None}
 use Rattle.options.specs.declared.Span.{Span}
 use Rattle.options.specs.Text.{span_of}
 use Rattle.message.specs.declared.Message.{Message}
 use Rattle.message.specs.declared.Message.TheVariants as M
-use Rattle.message.specs.declared.Extra.{Extra}
-use Rattle.message.specs.declared.fields.Session.{Session}
+use Rattle.options.specs.declared.objective.Objective.{Objective}
+
+-- an objective that may be left out
+abbrev pub Extra : Type 0
+Extra = Option Objective
+
+-- a session, or none
+abbrev pub Session : Type 0
+Session = Option ℕ
 
 -- the number of a message's kind
 abbrev pub kind_of : Message → ℕ
@@ -23,17 +30,17 @@ kind_of (M.Invalid session item) = 99
 
 -- its session, which a Noop has not
 unfoldable pub session_of : Message → Session
-session_of M.Noop = Session.Without
-session_of (M.Discovery session initiator objective) = Session.Number session
-session_of (M.Response session initiator ttl targets extra) = Session.Number session
-session_of (M.RequestNegotiation session objective) = Session.Number session
-session_of (M.RequestSynchronization session objective) = Session.Number session
-session_of (M.Negotiate session objective) = Session.Number session
-session_of (M.End session outcome) = Session.Number session
-session_of (M.Wait session time) = Session.Number session
-session_of (M.Synch session objective) = Session.Number session
-session_of (M.Flood session initiator ttl first pairs) = Session.Number session
-session_of (M.Invalid session item) = Session.Number session
+session_of M.Noop = None
+session_of (M.Discovery session initiator objective) = Some session
+session_of (M.Response session initiator ttl targets extra) = Some session
+session_of (M.RequestNegotiation session objective) = Some session
+session_of (M.RequestSynchronization session objective) = Some session
+session_of (M.Negotiate session objective) = Some session
+session_of (M.End session outcome) = Some session
+session_of (M.Wait session time) = Some session
+session_of (M.Synch session objective) = Some session
+session_of (M.Flood session initiator ttl first pairs) = Some session
+session_of (M.Invalid session item) = Some session
 
 -- no bytes where the kind has no initiator
 unfoldable pub initiator_of : Message → Span
@@ -51,19 +58,19 @@ initiator_of (M.Invalid session item) = span_of 0 0
 
 -- its objective, of a Flood's the first; a Response may have one
 unfoldable pub objective_of : Message → Extra
-objective_of M.Noop = Extra.Without
-objective_of (M.Discovery session initiator objective) = Extra.With objective
+objective_of M.Noop = None
+objective_of (M.Discovery session initiator objective) = Some objective
 objective_of (M.Response session initiator ttl targets extra) = extra
-objective_of (M.RequestNegotiation session objective) = Extra.With objective
-objective_of (M.RequestSynchronization session objective) = Extra.With objective
-objective_of (M.Negotiate session objective) = Extra.With objective
-objective_of (M.End session outcome) = Extra.Without
-objective_of (M.Wait session time) = Extra.Without
-objective_of (M.Synch session objective) = Extra.With objective
-objective_of (M.Flood session initiator ttl first pairs) = Extra.With first.objective
-objective_of (M.Invalid session item) = Extra.Without
+objective_of (M.RequestNegotiation session objective) = Some objective
+objective_of (M.RequestSynchronization session objective) = Some objective
+objective_of (M.Negotiate session objective) = Some objective
+objective_of (M.End session outcome) = None
+objective_of (M.Wait session time) = None
+objective_of (M.Synch session objective) = Some objective
+objective_of (M.Flood session initiator ttl first pairs) = Some first.objective
+objective_of (M.Invalid session item) = None
 
 -- an objective's count, 0 where there is none
 unfoldable pub count_in : Extra → ℕ
-count_in Extra.Without = 0
-count_in (Extra.With o) = o.count
+count_in None = 0
+count_in (Some o) = o.count

@@ -1,41 +1,37 @@
 -- The shapes of the kinds but Response and Flood (RFC 8990, section 2.8 and its CDDL): a message s of n items in all,
--- the first after the kind at `at`. A good shape has the message, the place where its parts end, and the places of the
--- first text that isn't UTF-8 and of the first name that is too long, 0 for none; a bad one has the place of the first
--- departure, which is the message's own, 0, where the number of items is wrong.
-use Rattle.std.specs.Prelude.{ℕ, ◌+◌, List, ltb, eqb}
+-- the first after the kind at `at`. Its size is the place where its parts end. A departure has the message's own place,
+-- 0, where the number of items is wrong.
+use Rattle.std.specs.Prelude.{ℕ, ◌+◌, List, Ok, Err, None, ltb, eqb}
 use Rattle.base.specs.Pick.{pick, unless}
 use Rattle.cbor.specs.Token.{token_at, size_at, up_to}
 use Rattle.options.specs.declared.Span.{Span}
 use Rattle.options.specs.declared.objective.Objective.{Objective}
-use Rattle.options.specs.declared.objective.ObjectiveRead.{ObjectiveRead}
 use Rattle.options.specs.Text.{span_of, content_of}
+use Rattle.options.specs.Part.{Read, departs, part}
 use Rattle.options.specs.Objective.{objective_at}
-use Rattle.options.specs.declared.outcome.OutcomeRead.{OutcomeRead}
+use Rattle.options.specs.declared.outcome.Outcome.{Outcome}
 use Rattle.options.specs.Outcome.{outcome_at}
 use Rattle.message.specs.declared.Message.{Message}
 use Rattle.message.specs.declared.Message.TheVariants as M
-use Rattle.message.specs.declared.shape.Shape.{Shape}
-use Rattle.message.specs.declared.shape.Shape.TheVariants.{Bad, Good}
 use Rattle.message.specs.Opening.{most_number, objective_levels, is_initiator}
 
 -- kind 0: nothing
-unfoldable pub noop_at : ℕ → ℕ → Shape
-noop_at n at = unless (eqb n 1) (Bad 0) (Good M.Noop at 0 0)
+unfoldable pub noop_at : ℕ → ℕ → Read Message
+noop_at n at = unless (eqb n 1) (departs 0) (part M.Noop at None None)
 
 -- a Discovery whose objective was read at `at`
-unfoldable pub discovered : ℕ → Span → ℕ → ObjectiveRead → Shape
-discovered session initiator at (ObjectiveRead.Bad place) = Bad place
-discovered session initiator at (ObjectiveRead.Got o size bad long) =
-    Good (M.Discovery session initiator o) (at + size) bad long
+unfoldable pub discovered : ℕ → Span → ℕ → Read Objective → Read Message
+discovered session initiator at (Err e) = Err e
+discovered session initiator at (Ok o) = part (M.Discovery session initiator o.value) (at + o.size) o.bad o.long
 
 -- kind 1: session, initiator, objective
-unfoldable pub discovery_at : List ℕ → ℕ → ℕ → Shape
+unfoldable pub discovery_at : List ℕ → ℕ → ℕ → Read Message
 discovery_at s n at =
     let i = token_at s at in
     let j = token_at s i.next in
-    unless (eqb n 4) (Bad 0)
-    (pick (ltb most_number (up_to most_number i)) (Bad i.at)
-    (unless (is_initiator j) (Bad j.at)
+    unless (eqb n 4) (departs 0)
+    (pick (ltb most_number (up_to most_number i)) (departs i.at)
+    (unless (is_initiator j) (departs j.at)
     (discovered (up_to most_number i) (content_of j) j.next (objective_at objective_levels s j.next))))
 
 -- the message of the kind 3, 4, 5 or 8
@@ -47,53 +43,53 @@ exchange_of kind session o =
     (M.Synch session o)))
 
 -- such a message whose objective was read at `at`
-unfoldable pub exchanged : ℕ → ℕ → ℕ → ObjectiveRead → Shape
-exchanged kind session at (ObjectiveRead.Bad place) = Bad place
-exchanged kind session at (ObjectiveRead.Got o size bad long) = Good (exchange_of kind session o) (at + size) bad long
+unfoldable pub exchanged : ℕ → ℕ → ℕ → Read Objective → Read Message
+exchanged kind session at (Err e) = Err e
+exchanged kind session at (Ok o) = part (exchange_of kind session o.value) (at + o.size) o.bad o.long
 
 -- kinds 3, 4, 5 and 8: session, objective
-unfoldable pub exchange_at : List ℕ → ℕ → ℕ → ℕ → Shape
+unfoldable pub exchange_at : List ℕ → ℕ → ℕ → ℕ → Read Message
 exchange_at s kind n at =
     let i = token_at s at in
-    unless (eqb n 3) (Bad 0)
-    (pick (ltb most_number (up_to most_number i)) (Bad i.at)
+    unless (eqb n 3) (departs 0)
+    (pick (ltb most_number (up_to most_number i)) (departs i.at)
     (exchanged kind (up_to most_number i) i.next (objective_at objective_levels s i.next)))
 
 -- kind 7: session, waiting time
-unfoldable pub wait_at : List ℕ → ℕ → ℕ → Shape
+unfoldable pub wait_at : List ℕ → ℕ → ℕ → Read Message
 wait_at s n at =
     let i = token_at s at in
     let t = token_at s i.next in
-    unless (eqb n 3) (Bad 0)
-    (pick (ltb most_number (up_to most_number i)) (Bad i.at)
-    (pick (ltb most_number (up_to most_number t)) (Bad t.at)
-    (Good (M.Wait (up_to most_number i) (up_to most_number t)) t.next 0 0)))
+    unless (eqb n 3) (departs 0)
+    (pick (ltb most_number (up_to most_number i)) (departs i.at)
+    (pick (ltb most_number (up_to most_number t)) (departs t.at)
+    (part (M.Wait (up_to most_number i) (up_to most_number t)) t.next None None)))
 
 -- how many levels are open around Invalid's item: the message's own
 abbrev pub item_levels : ℕ
 item_levels = 1
 
 -- kind 99: session, an optional item of any sort
-unfoldable pub invalid_at : List ℕ → ℕ → ℕ → Shape
+unfoldable pub invalid_at : List ℕ → ℕ → ℕ → Read Message
 invalid_at s n at =
     let i = token_at s at in
     let len = size_at item_levels s i.next in
-    pick (ltb n 2) (Bad 0)
-    (pick (ltb 3 n) (Bad 0)
-    (pick (ltb most_number (up_to most_number i)) (Bad i.at)
-    (pick (eqb n 2) (Good (M.Invalid (up_to most_number i) (span_of i.next 0)) i.next 0 0)
-    (pick (eqb len 0) (Bad i.next)
-    (Good (M.Invalid (up_to most_number i) (span_of i.next len)) (i.next + len) 0 0)))))
+    pick (ltb n 2) (departs 0)
+    (pick (ltb 3 n) (departs 0)
+    (pick (ltb most_number (up_to most_number i)) (departs i.at)
+    (pick (eqb n 2) (part (M.Invalid (up_to most_number i) (span_of i.next 0)) i.next None None)
+    (pick (eqb len 0) (departs i.next)
+    (part (M.Invalid (up_to most_number i) (span_of i.next len)) (i.next + len) None None)))))
 
 -- an End whose accept or decline was read at `at`
-unfoldable pub ended : ℕ → ℕ → OutcomeRead → Shape
-ended session at (OutcomeRead.Bad place) = Bad place
-ended session at (OutcomeRead.Got o size bad) = Good (M.End session o) (at + size) bad 0
+unfoldable pub ended : ℕ → ℕ → Read Outcome → Read Message
+ended session at (Err e) = Err e
+ended session at (Ok o) = part (M.End session o.value) (at + o.size) o.bad None
 
 -- kind 6: session, accept or decline
-unfoldable pub end_at : List ℕ → ℕ → ℕ → Shape
+unfoldable pub end_at : List ℕ → ℕ → ℕ → Read Message
 end_at s n at =
     let i = token_at s at in
-    unless (eqb n 3) (Bad 0)
-    (pick (ltb most_number (up_to most_number i)) (Bad i.at)
+    unless (eqb n 3) (departs 0)
+    (pick (ltb most_number (up_to most_number i)) (departs i.at)
     (ended (up_to most_number i) i.next (outcome_at s i.next)))

@@ -2,15 +2,9 @@
 ghost use Rattle.std.specs.Prelude.{◌≡◌};
 ghost use Rattle.message.specs.Fields.{kind_of, session_of, initiator_of, objective_of};
 
-use crate::{Extra, Message};
+use crate::Message;
 use options::Span;
-
-// A session, which a Noop lacks.
-#[derive(Clone, Copy)]
-pub enum Session {
-    Without,
-    Number(u32),
-}
+use options::objective::Objective;
 
 // The number of the message's kind.
 pub fn kind_of(m: Message) -> u8
@@ -31,61 +25,52 @@ pub fn kind_of(m: Message) -> u8
     }
 }
 
-pub fn session_of(m: Message) -> Session
+// The message's session, which a Noop lacks.
+#[tactic(auto, unfolding(crate::specs::Fields::session_of))]
+pub fn session_of(m: Message) -> Option<u32>
     ensures { result ≡ session_of m }
 {
     match m {
-        Message::Noop => Session::Without,
-        Message::Discovery { session, .. } => Session::Number(session),
-        Message::Response { session, .. } => Session::Number(session),
-        Message::RequestNegotiation { session, .. } => Session::Number(session),
-        Message::RequestSynchronization { session, .. } => Session::Number(session),
-        Message::Negotiate { session, .. } => Session::Number(session),
-        Message::End { session, .. } => Session::Number(session),
-        Message::Wait { session, .. } => Session::Number(session),
-        Message::Synch { session, .. } => Session::Number(session),
-        Message::Flood { session, .. } => Session::Number(session),
-        Message::Invalid { session, .. } => Session::Number(session),
+        Message::Noop => None,
+        Message::Discovery { session, .. }
+        | Message::Response { session, .. }
+        | Message::RequestNegotiation { session, .. }
+        | Message::RequestSynchronization { session, .. }
+        | Message::Negotiate { session, .. }
+        | Message::End { session, .. }
+        | Message::Wait { session, .. }
+        | Message::Synch { session, .. }
+        | Message::Flood { session, .. }
+        | Message::Invalid { session, .. } => Some(session),
     }
 }
 
 // The initiator's bytes; none where the kind has no initiator.
+#[tactic(auto, unfolding(crate::specs::Fields::initiator_of))]
 pub fn initiator_of(m: Message) -> Span
     ensures { result ≡ initiator_of m }
 {
     match m {
-        Message::Noop => Span { at: 0, len: 0 },
-        Message::Discovery { initiator, .. } => initiator,
-        Message::Response { initiator, .. } => initiator,
-        Message::RequestNegotiation { .. } => Span { at: 0, len: 0 },
-        Message::RequestSynchronization { .. } => Span { at: 0, len: 0 },
-        Message::Negotiate { .. } => Span { at: 0, len: 0 },
-        Message::End { .. } => Span { at: 0, len: 0 },
-        Message::Wait { .. } => Span { at: 0, len: 0 },
-        Message::Synch { .. } => Span { at: 0, len: 0 },
-        Message::Flood { initiator, .. } => initiator,
-        Message::Invalid { .. } => Span { at: 0, len: 0 },
+        Message::Discovery { initiator, .. }
+        | Message::Response { initiator, .. }
+        | Message::Flood { initiator, .. } => initiator,
+        _ => Span { at: 0, len: 0 },
     }
 }
 
 // The message's objective; a Flood's is its first pair's.
-pub fn objective_of(m: Message) -> Extra
+#[tactic(auto, unfolding(crate::specs::Fields::objective_of))]
+pub fn objective_of(m: Message) -> Option<Objective>
     ensures { result ≡ objective_of m }
 {
     match m {
-        Message::Noop => Extra::Without,
-        Message::Discovery { objective, .. } => Extra::With(objective),
+        Message::Discovery { objective, .. }
+        | Message::RequestNegotiation { objective, .. }
+        | Message::RequestSynchronization { objective, .. }
+        | Message::Negotiate { objective, .. }
+        | Message::Synch { objective, .. } => Some(objective),
         Message::Response { extra, .. } => extra,
-        Message::RequestNegotiation { objective, .. } => Extra::With(objective),
-        Message::RequestSynchronization { objective, .. } => Extra::With(objective),
-        Message::Negotiate { objective, .. } => Extra::With(objective),
-        Message::End { .. } => Extra::Without,
-        Message::Wait { .. } => Extra::Without,
-        Message::Synch { objective, .. } => Extra::With(objective),
-        Message::Flood { first, .. } => {
-            let objective = first.objective;
-            Extra::With(objective)
-        }
-        Message::Invalid { .. } => Extra::Without,
+        Message::Flood { first, .. } => Some(first.objective),
+        _ => None,
     }
 }

@@ -5,13 +5,13 @@
 ghost use Rattle.std.specs.Prelude.{◌≡◌};
 ghost use Rattle.message.specs.Examined.{judged_shape, examined};
 
+use base::refusal::{Refusal, Refused};
 use cbor::token;
-use options::Span;
 use options::locator::Locator;
 use options::objective::Objective;
 use options::outcome::Outcome;
 use options::pair::Pair;
-use shape::Shape;
+use options::{Departure, Part, Span};
 
 pub mod fields;
 mod flood;
@@ -37,13 +37,6 @@ pub enum Targets {
     Divert { first: Locator, series: Series },
 }
 
-// An objective that may be left out.
-#[derive(Clone, Copy)]
-pub enum Extra {
-    Without,
-    With(Objective),
-}
-
 // A Flood has its first pair beside the series of all, and Invalid an item of 0 bytes where it has none.
 #[derive(Clone, Copy)]
 pub enum Message {
@@ -58,7 +51,7 @@ pub enum Message {
         initiator: Span,
         ttl: u32,
         targets: Targets,
-        extra: Extra,
+        extra: Option<Objective>,
     },
     RequestNegotiation {
         session: u32,
@@ -97,70 +90,64 @@ pub enum Message {
     },
 }
 
-// A message, with the place where its parts end, or the refusal with its place.
+// A message, with the place where its parts end.
 #[derive(Clone, Copy)]
-pub enum Examined {
-    Refused { number: u8, place: usize },
-    Accepted { message: Message, end: usize },
+pub struct Examined {
+    pub message: Message,
+    pub end: usize,
 }
 
-// The message that s begins with, by its parts alone: 9 for what is no array or has no number first, 8 for an unknown
-// kind, then by the kind. What follows the message isn't looked at.
-pub fn examine(s: &[u8]) -> Examined
+// The message that s begins with, by its parts alone, or the refusal: `BadShape` for what is no array or has no number
+// first, `UnknownKind`, then by the kind. What follows the message isn't looked at.
+#[tactic(auto, unfolding(crate::specs::Examined::examined, base::specs::Pick::pick))]
+pub fn examine(s: &[u8]) -> Result<Examined, Refused>
     ensures { result ≡ examined s.now }
 {
     let a = token::array_at(s, 0);
     if token::items_in(a) == 0 {
-        return Examined::Refused {
-            number: 9,
+        return Err(Refused {
+            refusal: Refusal::BadShape,
             place: 0,
-        };
+        });
     }
     let k = token::number_at(s, a.next);
     if k.major != 0 {
-        return Examined::Refused {
-            number: 9,
+        return Err(Refused {
+            refusal: Refusal::BadShape,
             place: k.at,
-        };
+        });
     }
     if 9 < k.arg {
         if k.arg != 99 {
-            return Examined::Refused {
-                number: 8,
+            return Err(Refused {
+                refusal: Refusal::UnknownKind,
                 place: k.at,
-            };
+            });
         }
     }
     judge(shape::by_kind(s, k.arg, a.arg, k.next))
 }
 
-// 9, then 11, then 10.
-fn judge(shape: Shape) -> Examined
+// A departure from the shape, then a text that isn't UTF-8, then a long name.
+#[tactic(auto, unfolding(crate::specs::Examined::judged_shape, crate::specs::Examined::clear))]
+fn judge(shape: Result<Part<Message>, Departure>) -> Result<Examined, Refused>
     ensures { result ≡ judged_shape shape }
 {
-    match shape {
-        Shape::Bad(place) => {
-            return Examined::Refused { number: 9, place };
-        }
-        Shape::Good {
-            message,
-            end,
-            bad,
-            long,
-        } => {
-            if bad != 0 {
-                return Examined::Refused {
-                    number: 11,
-                    place: bad,
-                };
-            }
-            if long != 0 {
-                return Examined::Refused {
-                    number: 10,
-                    place: long,
-                };
-            }
-            return Examined::Accepted { message, end };
-        }
+    let m = shape?;
+    if let Some(place) = m.bad {
+        return Err(Refused {
+            refusal: Refusal::BadText,
+            place,
+        });
     }
+    if let Some(place) = m.long {
+        return Err(Refused {
+            refusal: Refusal::LongName,
+            place,
+        });
+    }
+    Ok(Examined {
+        message: m.value,
+        end: m.size,
+    })
 }

@@ -1,14 +1,14 @@
 // What several kinds begin with: a session, an initiator and a ttl.
 ghost use Rattle.std.specs.Prelude.{◌≡◌, ◌≤◌};
 ghost use Rattle.options.specs.Text.{content_of};
-ghost use Rattle.message.specs.Opening.{is_initiator, opening_at};
+ghost use Rattle.message.specs.Opening.{number_read, is_initiator, initiator_read, opening_at};
 
 use cbor::token;
 use cbor::token::Token;
-use options::Span;
+use options::{Departure, Span};
 
 // The greatest session, ttl and waiting time.
-pub(crate) const MOST_NUMBER: u32 = 4_294_967_295;
+const MOST_NUMBER: u32 = 4_294_967_295;
 
 #[derive(Clone, Copy)]
 pub struct Opening {
@@ -17,62 +17,55 @@ pub struct Opening {
     pub ttl: u32,
 }
 
-// The place of the first departure from the shape; or the three, with the place of the item after them.
-#[derive(Clone, Copy)]
-pub enum OpeningRead {
-    Bad(usize),
-    Got { opening: Opening, next: usize },
-}
-
-// A session, an initiator and a ttl from `at` on.
-pub(crate) fn read_at(s: &[u8], at: usize) -> OpeningRead
+// A session, an initiator and a ttl from `at` on, with the place of the item after them.
+#[tactic(auto, unfolding(crate::specs::Opening::opening_at, crate::specs::Opening::number_read, crate::specs::Opening::initiator_read, base::specs::Pick::pick))]
+pub(crate) fn read_at(s: &[u8], at: usize) -> Result<(Opening, usize), Departure>
     ensures { result ≡ opening_at s.now at }
 {
-    let i = token::number_at(s, at);
-    let session = token::up_to(MOST_NUMBER, i);
-    if (MOST_NUMBER as u64) < session {
-        return OpeningRead::Bad(i.at);
-    }
-    let j = token::string_at(s, i.next);
-    if !is_initiator(j) {
-        return OpeningRead::Bad(j.at);
-    }
-    let t = token::number_at(s, j.next);
-    let ttl = token::up_to(MOST_NUMBER, t);
-    if (MOST_NUMBER as u64) < ttl {
-        return OpeningRead::Bad(t.at);
-    }
-    let initiator = content_of(j);
-    OpeningRead::Got {
-        opening: Opening {
-            session: session as u32,
-            initiator,
-            ttl: ttl as u32,
-        },
-        next: t.next,
-    }
+    let (session, second) = number_at(s, at)?;
+    let (initiator, third) = initiator_at(s, second)?;
+    let (ttl, next) = number_at(s, third)?;
+    let opening = Opening {
+        session,
+        initiator,
+        ttl,
+    };
+    Ok((opening, next))
 }
 
-// Where a string's bytes stand.
-pub(crate) fn content_of(t: Token) -> Span
-    requires { t.body ≤ t.next }
-    ensures { result ≡ content_of t }
+// A session, ttl or waiting time at `at`, with the place of the item after it.
+#[tactic(auto, unfolding(crate::specs::Opening::number_read, base::specs::Pick::pick))]
+pub(crate) fn number_at(s: &[u8], at: usize) -> Result<(u32, usize), Departure>
+    ensures { result ≡ number_read s.now at }
 {
-    Span {
+    let t = token::number_at(s, at);
+    let number = token::up_to(MOST_NUMBER, t);
+    if (MOST_NUMBER as u64) < number {
+        return Err(Departure { place: t.at });
+    }
+    Ok((number as u32, t.next))
+}
+
+// An initiator at `at`, a byte string of 4 or 16 bytes, with the place of the item after it.
+#[tactic(auto, unfolding(crate::specs::Opening::initiator_read, base::specs::Pick::pick))]
+pub(crate) fn initiator_at(s: &[u8], at: usize) -> Result<(Span, usize), Departure>
+    ensures { result ≡ initiator_read s.now at }
+{
+    let t = token::string_at(s, at);
+    if !is_initiator(t) {
+        return Err(Departure { place: t.at });
+    }
+    let span = Span {
         at: t.body,
         len: t.next - t.body,
-    }
+    };
+    Ok((span, t.next))
 }
 
 // A byte string of 4 or 16 bytes.
-pub(crate) fn is_initiator(t: Token) -> bool
+#[tactic(auto, unfolding(crate::specs::Opening::is_initiator))]
+fn is_initiator(t: Token) -> bool
     ensures { result ≡ is_initiator t }
 {
-    if t.major == 2 {
-        if t.arg == 4 {
-            return true;
-        }
-        return t.arg == 16;
-    }
-    false
+    t.major == 2 && (t.arg == 4 || t.arg == 16)
 }

@@ -5,12 +5,10 @@ ghost use Rattle.message.specs.Shape.{noop_at, discovery_at, exchange_of, exchan
 ghost use Rattle.message.specs.Shape.{wait_at, invalid_at, end_at};
 ghost use Rattle.message.specs.Examined.{by_kind};
 
-use crate::opening::MOST_NUMBER;
 use crate::{Message, flood, opening, response};
 use cbor::token;
-use options::objective::{Objective, ObjectiveRead};
-use options::outcome::OutcomeRead;
-use options::{Span, objective, outcome};
+use options::objective::Objective;
+use options::{Departure, Part, Span, objective, outcome};
 
 // How many levels are open around Invalid's item: the message's own.
 const ITEM_LEVELS: usize = 1;
@@ -19,242 +17,164 @@ const ITEM_LEVELS: usize = 1;
 // objective's own.
 pub(crate) const OBJECTIVE_LEVELS: usize = 2;
 
-// The place of the first departure from the shape; or a message, with the place where its parts end, and those of its
-// first text that isn't UTF-8 and of its first name over 64 bytes, else 0.
-#[derive(Clone, Copy)]
-pub enum Shape {
-    Bad(usize),
-    Good {
-        message: Message,
-        end: usize,
-        bad: usize,
-        long: usize,
-    },
-}
-
-// A message of a known kind, of n items in all, the first after the kind at `at`.
-pub(crate) fn by_kind(s: &[u8], kind: u64, n: u64, at: usize) -> Shape
+// A message of a known kind, of n items in all, the first after the kind at `at`. Its size is where its parts end.
+#[tactic(auto, unfolding(crate::specs::Examined::by_kind, base::specs::Pick::pick))]
+pub(crate) fn by_kind(s: &[u8], kind: u64, n: u64, at: usize) -> Result<Part<Message>, Departure>
     ensures { result ≡ by_kind s.now kind n at }
 {
-    if kind == 0 {
-        return noop_at(n, at);
+    match kind {
+        0 => noop_at(n, at),
+        1 => discovery_at(s, n, at),
+        2 => response::read_at(s, n, at),
+        6 => end_at(s, n, at),
+        7 => wait_at(s, n, at),
+        9 => flood::read_at(s, n, at),
+        99 => invalid_at(s, n, at),
+        _ => exchange_at(s, kind, n, at),
     }
-    if kind == 1 {
-        return discovery_at(s, n, at);
-    }
-    if kind == 2 {
-        return response::read_at(s, n, at);
-    }
-    if kind == 6 {
-        return end_at(s, n, at);
-    }
-    if kind == 7 {
-        return wait_at(s, n, at);
-    }
-    if kind == 9 {
-        return flood::read_at(s, n, at);
-    }
-    if kind == 99 {
-        return invalid_at(s, n, at);
-    }
-    exchange_at(s, kind, n, at)
 }
 
-fn noop_at(n: u64, at: usize) -> Shape
+#[tactic(auto, unfolding(crate::specs::Shape::noop_at, base::specs::Pick::pick))]
+fn noop_at(n: u64, at: usize) -> Result<Part<Message>, Departure>
     ensures { result ≡ noop_at n at }
 {
     if n != 1 {
-        return Shape::Bad(0);
+        return Err(Departure { place: 0 });
     }
-    Shape::Good {
-        message: Message::Noop,
-        end: at,
-        bad: 0,
-        long: 0,
-    }
+    Ok(Part {
+        value: Message::Noop,
+        size: at,
+        bad: None,
+        long: None,
+    })
 }
 
 // Session, initiator, objective.
-fn discovery_at(s: &[u8], n: u64, at: usize) -> Shape
+#[tactic(auto, unfolding(crate::specs::Shape::discovery_at, crate::specs::Shape::discovered, crate::specs::Opening::number_read, crate::specs::Opening::initiator_read, base::specs::Pick::pick))]
+fn discovery_at(s: &[u8], n: u64, at: usize) -> Result<Part<Message>, Departure>
     ensures { result ≡ discovery_at s.now n at }
 {
     if n != 4 {
-        return Shape::Bad(0);
+        return Err(Departure { place: 0 });
     }
-    let i = token::number_at(s, at);
-    let session = token::up_to(MOST_NUMBER, i);
-    if (MOST_NUMBER as u64) < session {
-        return Shape::Bad(i.at);
-    }
-    let j = token::string_at(s, i.next);
-    if !opening::is_initiator(j) {
-        return Shape::Bad(j.at);
-    }
-    let initiator = opening::content_of(j);
-    let read = objective::read_at(OBJECTIVE_LEVELS, s, j.next);
-    match read {
-        ObjectiveRead::Bad(place) => return Shape::Bad(place),
-        ObjectiveRead::Got {
-            objective,
-            size,
-            bad,
-            long,
-        } => {
-            return Shape::Good {
-                message: Message::Discovery {
-                    session: session as u32,
-                    initiator,
-                    objective: objective::copied(objective),
-                },
-                end: j.next + size,
-                bad,
-                long,
-            };
-        }
-    }
+    let (session, second) = opening::number_at(s, at)?;
+    let (initiator, third) = opening::initiator_at(s, second)?;
+    let o = objective::read_at(OBJECTIVE_LEVELS, s, third)?;
+    Ok(Part {
+        value: Message::Discovery {
+            session,
+            initiator,
+            objective: objective::copied(o.value),
+        },
+        size: third + o.size,
+        bad: o.bad,
+        long: o.long,
+    })
 }
 
 // Kinds 3, 4, 5 and 8: session, objective.
-fn exchange_at(s: &[u8], kind: u64, n: u64, at: usize) -> Shape
+#[tactic(auto, unfolding(crate::specs::Shape::exchange_at, crate::specs::Shape::exchanged, crate::specs::Opening::number_read, base::specs::Pick::pick))]
+fn exchange_at(s: &[u8], kind: u64, n: u64, at: usize) -> Result<Part<Message>, Departure>
     ensures { result ≡ exchange_at s.now kind n at }
 {
     if n != 3 {
-        return Shape::Bad(0);
+        return Err(Departure { place: 0 });
     }
-    let i = token::number_at(s, at);
-    let session = token::up_to(MOST_NUMBER, i);
-    if (MOST_NUMBER as u64) < session {
-        return Shape::Bad(i.at);
-    }
-    let read = objective::read_at(OBJECTIVE_LEVELS, s, i.next);
-    match read {
-        ObjectiveRead::Bad(place) => {
-            return Shape::Bad(place);
-        }
-        ObjectiveRead::Got {
-            objective,
-            size,
-            bad,
-            long,
-        } => {
-            return Shape::Good {
-                message: exchange_of(kind, session as u32, objective::copied(objective)),
-                end: i.next + size,
-                bad,
-                long,
-            };
-        }
-    }
+    let (session, second) = opening::number_at(s, at)?;
+    let o = objective::read_at(OBJECTIVE_LEVELS, s, second)?;
+    Ok(Part {
+        value: exchange_of(kind, session, objective::copied(o.value)),
+        size: second + o.size,
+        bad: o.bad,
+        long: o.long,
+    })
 }
 
+#[tactic(auto, unfolding(crate::specs::Shape::exchange_of, base::specs::Pick::pick))]
 fn exchange_of(kind: u64, session: u32, objective: Objective) -> Message
     ensures { result ≡ exchange_of kind session objective }
 {
-    if kind == 3 {
-        return Message::RequestNegotiation { session, objective };
+    match kind {
+        3 => Message::RequestNegotiation { session, objective },
+        4 => Message::RequestSynchronization { session, objective },
+        5 => Message::Negotiate { session, objective },
+        _ => Message::Synch { session, objective },
     }
-    if kind == 4 {
-        return Message::RequestSynchronization { session, objective };
-    }
-    if kind == 5 {
-        return Message::Negotiate { session, objective };
-    }
-    Message::Synch { session, objective }
 }
 
 // Session, waiting time.
-fn wait_at(s: &[u8], n: u64, at: usize) -> Shape
+#[tactic(auto, unfolding(crate::specs::Shape::wait_at, crate::specs::Opening::number_read, base::specs::Pick::pick))]
+fn wait_at(s: &[u8], n: u64, at: usize) -> Result<Part<Message>, Departure>
     ensures { result ≡ wait_at s.now n at }
 {
     if n != 3 {
-        return Shape::Bad(0);
+        return Err(Departure { place: 0 });
     }
-    let i = token::number_at(s, at);
-    let session = token::up_to(MOST_NUMBER, i);
-    if (MOST_NUMBER as u64) < session {
-        return Shape::Bad(i.at);
-    }
-    let t = token::number_at(s, i.next);
-    let time = token::up_to(MOST_NUMBER, t);
-    if (MOST_NUMBER as u64) < time {
-        return Shape::Bad(t.at);
-    }
-    Shape::Good {
-        message: Message::Wait {
-            session: session as u32,
-            time: time as u32,
-        },
-        end: t.next,
-        bad: 0,
-        long: 0,
-    }
+    let (session, second) = opening::number_at(s, at)?;
+    let (time, end) = opening::number_at(s, second)?;
+    Ok(Part {
+        value: Message::Wait { session, time },
+        size: end,
+        bad: None,
+        long: None,
+    })
 }
 
 // Session, an optional item of any sort.
-fn invalid_at(s: &[u8], n: u64, at: usize) -> Shape
+#[tactic(auto, unfolding(crate::specs::Shape::invalid_at, crate::specs::Opening::number_read, base::specs::Pick::pick))]
+fn invalid_at(s: &[u8], n: u64, at: usize) -> Result<Part<Message>, Departure>
     ensures { result ≡ invalid_at s.now n at }
 {
     if n < 2 {
-        return Shape::Bad(0);
+        return Err(Departure { place: 0 });
     }
     if 3 < n {
-        return Shape::Bad(0);
+        return Err(Departure { place: 0 });
     }
-    let i = token::number_at(s, at);
-    let session = token::up_to(MOST_NUMBER, i);
-    if (MOST_NUMBER as u64) < session {
-        return Shape::Bad(i.at);
-    }
-    let end = i.next;
+    let (session, end) = opening::number_at(s, at)?;
     if n == 2 {
-        return Shape::Good {
-            message: Message::Invalid {
-                session: session as u32,
+        return Ok(Part {
+            value: Message::Invalid {
+                session,
                 item: Span { at: end, len: 0 },
             },
-            end,
-            bad: 0,
-            long: 0,
-        };
+            size: end,
+            bad: None,
+            long: None,
+        });
     }
     let len = token::size_at(ITEM_LEVELS, s, end);
     if len == 0 {
-        return Shape::Bad(end);
+        return Err(Departure { place: end });
     }
-    Shape::Good {
-        message: Message::Invalid {
-            session: session as u32,
+    Ok(Part {
+        value: Message::Invalid {
+            session,
             item: Span { at: end, len },
         },
-        end: end + len,
-        bad: 0,
-        long: 0,
-    }
+        size: end + len,
+        bad: None,
+        long: None,
+    })
 }
 
 // Session, accept or decline.
-fn end_at(s: &[u8], n: u64, at: usize) -> Shape
+#[tactic(auto, unfolding(crate::specs::Shape::end_at, crate::specs::Shape::ended, crate::specs::Opening::number_read, base::specs::Pick::pick))]
+fn end_at(s: &[u8], n: u64, at: usize) -> Result<Part<Message>, Departure>
     ensures { result ≡ end_at s.now n at }
 {
     if n != 3 {
-        return Shape::Bad(0);
+        return Err(Departure { place: 0 });
     }
-    let i = token::number_at(s, at);
-    let session = token::up_to(MOST_NUMBER, i);
-    if (MOST_NUMBER as u64) < session {
-        return Shape::Bad(i.at);
-    }
-    let read = outcome::read_at(s, i.next);
-    match read {
-        OutcomeRead::Bad(place) => Shape::Bad(place),
-        OutcomeRead::Got { outcome, size, bad } => Shape::Good {
-            message: Message::End {
-                session: session as u32,
-                outcome,
-            },
-            end: i.next + size,
-            bad,
-            long: 0,
+    let (session, second) = opening::number_at(s, at)?;
+    let o = outcome::read_at(s, second)?;
+    Ok(Part {
+        value: Message::End {
+            session,
+            outcome: o.value,
         },
-    }
+        size: second + o.size,
+        bad: o.bad,
+        long: None,
+    })
 }

@@ -1,6 +1,8 @@
 -- Tokens and items: `split` and `join`, items that stand one after the other; what token is read of an item that stands
 -- in the bytes; and `token_heading`, which head stands where a token was read.
 -- Assumes nothing.
+use Rattle.std.specs.Prelude.{Ok, Err}
+use Rattle.cbor.specs.Head.{HeadRead, a_head}
 use mathlib.Core.Path.{◌≡◌, refl, sym, ap, ap₂, ◌∙◌, subst}
 use mathlib.Core.Logic.{◌⊎◌, inl, inr}
 use mathlib.Core.List.{List, ◌++◌, append_assoc, append-nil}
@@ -16,7 +18,6 @@ use Rattle.base.specs.Pick.{pick}
 use Rattle.base.specs.BigEndian.{Bytes}
 use Rattle.base.proofs.Picks.{pick-case, both}
 use Rattle.base.proofs.Parts.{bytes_drop}
-use Rattle.cbor.specs.declared.head.HeadRead.{HeadRead}
 use Rattle.cbor.specs.declared.token.Token.{Token}
 use Rattle.cbor.specs.Head.{head_at}
 use Rattle.cbor.specs.Tree.{Item, Items, head_bytes, Right, HeadIs, count, encode, encodes, Good}
@@ -149,7 +150,7 @@ module _ (s : List ℕ) (p : ℕ) (major width arg : ℕ) (r : List ℕ) (right 
   unfolding token_at token_from
   headed =
       ap (token_from p (length (drop p s)))
-      (ap head_at is ∙ head_read major width arg r right ∙ ap (HeadRead.Head major arg) (length_head major width arg))
+      (ap head_at is ∙ head_read major width arg r right ∙ ap (a_head major arg) (length_head major width arg))
 
   leaf_token : (major < 2) ⊎ (4 ≤ major) → token_at s p ≡ record { at = p; major = major; arg = arg; body = p + (1 + width); next = p + (1 + width) }
   unfolding token_of pick
@@ -309,16 +310,16 @@ headed_major s p major width arg r right is h =
 
 -- one that was read has its head there, where a head that is read is without fault
 read_heading : (s : List ℕ) (p : ℕ) (w : Token)
-    → ((major arg len : ℕ) → head_at (drop p s) ≡ HeadRead.Head major arg len → major ≡ w.major → arg ≡ w.arg → HeadIs (drop p s) major arg len)
+    → ((major arg len : ℕ) → head_at (drop p s) ≡ a_head major arg len → major ≡ w.major → arg ≡ w.arg → HeadIs (drop p s) major arg len)
     → w ≡ token_at s p → w.major < 8 → Heading s p w
 unfolding token_at token_from nothing_at
 read_heading s p w is = go (head_at (drop p s)) refl
   where
     go : (x : HeadRead) → head_at (drop p s) ≡ x → w ≡ token_from p (length (drop p s)) x → w.major < 8 → Heading s p w
-    go (HeadRead.Refused number place) e q h = absurd (omega (arith, h, ap (λ (v : Token). v.major) q))
-    go (HeadRead.Head major arg len) e q h =
-        let (same, same') = token_numbers p (length (drop p s)) major arg len w q h in
-        token_of_lem s p major arg len (is major arg len e same same') w q h
+    go (Err why) e q h = absurd (omega (arith, h, ap (λ (v : Token). v.major) q))
+    go (Ok head) e q h =
+        let (same, same') = token_numbers p (length (drop p s)) head.major head.arg head.len w q h in
+        token_of_lem s p head.major head.arg head.len (is head.major head.arg head.len e same same') w q h
 
 -- so of bytes,
 pub token_heading : (s : List ℕ) (p : ℕ) (w : Token) → Bytes s → w ≡ token_at s p → w.major < 8 → Heading s p w

@@ -1,6 +1,7 @@
 -- A message of the grammar is described in one way: each part stands right after the one before it, so every place
 -- follows from the start, and those of an objective from its end too, as no head has another width.
 -- Assumes nothing.
+use Rattle.cbor.specs.Head.{a_head}
 use mathlib.Core.Path.{◌≡◌, refl, sym, ap, ap₂, ◌∙◌, subst}
 use mathlib.Core.List.{List}
 use mathlib.Core.Option.{Option, none, some}
@@ -9,16 +10,16 @@ use native.Mathlib.Omega.{arith}
 use lib.ListN.{length, drop}
 use lib.Dec.{eqb}
 use borrow.Author.Tests.{eqb-true}
+use Rattle.std.specs.Prelude.{Some}
 use Rattle.base.proofs.Picks.{pick-case}
-use Rattle.cbor.specs.declared.head.HeadRead.{HeadRead}
 use Rattle.cbor.specs.Head.{head_at}
 use Rattle.cbor.specs.Tree.{Item, Items, head_bytes, count, encode}
-use Rattle.cbor.proofs.HeadExact.{length_head, head_read}
+use Rattle.cbor.proofs.HeadExact.{length_head, head_read, same_head}
 use Rattle.options.specs.declared.Span.{Span}
 use Rattle.options.specs.declared.locator.Locator.{Locator}
 use Rattle.options.specs.declared.locator.Locator.TheVariants as L
 use Rattle.options.specs.declared.objective.Objective.{Objective}
-use Rattle.options.specs.declared.pair.Tag.{Tag}
+use Rattle.options.specs.Pair.{Tag}
 use Rattle.options.specs.declared.pair.Pair as P
 use Rattle.options.specs.Text.{span_of}
 use Rattle.options.specs.Locator.{null_protocol, null_port}
@@ -28,7 +29,7 @@ use Rattle.message_laws.specs.Stands.{Stands, ArrayHead, Before, Addressed, Loca
 use Rattle.message_laws.proofs.Bridge.{stands_once}
 use Rattle.message.specs.declared.Series.{Series}
 use Rattle.message.specs.declared.Targets.{Targets}
-use Rattle.message.specs.declared.Extra.{Extra}
+use Rattle.message.specs.Fields.{Extra}
 use Rattle.options.specs.declared.outcome.Outcome.{Outcome}
 use Rattle.message.specs.declared.Message.{Message}
 use Rattle.message.specs.declared.Message.TheVariants as M
@@ -44,11 +45,11 @@ ends_once {s} {p} {e' = e'} {y = y} q a b =
 -- the head of an array ends at one place
 pub head_once : {s : List ℕ} {p p' q q' n n' : ℕ} → p ≡ p' → ArrayHead s p q n → ArrayHead s p' q' n' → q ≡ q'
 head_once {s} {p} {p'} {q} {q'} {n} {n'} e a b =
-    let first : head_at (drop p s) ≡ HeadRead.Head 4 n (length (head_bytes 4 a.width n)) =
+    let first : head_at (drop p s) ≡ a_head 4 n (length (head_bytes 4 a.width n)) =
     ap head_at a.is ∙ head_read 4 a.width n (drop q s) a.right in
-    let second : head_at (drop p' s) ≡ HeadRead.Head 4 n' (length (head_bytes 4 b.width n')) =
+    let second : head_at (drop p' s) ≡ a_head 4 n' (length (head_bytes 4 b.width n')) =
     ap head_at b.is ∙ head_read 4 b.width n' (drop q' s) b.right in
-    let same : length (head_bytes 4 a.width n) ≡ length (head_bytes 4 b.width n') = cc (ap (λ (k : ℕ). head_at (drop k s)) e) in
+    let (_, _, same) = same_head (sym first ∙ ap (λ (k : ℕ). head_at (drop k s)) e ∙ second) in
     omega (arith, a.end, b.end)
 
 -- the kind
@@ -153,7 +154,7 @@ locator_once q a b =
 
 tag_once : {s : List ℕ} {p p' : ℕ} {t t' : Tag} {loc : Option Loc} → p ≡ p' → TagIs s p t loc → TagIs s p' t' loc → t ≡ t'
 tag_once q TagIs.empty TagIs.empty = refl
-tag_once q (TagIs.at a) (TagIs.at b) = ap Tag.At (locator_once q a b)
+tag_once q (TagIs.at a) (TagIs.at b) = ap Some (locator_once q a b)
 
 -- a pair by its parts
 abbrev pair_of : Objective → Tag → P.Pair
@@ -201,7 +202,7 @@ tgts_once q (TargetsIs.divert {series = series} head lead i first) (TargetsIs.di
 -- an objective that may be left out
 extra_once : {s : List ℕ} {p p' : ℕ} {x x' : Extra} {obj : Option (Obj Value)} → ExtraIs s p x obj → ExtraIs s p' x' obj → x ≡ x'
 extra_once (ExtraIs.without e) (ExtraIs.without e') = refl
-extra_once (ExtraIs.with_one i) (ExtraIs.with_one i') = ap Extra.With (objective_ended i i')
+extra_once (ExtraIs.with_one i) (ExtraIs.with_one i') = ap Some (objective_ended i i')
 
 -- how a negotiation ends
 outcome_once : {s : List ℕ} {r r' : Outcome} {e : Outc} → OutcomeIs s r e → OutcomeIs s r' e → r ≡ r'

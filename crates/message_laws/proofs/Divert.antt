@@ -11,6 +11,14 @@ use native.Mathlib.Omega.{arith}
 use lib.ListN.{drop}
 use lib.Dec.{ltb, eqb}
 use borrow.Author.Tests.{leb-true, ltb-false, le-ltb, eqb-true, eqb-false, eq-eqb, ne_eqb}
+use Rattle.options.specs.Text.{Noted}
+use Rattle.std.specs.Prelude.{None}
+use Rattle.options.specs.Part.{departs}
+use Rattle.options.specs.Divert.{diverted}
+use Rattle.options.specs.Divert.{no_divert}
+use Rattle.options.specs.Divert.{DivertRead}
+use Rattle.options.specs.Locators.{LocatorsRead}
+use Rattle.options.specs.Locators.{ran}
 use Rattle.base.specs.Pick.{pick}
 use Rattle.base.specs.BigEndian.{Bytes}
 use Rattle.base.specs.Lists.{Every}
@@ -21,8 +29,6 @@ use Rattle.cbor.specs.Token.{token_at, items_in, up_to}
 use Rattle.cbor.specs.Tree.{Item, Items, count}
 use Rattle.cbor.proofs.Tokens.{is_array}
 use Rattle.options.specs.declared.locator.Locator.{Locator}
-use Rattle.options.specs.declared.locators.LocatorsRead.{LocatorsRead}
-use Rattle.options.specs.declared.divert.DivertRead.{DivertRead}
 use Rattle.options.specs.Locators.{locators_from, locators_in}
 use Rattle.options.specs.Divert.{divert_of, divert_led, divert_in, divert_at}
 use Rattle.rfc8990.specs.Message.{Loc}
@@ -36,7 +42,7 @@ use Rattle.message_laws.proofs.Locators.{LocatedOk, located_sound, locator_led, 
 
 -- ---- sound
 -- the divert from p to e, its locators from `at` on
-pub record DivertStands (s : List ℕ) (p e : ℕ) (first : Locator) (at many bad : ℕ) : Type 0 where
+pub record DivertStands (s : List ℕ) (p e : ℕ) (first : Locator) (at many : ℕ) (bad : Noted) : Type 0 where
   pub items : Items
   pub loc : Loc
   pub locs : List Loc
@@ -48,14 +54,14 @@ pub record DivertStands (s : List ℕ) (p e : ℕ) (first : Locator) (at many ba
   pub stand : StandAll s at e items
   pub count_is : many ≡ count items
   pub described : LocatorIs s at first loc
-  pub texts : bad ≡ 0 ↔ Every Utf8 (flat_map loc_texts (loc ∷ locs))
+  pub texts : bad ≡ None ↔ Every Utf8 (flat_map loc_texts (loc ∷ locs))
 
 -- what is read stands there
 pub data DivertSound (s : List ℕ) (p : ℕ) : DivertRead → Type 0 where
-  other : DivertSound s p DivertRead.Other
-  refused : {place : ℕ} → DivertSound s p (DivertRead.Bad place)
-  got : {first : Locator} {at many size bad : ℕ} → DivertStands s p (p + size) first at many bad
-      → DivertSound s p (DivertRead.Got first at many size bad)
+  other : DivertSound s p no_divert
+  refused : {place : ℕ} → DivertSound s p (departs place)
+  got : {first : Locator} {at many size : ℕ} {bad : Noted} → DivertStands s p (p + size) first at many bad
+      → DivertSound s p (diverted first at many size bad)
 
 module _ (s : List ℕ) (p : ℕ) (b : Bytes s) where
   abbrev P : DivertRead → Type 0
@@ -66,7 +72,7 @@ module _ (s : List ℕ) (p : ℕ) (b : Bytes s) where
       → LocatedOk s p (p + from) (suc (many - 1)) x → P (divert_of p (drop p s) many from x)
   unfolding divert_of
   of_sound many from some head lead _ LocatedOk.refused = DivertSound.refused
-  of_sound many from some head lead _ (LocatedOk.ran {left = left} h) =
+  of_sound many from some head lead _ (LocatedOk.some {left = left} h) =
       pick-case P (eqb left 0)
       (λ none. DivertSound.got
       (record {
@@ -115,19 +121,19 @@ above limit t h =
 
 -- what a locator begins is no divert
 pub locator_other : {s : List ℕ} {p e : ℕ} {x : Item} {xs : Items} {l : Loc} → StandAll s p e (Items.more x xs) → LocatorItem x l
-    → divert_at s p ≡ DivertRead.Other
+    → divert_at s p ≡ no_divert
 unfolding divert_in pick
 locator_other {s} {p} a i =
     let t = drop p s in
     let k = token_at t (token_at t 0).next in
     let (_, high) = locator_led (last (sink_first (split a).first)) i in
-    both (λ (d : DivertRead). d ≡ DivertRead.Other) (eqb (items_in (token_at t 0)) 0) refl
+    both (λ (d : DivertRead). d ≡ no_divert) (eqb (items_in (token_at t 0)) 0) refl
     (rw (ne_eqb (up_to 100 k) 100 (λ z. omega (arith, above 100 k (omega arith)))))
 
 -- a divert is read
 pub divert_read : {s : List ℕ} {p e w v : ℕ} {x : Item} {xs : Items} {l : Loc} {ls : List Loc}
     → Stands s p e (Item.array w (Items.more (uint v 100) (Items.more x xs))) → LocatorItem x l → LocatorItems xs ls
-    → (first : Locator) × (at : ℕ) × (many : ℕ) × (bad : ℕ) × (divert_at s p ≡ DivertRead.Got first at many (e - p) bad)
+    → (first : Locator) × (at : ℕ) × (many : ℕ) × (bad : Noted) × (divert_at s p ≡ diverted first at many (e - p) bad)
 unfolding divert_in divert_led divert_of locators_from count pick
 divert_read {s} {p} {e} {xs = xs} st i is =
     let t = drop p s in
@@ -138,21 +144,21 @@ divert_read {s} {p} {e} {xs = xs} st i is =
     let (first, bad, same) = located_complete s p rest i is 0 in
     let less : a.arg - 1 - 1 ≡ count xs + 0 = omega (arith, o.arg) in
     let end : e - p ≡ o.mid = none_end o.rest in
-    let all : locators_in p t k.next (a.arg - 1 - 1) ≡ LocatorsRead.Ran first o.mid 0 bad = ap (locators_in p t k.next) less ∙ same in
-    let read : divert_in p t ≡ DivertRead.Got first (p + k.next) (a.arg - 1) o.mid bad =
+    let all : locators_in p t k.next (a.arg - 1 - 1) ≡ ran first o.mid 0 bad = ap (locators_in p t k.next) less ∙ same in
+    let read : divert_in p t ≡ diverted first (p + k.next) (a.arg - 1) o.mid bad =
     rw (
       ne_eqb (items_in a) 0 (array_items a (suc (count xs)) o.major o.arg),
       eq-eqb (up_to 100 k) 100 (number_is 100 k number (omega arith) ∙ hundred),
       le-ltb a.arg 2 (omega (arith, o.arg)),
       all,
     ) in
-    (first, p + k.next, a.arg - 1, bad, subst (λ (z : ℕ). divert_in p t ≡ DivertRead.Got first (p + k.next) (a.arg - 1) z bad) (sym end) read)
+    (first, p + k.next, a.arg - 1, bad, subst (λ (z : ℕ). divert_in p t ≡ diverted first (p + k.next) (a.arg - 1) z bad) (sym end) read)
 
 -- for readers
 
 -- A divert is read exactly where an array that 100 leads, with locators after it, stands, up to its end.
 pub divert_exactly : (s : List ℕ) (p size : ℕ) → Bytes s
-    → ((first : Locator) × (at : ℕ) × (many : ℕ) × (bad : ℕ) × (divert_at s p ≡ DivertRead.Got first at many size bad))
+    → ((first : Locator) × (at : ℕ) × (many : ℕ) × (bad : Noted) × (divert_at s p ≡ diverted first at many size bad))
     ↔ ((w : ℕ) × (v : ℕ) × (xs : Items) × (l : Loc) × (ls : List Loc)
     × Stands s p (p + size) (Item.array w (Items.more (uint v 100) xs)) × LocatorItems xs (l ∷ ls))
 unfolding count
@@ -161,14 +167,14 @@ divert_exactly s p size b = (
   λ (w, v, xs, l, ls, st, are). read st are,
 )
   where
-    there : {first : Locator} {at many bad : ℕ} → DivertSound s p (DivertRead.Got first at many size bad)
+    there : {first : Locator} {at many : ℕ} {bad : Noted} → DivertSound s p (diverted first at many size bad)
         → (w : ℕ) × (v : ℕ) × (xs : Items) × (l : Loc) × (ls : List Loc)
         × Stands s p (p + size) (Item.array w (Items.more (uint v 100) xs)) × LocatorItems xs (l ∷ ls)
     there (DivertSound.got d) =
         (d.head.width, d.width, d.items, d.loc, d.locs, head_array d.head (ap suc d.count_is) (join d.lead d.stand), d.are)
 
     read : {w v : ℕ} {xs : Items} {l : Loc} {ls : List Loc} → Stands s p (p + size) (Item.array w (Items.more (uint v 100) xs)) → LocatorItems xs (l ∷ ls)
-        → (first : Locator) × (at : ℕ) × (many : ℕ) × (bad : ℕ) × (divert_at s p ≡ DivertRead.Got first at many size bad)
+        → (first : Locator) × (at : ℕ) × (many : ℕ) × (bad : Noted) × (divert_at s p ≡ diverted first at many size bad)
     read st (LocatorItems.more i is) =
         let (first, at, many, bad, same) = divert_read st i is in
         (first, at, many, bad, rw (add-sub_cancel_left p size) at same)

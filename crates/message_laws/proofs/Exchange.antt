@@ -5,11 +5,14 @@ use mathlib.Core.List.{List, [], ◌∷◌}
 use Prim.Native.Nat.{ℕ, ◌≤◌}
 use lib.ListN.{length}
 use borrow.Author.Tests.{eqb-true}
+use Rattle.options.specs.Text.{Noted}
+use Rattle.std.specs.Prelude.{Ok, Err}
+use Rattle.options.specs.Part.{Read, part}
+use Rattle.message.specs.declared.Message.{Message}
 use Rattle.base.specs.Pick.{pick}
 use Rattle.cbor.specs.Tree.{Item, count, depth}
 use Rattle.options.specs.declared.Span.{Span}
 use Rattle.options.specs.declared.objective.Objective.{Objective}
-use Rattle.options.specs.declared.objective.ObjectiveRead.{ObjectiveRead}
 use Rattle.options.specs.Objective.{objective_at}
 use Rattle.rfc8990.specs.Message.{Obj, Msg}
 use Rattle.rfc8990.specs.Cddl.{uint, list, array, Number, Initiator, ObjectiveItem, MessageItem, Value}
@@ -17,7 +20,6 @@ use Rattle.rfc8990.specs.Limits.{texts_of, names_of}
 use Rattle.message_laws.specs.Stands.{StandAll, ObjectiveIs}
 use Rattle.message_laws.proofs.Objective.{objective_sound, objective_read_lem}
 use Rattle.message_laws.proofs.Bridge.{join, last, only}
-use Rattle.message.specs.declared.shape.Shape.{Shape}
 use Rattle.message.specs.Opening.{objective_levels}
 use Rattle.message.specs.Shape.{discovered, discovery_at, exchange_of, exchanged, exchange_at}
 use Rattle.message_laws.specs.Describes.{KindIs, NumberIs, Describes}
@@ -28,14 +30,14 @@ use Rattle.message_laws.proofs.Heads.{NumberHere, InitiatorHere, number_at_most,
 -- ---- 1, Discovery
 -- the objective
 discovered_sound : {s : List ℕ} {at p q session : ℕ} {i : Span} → Kinded s 1 4 at → NumberHere s at p session → InitiatorHere s p q i
-    → (x : ObjectiveRead) → objective_at objective_levels s q ≡ x → ShapeOk s (discovered session i q x)
+    → (x : Read Objective) → objective_at objective_levels s q ≡ x → ShapeOk s (discovered session i q x)
 unfolding discovered count texts_of names_of
-discovered_sound k i j (ObjectiveRead.Bad place) e = IfGood.bad
-discovered_sound {s} {q = q} k i j (ObjectiveRead.Got o size bad long) e =
-    let x = objective_sound objective_levels s q o size bad long k.bytes e in
+discovered_sound k i j (Err d) e = IfGood.bad
+discovered_sound {s} {q = q} k i j (Ok o) e =
+    let x = objective_sound objective_levels s q o.value o.size o.bad o.long k.bytes e in
     built k _ _ (Msg.discovery _ j.content x.obj) refl (join i.is.stands (join j.is.stands (last x.stands)))
     (λ w v. MessageItem.discovery (Number.number i.low) (Initiator.initiator j.size) x.is)
-    (λ full. Describes.discovery k.is i.is j.is (subst (λ (e : ℕ). ObjectiveIs s q e o x.obj) full x.described)) (single x.texts)
+    (λ full. Describes.discovery k.is i.is j.is (subst (λ (e : ℕ). ObjectiveIs s q e o.value x.obj) full x.described)) (single x.texts)
     (single x.names)
 
 -- what is read is a Discovery
@@ -52,11 +54,11 @@ discovery_sound {s} {n} {at} k =
 
 -- an objective that stands is read
 pub objective_reads : {s : List ℕ} {p e : ℕ} {x : Item} {obj : Obj Value} → StandAll s p e (list (x ∷ [])) → depth x ≤ part_levels → ObjectiveItem x obj
-    → (f : ObjectiveRead → Shape) → ((o : Objective) (size bad long : ℕ) → Reads (f (ObjectiveRead.Got o size bad long)))
+    → (f : Read Objective → Read Message) → ((o : Objective) (size : ℕ) (bad long : Noted) → Reads (f (part o size bad long)))
     → Reads (f (objective_at objective_levels s p))
 objective_reads {s} a d i f reads =
     let (o, bad, long, same, _) = objective_read_lem objective_levels (only a) d i in
-    subst (λ (r : ObjectiveRead). Reads (f r)) (sym same) (reads o _ bad long)
+    subst (λ (r : Read Objective). Reads (f r)) (sym same) (reads o _ bad long)
 
 -- a Discovery is read
 pub discovery_complete : {s : List ℕ} {at e session : ℕ} {x y z : Item} {from : List ℕ} {obj : Obj Value} → StandAll s at e (list (x ∷ y ∷ z ∷ []))
@@ -105,14 +107,14 @@ exchange_text session obj Exchange.synch = (refl, refl)
 
 -- the objective
 exchanged_sound : {s : List ℕ} {kind at p session : ℕ} {msg : ℕ → Obj Value → Msg Value} → Exchange kind msg → Kinded s kind 3 at → NumberHere s at p session
-    → (x : ObjectiveRead) → objective_at objective_levels s p ≡ x → ShapeOk s (exchanged kind session p x)
+    → (x : Read Objective) → objective_at objective_levels s p ≡ x → ShapeOk s (exchanged kind session p x)
 unfolding exchanged count
-exchanged_sound c k i (ObjectiveRead.Bad place) e = IfGood.bad
-exchanged_sound {s} {p = p} {session} {msg} c k i (ObjectiveRead.Got o size bad long) e =
-    let x = objective_sound objective_levels s p o size bad long k.bytes e in
+exchanged_sound c k i (Err d) e = IfGood.bad
+exchanged_sound {s} {p = p} {session} {msg} c k i (Ok o) e =
+    let x = objective_sound objective_levels s p o.value o.size o.bad o.long k.bytes e in
     let (text, name) = exchange_text session x.obj c in
     built k _ _ (msg session x.obj) refl (join i.is.stands (last x.stands)) (λ w v. exchange_item c (Number.number i.low) x.is)
-    (λ full. exchange_tells c k.is i.is (subst (λ (e : ℕ). ObjectiveIs s p e o x.obj) full x.described))
+    (λ full. exchange_tells c k.is i.is (subst (λ (e : ℕ). ObjectiveIs s p e o.value x.obj) full x.described))
     (rw text (single x.texts)) (rw name (single x.names))
 
 -- what is read is a message of the kind

@@ -8,13 +8,20 @@ use Prim.Native.Nat.{ℕ, zero, suc, ◌+◌, ◌-◌, ◌≤◌}
 use native.Mathlib.Omega.{arith}
 use lib.ListN.{length}
 use borrow.Author.Tests.{ltb-false, le-ltb}
+use Rattle.options.specs.Text.{Noted}
+use Rattle.std.specs.Prelude.{None}
+use Rattle.std.specs.Prelude.{Ok, Err}
+use Rattle.options.specs.Part.{Read, departs}
+use Rattle.message.specs.Opening.{Before}
+use Rattle.options.specs.Pair.{paired}
+use Rattle.message.specs.Sequence.{PairsRead}
+use Rattle.message.specs.Sequence.{ran}
 use Rattle.base.specs.BigEndian.{Bytes}
 use Rattle.base.specs.Lists.{Every}
 use Rattle.cbor.specs.Tree.{Item, Items, count, depth, depths}
 use Rattle.options.specs.declared.objective.Objective.{Objective}
-use Rattle.options.specs.declared.pair.Tag.{Tag}
+use Rattle.options.specs.Pair.{Tag}
 use Rattle.options.specs.declared.pair.Pair as P
-use Rattle.options.specs.declared.pair.PairRead.{PairRead}
 use Rattle.options.specs.Text.{first_of}
 use Rattle.options.specs.Pair.{pair_at}
 use Rattle.rfc8990.specs.Message.{Pair, Msg}
@@ -24,8 +31,6 @@ use Rattle.message_laws.specs.Stands.{StandAll, PairStands}
 use Rattle.message_laws.proofs.Bridge.{join, none, split, stands_within}
 use Rattle.message_laws.proofs.Pair.{pair_sound, pair_read}
 use Rattle.message.specs.declared.opening.Opening.{Opening}
-use Rattle.message.specs.declared.opening.OpeningRead.{OpeningRead}
-use Rattle.message.specs.declared.sequence.PairsRead.{PairsRead}
 use Rattle.message.specs.Sequence.{pair_then, pairs_from}
 use Rattle.message.specs.Flood.{flooded_by, flooded_of, flooded_at, flood_by, flood_at}
 use Rattle.message_laws.specs.Describes.{Describes}
@@ -35,27 +40,27 @@ use Rattle.message_laws.proofs.Opening.{OpeningHere, OpeningOk, opening_sound, o
 
 -- ---- what is read stands there
 -- pairs, and what is noted of them
-record PairsHere (s : List ℕ) (p n bad long end bad' long' : ℕ) : Type 0 where
+record PairsHere (s : List ℕ) (p n : ℕ) (bad long : Noted) (end : ℕ) (bad' long' : Noted) : Type 0 where
   items : Items
   pairs : List (Pair Value)
   are : PairItems items pairs
   stand : StandAll s p end items
   counted : n ≡ count items
-  texts : bad' ≡ 0 ↔ (bad ≡ 0) × Every Utf8 (flat_map pair_texts pairs)
-  names : long' ≡ 0 ↔ (long ≡ 0) × Every Short (map pair_name pairs)
+  texts : bad' ≡ None ↔ (bad ≡ None) × Every Utf8 (flat_map pair_texts pairs)
+  names : long' ≡ None ↔ (long ≡ None) × Every Short (map pair_name pairs)
 
 -- the answer of the loop
-data PairsOk (s : List ℕ) (p n bad long : ℕ) : PairsRead → Type 0 where
-  refused : {place : ℕ} → PairsOk s p n bad long (PairsRead.Bad place)
-  ran : {end bad' long' : ℕ} → PairsHere s p n bad long end bad' long' → PairsOk s p n bad long (PairsRead.Ran end bad' long')
+data PairsOk (s : List ℕ) (p n : ℕ) (bad long : Noted) : PairsRead → Type 0 where
+  refused : {place : ℕ} → PairsOk s p n bad long (departs place)
+  some : {end : ℕ} {bad' long' : Noted} → PairsHere s p n bad long end bad' long' → PairsOk s p n bad long (ran end bad' long')
 
 -- one pair, and then others
-one_more_lem : {s : List ℕ} {p e n bad long bad' long' : ℕ} {o : Objective} {t : Tag} {r : PairsRead} → PairStands s p e o t bad' long'
+one_more_lem : {s : List ℕ} {p e n : ℕ} {bad long bad' long' : Noted} {o : Objective} {t : Tag} {r : PairsRead} → PairStands s p e o t bad' long'
     → PairsOk s e n (first_of bad bad') (first_of long long') r → PairsOk s p (suc n) bad long r
 unfolding count flat_map
 one_more_lem i PairsOk.refused = PairsOk.refused
-one_more_lem i (PairsOk.ran h) =
-    PairsOk.ran
+one_more_lem i (PairsOk.some h) =
+    PairsOk.some
     (record {
       items = Items.more i.item h.items;
       pairs = i.pair ∷ h.pairs;
@@ -68,30 +73,30 @@ one_more_lem i (PairsOk.ran h) =
 
 module _ {s : List ℕ} (b : Bytes s) where
   -- the next pair, and then others
-  next_sound : {p n bad long : ℕ} → ((p' bad' long' : ℕ) → p' ≤ length s → PairsOk s p' n bad' long' (pairs_from s n p' bad' long'))
-      → (x : PairRead) → pair_at s p ≡ x → PairsOk s p (suc n) bad long (pair_then (pairs_from s n) p bad long x)
+  next_sound : {p n : ℕ} {bad long : Noted} → ((p' : ℕ) (bad' long' : Noted) → p' ≤ length s → PairsOk s p' n bad' long' (pairs_from s n p' bad' long'))
+      → (x : Read P.Pair) → pair_at s p ≡ x → PairsOk s p (suc n) bad long (pair_then (pairs_from s n) p bad long x)
   unfolding pair_then
-  next_sound go (PairRead.Bad place) e = PairsOk.refused
-  next_sound {p} {bad = bad} {long} go (PairRead.Got o t size bad' long') e =
-      let i = pair_sound s p o t size bad' long' b e in
-      one_more_lem i (go (p + size) (first_of bad bad') (first_of long long') (stands_within i.stands))
+  next_sound go (Err d) e = PairsOk.refused
+  next_sound {p} {bad = bad} {long} go (Ok r) e =
+      let i = pair_sound s p r.value.objective r.value.tag r.size r.bad r.long b e in
+      one_more_lem i (go (p + r.size) (first_of bad r.bad) (first_of long r.long) (stands_within i.stands))
 
   -- pairs stand one after the other where they are read
-  pairs_sound : (n p bad long : ℕ) → p ≤ length s → PairsOk s p n bad long (pairs_from s n p bad long)
+  pairs_sound : (n p : ℕ) (bad long : Noted) → p ≤ length s → PairsOk s p n bad long (pairs_from s n p bad long)
   unfolding pairs_from count flat_map
   pairs_sound zero p bad long low =
-      PairsOk.ran (record { items = Items.done; pairs = []; are = PairItems.empty; stand = none low; counted = refl; texts = none_noted; names = none_noted })
+      PairsOk.some (record { items = Items.done; pairs = []; are = PairItems.empty; stand = none low; counted = refl; texts = none_noted; names = none_noted })
   pairs_sound (suc n) p bad long low = next_sound (pairs_sound n) _ refl
 
 module _ {s : List ℕ} {n at next : ℕ} (k : Kinded s 9 n at) {opening : Opening} (h : OpeningHere s at next opening) {parts : ℕ} (counted : n ≡ 4 + parts)
     (some : 1 ≤ parts) where
   -- the first pair and the others are the message
-  flooded_by_sound : {e bad long : ℕ} {first : P.Pair} → PairStands s next e first.objective first.tag bad long → (x : PairsRead)
+  flooded_by_sound : {e : ℕ} {bad long : Noted} {first : P.Pair} → PairStands s next e first.objective first.tag bad long → (x : PairsRead)
       → PairsOk s e (parts - 1) bad long x
       → ShapeOk s (flooded_by opening first (record { at = next; many = parts }) x)
   unfolding flooded_by count texts_of names_of flat_map
   flooded_by_sound i _ PairsOk.refused = IfGood.bad
-  flooded_by_sound i _ (PairsOk.ran r) =
+  flooded_by_sound i _ (PairsOk.some r) =
       let pairs = PairItems.more i.is r.are in
       let stand = join i.stands r.stand in
       built k _ _ (Msg.flood _ h.initiator.content _ (i.pair ∷ r.pairs)) (omega (arith, r.counted))
@@ -108,15 +113,15 @@ module _ {s : List ℕ} {n at next : ℕ} (k : Kinded s 9 n at) {opening : Openi
       (then_noted Short (i.pair.0.name ∷ []) (map pair_name r.pairs) (single i.names) r.names)
 
   -- the first pair
-  flooded_of_sound : (x : PairRead) → pair_at s next ≡ x → ShapeOk s (flooded_of s opening parts next x)
+  flooded_of_sound : (x : Read P.Pair) → pair_at s next ≡ x → ShapeOk s (flooded_of s opening parts next x)
   unfolding flooded_of
-  flooded_of_sound (PairRead.Bad place) e = IfGood.bad
-  flooded_of_sound (PairRead.Got o t size bad long) e =
-      let i = pair_sound s next o t size bad long k.bytes e in
-      flooded_by_sound i _ (pairs_sound k.bytes (parts - 1) (next + size) bad long (stands_within i.stands))
+  flooded_of_sound (Err d) e = IfGood.bad
+  flooded_of_sound (Ok r) e =
+      let i = pair_sound s next r.value.objective r.value.tag r.size r.bad r.long k.bytes e in
+      flooded_by_sound i _ (pairs_sound k.bytes (parts - 1) (next + r.size) r.bad r.long (stands_within i.stands))
 
 -- after the opening
-flood_by_sound : {s : List ℕ} {n at : ℕ} → Kinded s 9 n at → 5 ≤ n → (x : OpeningRead) → OpeningOk s at x → ShapeOk s (flood_by s n x)
+flood_by_sound : {s : List ℕ} {n at : ℕ} → Kinded s 9 n at → 5 ≤ n → (x : Before Opening) → OpeningOk s at x → ShapeOk s (flood_by s n x)
 unfolding flood_by flooded_at
 flood_by_sound k five _ OpeningOk.bad = IfGood.bad
 flood_by_sound k five _ (OpeningOk.got h) = flooded_of_sound k h (omega arith) (omega arith) _ refl
@@ -128,18 +133,19 @@ flood_sound {n = n} k = past_case _ (λ e. flood_by_sound k (ltb-false n 5 e) _ 
 
 -- ---- what stands there is read
 -- pairs are read, whatever is noted
-abbrev Run : List ℕ → ℕ → ℕ → ℕ → ℕ → Type 0
-Run s n p bad long = (end : ℕ) × (bad' : ℕ) × (long' : ℕ) × (pairs_from s n p bad long ≡ PairsRead.Ran end bad' long')
+abbrev Run : List ℕ → ℕ → ℕ → Noted → Noted → Type 0
+Run s n p bad long = (end : ℕ) × (bad' : Noted) × (long' : Noted) × (pairs_from s n p bad long ≡ ran end bad' long')
 
 -- one pair is passed, and then others
-passed : (s : List ℕ) (p n bad long : ℕ) {size m bad' long' : ℕ} {o : Objective} {t : Tag} → pair_at s p ≡ PairRead.Got o t size bad' long' → p + size ≡ m
+passed : (s : List ℕ) (p n : ℕ) (bad long : Noted) {size m : ℕ} {bad' long' : Noted} {o : Objective} {t : Tag} → pair_at s p ≡ paired o t size bad' long'
+    → p + size ≡ m
     → Run s n m (first_of bad bad') (first_of long long') → Run s (suc n) p bad long
 unfolding pairs_from pair_then
 passed s p n bad long e step (end, bad'', long'', rest) = (end, bad'', long'', rw (e, step) rest)
 
 -- pairs that stand one after the other are read
 pairs_complete : {s : List ℕ} {p e : ℕ} {xs : Items} {ps : List (Pair Value)} → StandAll s p e xs → depths xs ≤ part_levels → PairItems xs ps
-    → (bad long : ℕ) → Run s (count xs) p bad long
+    → (bad long : Noted) → Run s (count xs) p bad long
 unfolding count depth pairs_from
 pairs_complete {p = p} a d PairItems.empty bad long = (p, bad, long, refl)
 pairs_complete {s} {p} a d (PairItems.more {xs = xs} i is) bad long =
@@ -149,8 +155,8 @@ pairs_complete {s} {p} a d (PairItems.more {xs = xs} i is) bad long =
     (pairs_complete {p = (split a).mid} c.rest (omega arith) is (first_of bad bad') (first_of long long'))
 
 -- the first pair, and then others
-first_passed : (s : List ℕ) (p parts : ℕ) (opening : Opening) {n m size bad long : ℕ} {o : Objective} {t : Tag} → parts - 1 ≡ n → p + size ≡ m
-    → pair_at s p ≡ PairRead.Got o t size bad long → Run s n m bad long → Reads (flooded_at s opening parts p)
+first_passed : (s : List ℕ) (p parts : ℕ) (opening : Opening) {n m size : ℕ} {bad long : Noted} {o : Objective} {t : Tag} → parts - 1 ≡ n → p + size ≡ m
+    → pair_at s p ≡ paired o t size bad long → Run s n m bad long → Reads (flooded_at s opening parts p)
 unfolding flooded_at flooded_of flooded_by
 first_passed s p parts opening less step e (end, bad', long', rest) = rw (e, less, step, rest) Reads.reads
 
@@ -177,4 +183,4 @@ unfolding flood_at flood_by
 flood_complete {s} {n} a i j k is d counted =
     let (o, next, same, b) = opening_complete a i j k in
     skipped _ (le-ltb n 5 (omega (arith, some_pairs is)))
-    (subst (λ (r : OpeningRead). Reads (flood_by s n r)) (sym same) (flooded_complete o b d (omega arith) is))
+    (subst (λ (r : Before Opening). Reads (flood_by s n r)) (sym same) (flooded_complete o b d (omega arith) is))

@@ -9,6 +9,10 @@ use Prim.Native.Nat.{ℕ, ◌+◌, ◌-◌, ◌≤◌}
 use native.Mathlib.Omega.{arith}
 use lib.ListN.{length, take, drop}
 use lib.Seq.{take_at}
+use Rattle.options.specs.Text.{Noted}
+use Rattle.std.specs.Prelude.{Ok}
+use Rattle.options.specs.declared.Part.{Part}
+use Rattle.options.specs.Pair.{paired}
 use Rattle.base.specs.BigEndian.{Bytes}
 use Rattle.cbor.specs.Item.{left_under}
 use Rattle.cbor.specs.Tree.{Item, Items, encode, depth, depths}
@@ -16,9 +20,7 @@ use Rattle.options.specs.declared.Span.{Span}
 use Rattle.options.specs.declared.outcome.Outcome.{Outcome}
 use Rattle.options.specs.declared.locator.Locator.{Locator}
 use Rattle.options.specs.declared.objective.Objective.{Objective}
-use Rattle.options.specs.declared.locator.LocatorRead.{LocatorRead}
-use Rattle.options.specs.declared.pair.Tag.{Tag}
-use Rattle.options.specs.declared.pair.PairRead.{PairRead}
+use Rattle.options.specs.Pair.{Tag}
 use Rattle.options.specs.Locator.{locator_at}
 use Rattle.options.specs.Pair.{pair_at}
 use Rattle.options.specs.Text.{span_of}
@@ -27,7 +29,7 @@ use Rattle.rfc8990.specs.Cddl.{LocatorItem, LocatorItems, PairItem, PairItems, O
 use Rattle.rfc8990.specs.Accepted.{IsMessage}
 use Rattle.message.specs.declared.Series.{Series}
 use Rattle.message.specs.declared.Targets.{Targets}
-use Rattle.message.specs.declared.Extra.{Extra}
+use Rattle.message.specs.Fields.{Extra}
 use Rattle.message.specs.declared.Message.{Message}
 use Rattle.message_laws.specs.Stands.{Stands, StandAll, Before, Addressed, LocatorIs, TagIs, ValueIs, ObjectiveIs, PairIs}
 use Rattle.message_laws.specs.Describes.{InitiatorIs, SeriesIs, TargetsIs, ExtraIs, OutcomeIs, Describes}
@@ -194,14 +196,14 @@ pub described_holds : {s : List ℕ} {m : Message} (i : IsMessage s) → Describ
 described_holds i d = kind_holds d i.is i.one.shallow (stands i.one)
 
 -- A locator that is read at a place of any bytes is an item that stands there, and holds that locator's address or text.
-pub locator_read_holds : (s : List ℕ) (at : ℕ) {l : Locator} {size bad : ℕ} → Bytes s → locator_at s at ≡ LocatorRead.Got l size bad
-    → (x : Item) × (loc : Loc) × SpanHolds s (span_of at size) (encode x) × LocatorItem x loc × LocatorHolds s l loc
-locator_read_holds s at {l} {size} {bad} b q =
-    let i = locator_sound s at l size bad b q in
+pub locator_read_holds : (s : List ℕ) (at : ℕ) {l : Part Locator} → Bytes s → locator_at s at ≡ Ok l
+    → (x : Item) × (loc : Loc) × SpanHolds s (span_of at l.size) (encode x) × LocatorItem x loc × LocatorHolds s l.value loc
+locator_read_holds s at {l} b q =
+    let i = locator_sound s at l b q in
     (i.item, i.loc, item_holds i.stands, i.is, locator_holds i.described)
 
 -- And so is a pair, with its objective's name and value, and with its locator if it has one.
-pub pair_read_holds : (s : List ℕ) (at : ℕ) {o : Objective} {t : Tag} {size bad long : ℕ} → Bytes s → pair_at s at ≡ PairRead.Got o t size bad long
+pub pair_read_holds : (s : List ℕ) (at : ℕ) {o : Objective} {t : Tag} {size : ℕ} {bad long : Noted} → Bytes s → pair_at s at ≡ paired o t size bad long
     → (x : Item) × (pair : Pair Value) × SpanHolds s (span_of at size) (encode x) × PairItem x pair × PairHolds s o t pair
 pair_read_holds s at {o} {t} {size} {bad} {long} b q =
     let i = pair_sound s at o t size bad long b q in

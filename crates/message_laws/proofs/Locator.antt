@@ -12,6 +12,12 @@ use native.Mathlib.Omega.{arith}
 use lib.ListN.{length, drop}
 use lib.Dec.{ltb, eqb}
 use borrow.Author.Tests.{le-ltb, ltb-false, eqb-true, eqb-false, eq-eqb, ne_eqb}
+use Rattle.options.specs.Text.{Noted}
+use Rattle.std.specs.Prelude.{None}
+use Rattle.std.specs.Prelude.{Some, Ok, Err}
+use Rattle.options.specs.declared.Part.{Part}
+use Rattle.options.proofs.Needed.{needed_case}
+use Rattle.options.specs.Part.{Read, part, needed}
 use Rattle.base.specs.Pick.{pick}
 use Rattle.base.specs.BigEndian.{Bytes}
 use Rattle.base.proofs.Picks.{pick-case}
@@ -21,7 +27,6 @@ use Rattle.cbor.specs.Tree.{Item, count}
 use Rattle.cbor.specs.Token.{token_at, items_in, up_to}
 use Rattle.cbor.proofs.Tokens.{token_is, is_array}
 use Rattle.options.specs.declared.locator.Locator.{Locator}
-use Rattle.options.specs.declared.locator.LocatorRead.{LocatorRead}
 use Rattle.options.specs.Text.{content_in}
 use Rattle.options.specs.Locator.{address_fits, protocol_of, port_of, locator_of, text_of, locator_in, locator_reached, locator_at}
 use Rattle.rfc8990.specs.Message.{Loc}
@@ -53,9 +58,9 @@ located {base = base} {q} {r} {e} body pn qn address opened lead string end =
     }
 
 -- ---- sound
-abbrev Sound : List ℕ → ℕ → LocatorRead → Type 0
-Sound m base (LocatorRead.Bad place) = Unit {0}
-Sound m base (LocatorRead.Got l size bad) = LocatorStands m base (base + size) l bad
+abbrev Sound : List ℕ → ℕ → Read Locator → Type 0
+Sound m base (Err e) = Unit {0}
+Sound m base (Ok l) = LocatorStands m base (base + l.size) l.value l.bad
 
 sound : (m : List ℕ) (base : ℕ) → Bytes m → Sound m base (locator_at m base)
 unfolding locator_in locator_reached count
@@ -65,10 +70,10 @@ sound m base by =
     (λ t₂. pick-case P (ltb 106 kind) (λ _. tt)
     (λ t₃. pick-case P (eqb a.arg 4)
     (λ t₄. pick-case P (address_fits kind b)
-    (λ t₅. pick-case P (eqb (protocol_of kind p) 255) (λ _. tt)
-    (λ t₆. pick-case P (eqb (port_of kind q) 65537) (λ _. tt)
-    (λ t₇. got (is_array a (eqb-false (items_in a) 0 t₁)) (eqb-true a.arg 4 t₄)
-    (address_here b kind (ltb-false kind 103 t₂) (ltb-false 106 kind t₃) t₅) (eqb-false (protocol_of kind p) 255 t₆) (eqb-false (port_of kind q) 65537 t₇))))
+    (λ t₅. needed_case P (protocol_of kind p) tt
+    (λ pn t₆. needed_case P (port_of kind q) tt
+    (λ qn t₇. got (is_array a (eqb-false (items_in a) 0 t₁)) (eqb-true a.arg 4 t₄)
+    (address_here b kind (ltb-false kind 103 t₂) (ltb-false 106 kind t₃) t₅) pn qn t₆ t₇)))
     (λ _. tt))
     (λ _. tt))))
   where
@@ -93,21 +98,20 @@ sound m base by =
     kind : ℕ
     kind = up_to 106 k
 
-    P : LocatorRead → Type 0
+    P : Read Locator → Type 0
     P = Sound m base
 
     bytes : Bytes s
     bytes = bytes_drop base m by
 
-    got : a.major ≡ 4 → a.arg ≡ 4 → AddressIs kind b → (protocol_of kind p ≡ 255 → ⊥) → (port_of kind q ≡ 65537 → ⊥)
-        → P (LocatorRead.Got (locator_of kind (base + b.body) (b.next - b.body) (protocol_of kind p) (port_of kind q)) q.next
-        (text_of kind (content_in s b) (base + b.at)))
-    got array four fits some-protocol some-port =
+    got : a.major ≡ 4 → a.arg ≡ 4 → AddressIs kind b → (pn qn : ℕ) → protocol_of kind p ≡ Some pn → port_of kind q ≡ Some qn
+        → P (part (locator_of kind (base + b.body) (b.next - b.body) pn qn) q.next (text_of kind (content_in s b) (base + b.at)) None)
+    got array four fits pn qn some-protocol some-port =
         let ha = token_heading s 0 a bytes refl (omega arith) in
         let hb = token_heading s k.next b bytes refl (omega (arith, fits.major, string_major fits.text)) in
         let (string, long) = text_at hb fits.text fits.major (content_bytes s b bytes) in
-        let protocol = protocol_here s b.next p refl kind some-protocol in
-        let port = port_here s p.next q refl bytes kind some-port in
+        let protocol = protocol_here s b.next p refl kind pn some-protocol in
+        let port = port_here s p.next q refl bytes kind qn some-port in
         let address = fits.is (content_in s b) long in
         let (_, hi, _) = address_reads address b fits.major (sym long) in
         let lead = number_here 106 k bytes refl hi in
@@ -118,29 +122,29 @@ sound m base by =
           stands = lift_first (array_at ha array four (join lead.stands (join string.stands (join protocol.stands (last port.stands)))));
           is = shape_item address protocol.is port.is;
           described =
-              located b.body (protocol_of kind p) (port_of kind q) address (subst (ArrayHead s 0 a.next) four (array_head ha array)) lead.stands
+              located b.body pn qn address (subst (ArrayHead s 0 a.next) four (array_head ha array)) lead.stands
               string.stands
               (omega (arith, text_size hb fits.text fits.major, long, (token_is s k.next b refl).start));
-          texts = shape_texts (protocol_of kind p) (port_of kind q) (base + b.at) far address;
+          texts = shape_texts pn qn (base + b.at) far address;
         }
 
 -- what is read stands there
-pub locator_sound : (m : List ℕ) (base : ℕ) (l : Locator) (size bad : ℕ) → Bytes m → locator_at m base ≡ LocatorRead.Got l size bad
-    → LocatorStands m base (base + size) l bad
-locator_sound m base l size bad by q = subst (Sound m base) q (sound m base by)
+pub locator_sound : (m : List ℕ) (base : ℕ) (l : Part Locator) → Bytes m → locator_at m base ≡ Ok l
+    → LocatorStands m base (base + l.size) l.value l.bad
+locator_sound m base l by q = subst (Sound m base) q (sound m base by)
 
 -- ---- read
 -- the reader's tests, over plain tokens
 accept : (base : ℕ) (s : List ℕ) (a k b p q : Token) (kind pn qn : ℕ) → a ≡ token_at s 0 → k ≡ token_at s a.next → b ≡ token_at s k.next
-    → p ≡ token_at s b.next → q ≡ token_at s p.next → up_to 106 k ≡ kind → protocol_of kind p ≡ pn → port_of kind q ≡ qn
-    → (items_in a ≡ 0 → ⊥) → 103 ≤ kind → kind ≤ 106 → a.arg ≡ 4 → address_fits kind b ≡ true → (pn ≡ 255 → ⊥) → (qn ≡ 65537 → ⊥)
-    → locator_in base s ≡ LocatorRead.Got (locator_of kind (base + b.body) (b.next - b.body) pn qn) q.next (text_of kind (content_in s b) (base + b.at))
-unfolding locator_in locator_reached pick
-accept base s a k b p q kind pn qn ea ek eb ep eq e₁ e₂ e₃ t₁ t₂ t₃ t₄ t₅ t₆ t₇ =
-    rw (← ea, ← ek, ← eb, ← ep, ← eq, e₁, e₂, e₃, ne_eqb _ _ t₁, le-ltb _ _ t₂, le-ltb _ _ t₃, eq-eqb _ _ t₄, t₅, ne_eqb _ _ t₆, ne_eqb _ _ t₇)
+    → p ≡ token_at s b.next → q ≡ token_at s p.next → up_to 106 k ≡ kind → protocol_of kind p ≡ Some pn → port_of kind q ≡ Some qn
+    → (items_in a ≡ 0 → ⊥) → 103 ≤ kind → kind ≤ 106 → a.arg ≡ 4 → address_fits kind b ≡ true
+    → locator_in base s ≡ part (locator_of kind (base + b.body) (b.next - b.body) pn qn) q.next (text_of kind (content_in s b) (base + b.at)) None
+unfolding locator_in locator_reached needed pick
+accept base s a k b p q kind pn qn ea ek eb ep eq e₁ e₂ e₃ t₁ t₂ t₃ t₄ t₅ =
+    rw (← ea, ← ek, ← eb, ← ep, ← eq, e₁, ne_eqb _ _ t₁, le-ltb _ _ t₂, le-ltb _ _ t₃, eq-eqb _ _ t₄, t₅, e₂, e₃)
 
 reads : {m : List ℕ} {base e : ℕ} {x : Item} → Stands m base e x → Shape x
-    → (l : Locator) × (bad : ℕ) × (loc : Loc) × (locator_at m base ≡ LocatorRead.Got l (e - base) bad) × LocatorItem x loc × LocatorIs m base l loc
+    → (l : Locator) × (bad : Noted) × (loc : Loc) × (locator_at m base ≡ part l (e - base) bad None) × LocatorItem x loc × LocatorIs m base l loc
 unfolding count
 reads {m} {base} {e} st (Shape.shape {kind = kind} {t} {a} {pn = pn} {qn} address protocol port) =
     let s : List ℕ = drop base m in
@@ -151,11 +155,11 @@ reads {m} {base} {e} st (Shape.shape {kind = kind} {t} {a} {pn = pn} {qn} addres
     let string = text_token c₂.first in
     let b : Token = record { at = c₁.mid; major = cond t 3 2; arg = length a; body = string.body; next = c₂.mid } in
     let (lo, hi, fits) = address_reads address b refl refl in
-    let ((is-protocol, p-next), some-protocol) = protocol_reads protocol c₃.first in
-    let ((is-port, q-next), some-port) = port_reads port (only c₃.rest) in
+    let (is-protocol, p-next) = protocol_reads protocol c₃.first in
+    let (is-port, q-next) = port_reads port (only c₃.rest) in
     let read =
     accept base s _ _ b (token_at s c₂.mid) (token_at s c₃.mid) kind pn qn (sym top.token) (sym (number_token c₁.first)) (sym string.token) refl
-    (ap (token_at s) (sym p-next)) (number_is 106 _ refl hi) is-protocol is-port (array_items _ 3 refl refl) lo hi refl fits some-protocol some-port in (
+    (ap (token_at s) (sym p-next)) (number_is 106 _ refl hi) is-protocol is-port (array_items _ 3 refl refl) lo hi refl fits in (
       locator_of kind (base + b.body) (b.next - b.body) pn qn,
       text_of kind (content_in s b) (base + b.at),
       loc_with address pn qn,
@@ -166,7 +170,7 @@ reads {m} {base} {e} st (Shape.shape {kind = kind} {t} {a} {pn = pn} {qn} addres
 
 -- an item that is a locator is read, and as the locator that it is
 pub locator_read : {m : List ℕ} {base e : ℕ} {x : Item} {loc : Loc} → Stands m base e x → LocatorItem x loc
-    → (l : Locator) × (bad : ℕ) × (locator_at m base ≡ LocatorRead.Got l (e - base) bad) × LocatorIs m base l loc
+    → (l : Locator) × (bad : Noted) × (locator_at m base ≡ part l (e - base) bad None) × LocatorIs m base l loc
 locator_read {m} {base} st is =
     let (l, bad, _, read, i, described) = reads st (shape_of is) in
     (l, bad, read, subst (LocatorIs m base l) (locator_one i is) described)
@@ -175,9 +179,9 @@ locator_read {m} {base} st is =
 
 -- A locator is read exactly where an item that is one stands, up to its end.
 pub locator_exactly : (m : List ℕ) (base size : ℕ) → Bytes m
-    → ((l : Locator) × (bad : ℕ) × (locator_at m base ≡ LocatorRead.Got l size bad))
+    → ((l : Locator) × (bad : Noted) × (locator_at m base ≡ part l size bad None))
     ↔ ((x : Item) × (loc : Loc) × Stands m base (base + size) x × LocatorItem x loc)
 locator_exactly m base size by = (
-  λ (l, bad, q). let i = locator_sound m base l size bad by q in (i.item, i.loc, i.stands, i.is),
+  λ (l, bad, q). let i = locator_sound m base _ by q in (i.item, i.loc, i.stands, i.is),
   λ (x, loc, st, is). let (l, bad, read, _) = locator_read st is in (l, bad, rw (add-sub_cancel_left base size) at read),
 )

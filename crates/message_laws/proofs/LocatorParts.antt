@@ -5,7 +5,8 @@ use mathlib.Core.Path.{◌≡◌, refl, sym, ap, ap₂, ◌∙◌, subst}
 use mathlib.Core.Logic.{◌↔◌}
 use mathlib.Core.List.{List, [], ◌∷◌}
 use mathlib.Core.Bool.{Bool, true, false, cond, ◌&&◌}
-use mathlib.Core.Option.{Option}
+use mathlib.Core.Option as O
+use Rattle.std.specs.Prelude.{Option, Some, None}
 use Prim.Native.Nat.{ℕ, ◌+◌, ◌-◌, ◌^◌, ◌≤◌, ◌<◌}
 use native.Mathlib.Omega.{arith}
 use lib.ListN.{length}
@@ -48,7 +49,7 @@ pub data Shape : Item → Type 0 where
   shape : {w k u kind : ℕ} {t : Bool} {a : List ℕ} {x y : Item} {pn qn : ℕ} → Address kind t a → OfKind Protocol 0 kind x pn → OfKind Port 65536 kind y qn
       → Shape (array w (uint k kind ∷ Item.string t u a ∷ x ∷ y ∷ []))
 
-of_uri : {P : Item → ℕ → Type 0} (for_null : ℕ) {x : Item} {n : Option ℕ} → OrNull P x n → (k : ℕ) × OfKind P for_null 106 x k
+of_uri : {P : Item → ℕ → Type 0} (for_null : ℕ) {x : Item} {n : O.Option ℕ} → OrNull P x n → (k : ℕ) × OfKind P for_null 106 x k
 of_uri for_null OrNull.is_null = (for_null, OfKind.missing refl)
 of_uri for_null (OrNull.is i) = (_, OfKind.given i)
 
@@ -101,11 +102,11 @@ shape_addressed at len p pn qn place size Address.domain = Addressed.domain (ap�
 shape_addressed at len p pn qn place size Address.uri = Addressed.uri (ap₂ span_of place size) refl refl
 
 -- its bad text, which an address of bytes never is
-one_text : (text : List ℕ) (place : ℕ) → (place ≡ 0 → ⊥) → bad_text text place ≡ 0 ↔ Every Utf8 (text ∷ [])
+one_text : (text : List ℕ) (place : ℕ) → (place ≡ 0 → ⊥) → bad_text text place ≡ None ↔ Every Utf8 (text ∷ [])
 one_text text place far = let (there, back) = bad_text_lem text place far in (λ z. (there z, tt), λ h. back h.0)
 
 pub shape_texts : (pn qn place : ℕ) {kind : ℕ} {t : Bool} {text : List ℕ} → (place ≡ 0 → ⊥) → (address : Address kind t text)
-    → text_of kind text place ≡ 0 ↔ Every Utf8 (loc_texts (loc_with address pn qn))
+    → text_of kind text place ≡ None ↔ Every Utf8 (loc_texts (loc_with address pn qn))
 unfolding loc_texts loc_with text_of pick
 shape_texts pn qn place far (Address.v6 long) = (λ _. tt, λ _. refl)
 shape_texts pn qn place far (Address.v4 long) = (λ _. tt, λ _. refl)
@@ -142,40 +143,46 @@ module _ (s : List ℕ) (p : ℕ) (w : Token) (read : w ≡ token_at s p) where
   null_of P for_null kind e z = record { item = null; stands = null_here z; is = OfKind.missing (eqb-true kind 106 e) }
 
   -- a protocol that was read
-  pub protocol_here : (kind : ℕ) → (protocol_of kind w ≡ 255 → ⊥) → Here s p w.next Protocol 0 kind (protocol_of kind w)
+  pub protocol_here : (kind n : ℕ) → protocol_of kind w ≡ Some n → Here s p w.next Protocol 0 kind n
   unfolding protocol_of
-  protocol_here kind =
+  protocol_here kind n =
       pick-case by (eqb w.major 0)
       (λ e. pick-case by (eqb w.arg 6)
-      (λ f _. number_of (small e (omega (arith, eqb-true w.arg 6 f))) Protocol 0 kind 6 e (eqb-true w.arg 6 f) (λ k. Protocol.tcp))
+      (λ f. some (number_of (small e (omega (arith, eqb-true w.arg 6 f))) Protocol 0 kind 6 e (eqb-true w.arg 6 f) (λ k. Protocol.tcp)))
       (λ _. pick-case by (eqb w.arg 17)
-      (λ f _. number_of (small e (omega (arith, eqb-true w.arg 17 f))) Protocol 0 kind 17 e (eqb-true w.arg 17 f) (λ k. Protocol.udp))
+      (λ f. some (number_of (small e (omega (arith, eqb-true w.arg 17 f))) Protocol 0 kind 17 e (eqb-true w.arg 17 f) (λ k. Protocol.udp)))
       (λ _. nothing)))
-      (λ _. pick-case by (eqb kind 106) (λ e. pick-case by (is_null w) (λ z _. null_of Protocol 0 kind e z) (λ _. nothing)) (λ _. nothing))
+      (λ _. pick-case by (eqb kind 106) (λ e. pick-case by (is_null w) (λ z. some (null_of Protocol 0 kind e z)) (λ _. nothing)) (λ _. nothing))
     where
-      by : ℕ → Type 0
-      by n = (n ≡ 255 → ⊥) → Here s p w.next Protocol 0 kind n
+      by : Option ℕ → Type 0
+      by o = o ≡ Some n → Here s p w.next Protocol 0 kind n
 
-      nothing : by 255
-      nothing other = absurd (other refl)
+      some : {m : ℕ} → Here s p w.next Protocol 0 kind m → by (Some m)
+      some {m} h q = let same : m ≡ n = cc in subst (Here s p w.next Protocol 0 kind) same h
+
+      nothing : by None
+      nothing q = absurd (cc)
 
       small : eqb w.major 0 ≡ true → w.arg < 2 ^ 8 → Heading s p w
       small e low = small_heading s p w read (omega (arith, eqb-true w.major 0 e)) low
 
   -- a port that was read
-  pub port_here : Bytes s → (kind : ℕ) → (port_of kind w ≡ 65537 → ⊥) → Here s p w.next Port 65536 kind (port_of kind w)
+  pub port_here : Bytes s → (kind n : ℕ) → port_of kind w ≡ Some n → Here s p w.next Port 65536 kind n
   unfolding port_of
-  port_here bytes kind =
+  port_here bytes kind n =
       pick-case by (eqb w.major 0)
-      (λ e. pick-case by (leb w.arg 65535) (λ f _. number_of (token_heading s p w bytes read (omega (arith, eqb-true w.major 0 e))) Port 65536 kind
-      w.arg e refl (λ k. Port.port (leb-true w.arg 65535 f))) (λ _. nothing))
-      (λ _. pick-case by (eqb kind 106) (λ e. pick-case by (is_null w) (λ z _. null_of Port 65536 kind e z) (λ _. nothing)) (λ _. nothing))
+      (λ e. pick-case by (leb w.arg 65535) (λ f. some (number_of (token_heading s p w bytes read (omega (arith, eqb-true w.major 0 e))) Port 65536 kind
+      w.arg e refl (λ k. Port.port (leb-true w.arg 65535 f)))) (λ _. nothing))
+      (λ _. pick-case by (eqb kind 106) (λ e. pick-case by (is_null w) (λ z. some (null_of Port 65536 kind e z)) (λ _. nothing)) (λ _. nothing))
     where
-      by : ℕ → Type 0
-      by n = (n ≡ 65537 → ⊥) → Here s p w.next Port 65536 kind n
+      by : Option ℕ → Type 0
+      by o = o ≡ Some n → Here s p w.next Port 65536 kind n
 
-      nothing : by 65537
-      nothing other = absurd (other refl)
+      some : {m : ℕ} → Here s p w.next Port 65536 kind m → by (Some m)
+      some {m} h q = let same : m ≡ n = cc in subst (Here s p w.next Port 65536 kind) same h
+
+      nothing : by None
+      nothing q = absurd (cc)
 
 -- an address that fits its kind
 pub record AddressIs (kind : ℕ) (w : Token) : Type 0 where
@@ -217,29 +224,30 @@ unfolding is_null
 is_null_token p = eq-eqb (p + 1 - p) 1 (omega arith)
 
 -- a token's number, and where the next one stands
-abbrev Reads : (Token → ℕ) → List ℕ → ℕ → ℕ → ℕ → Type 0
-Reads f s p e n = (f (token_at s p) ≡ n) × ((token_at s p).next ≡ e)
+abbrev Reads : (Token → Option ℕ) → List ℕ → ℕ → ℕ → ℕ → Type 0
+Reads f s p e n = (f (token_at s p) ≡ Some n) × ((token_at s p).next ≡ e)
 
 module _ {s : List ℕ} {p e : ℕ} where
-  number_reads : (f : Token → ℕ) (n : ℕ) {w k : ℕ} → Stands s p e (uint w k) → f (record { at = p; major = 0; arg = k; body = e; next = e }) ≡ n
+  number_reads : (f : Token → Option ℕ) (n : ℕ) {w k : ℕ} → Stands s p e (uint w k) → f (record { at = p; major = 0; arg = k; body = e; next = e }) ≡ Some n
       → Reads f s p e n
   number_reads f n a same = (ap f (number_token a) ∙ same, ap (λ (v : Token). v.next) (number_token a))
 
-  null_reads : (f : Token → ℕ) (n : ℕ) → Stands s p e null → f (record { at = p; major = 7; arg = 22; body = p + 1; next = p + 1 }) ≡ n → Reads f s p e n
+  null_reads : (f : Token → Option ℕ) (n : ℕ) → Stands s p e null → f (record { at = p; major = 7; arg = 22; body = p + 1; next = p + 1 }) ≡ Some n
+      → Reads f s p e n
   null_reads f n a same = let (token, end) = null_token a in (ap f token ∙ same, ap (λ (v : Token). v.next) token ∙ sym end)
 
   -- a protocol that stands there
-  pub protocol_reads : {kind n : ℕ} {x : Item} → OfKind Protocol 0 kind x n → Stands s p e x → Reads (protocol_of kind) s p e n × (n ≡ 255 → ⊥)
+  pub protocol_reads : {kind n : ℕ} {x : Item} → OfKind Protocol 0 kind x n → Stands s p e x → Reads (protocol_of kind) s p e n
   unfolding protocol_of pick
-  protocol_reads {kind} (OfKind.given Protocol.tcp) a = (number_reads (protocol_of kind) 6 a refl, λ z. omega arith)
-  protocol_reads {kind} (OfKind.given Protocol.udp) a = (number_reads (protocol_of kind) 17 a refl, λ z. omega arith)
-  protocol_reads {kind} (OfKind.missing is-uri) a = (null_reads (protocol_of kind) 0 a (rw (eq-eqb kind 106 is-uri, is_null_token p)), λ z. omega arith)
+  protocol_reads {kind} (OfKind.given Protocol.tcp) a = number_reads (protocol_of kind) 6 a refl
+  protocol_reads {kind} (OfKind.given Protocol.udp) a = number_reads (protocol_of kind) 17 a refl
+  protocol_reads {kind} (OfKind.missing is-uri) a = null_reads (protocol_of kind) 0 a (rw (eq-eqb kind 106 is-uri, is_null_token p))
 
   -- a port that stands there
-  pub port_reads : {kind n : ℕ} {x : Item} → OfKind Port 65536 kind x n → Stands s p e x → Reads (port_of kind) s p e n × (n ≡ 65537 → ⊥)
+  pub port_reads : {kind n : ℕ} {x : Item} → OfKind Port 65536 kind x n → Stands s p e x → Reads (port_of kind) s p e n
   unfolding port_of pick
-  port_reads {kind} {n} (OfKind.given (Port.port h)) a = (number_reads (port_of kind) n a (rw (le-leb n 65535 h)), λ z. omega arith)
-  port_reads {kind} (OfKind.missing is-uri) a = (null_reads (port_of kind) 65536 a (rw (eq-eqb kind 106 is-uri, is_null_token p)), λ z. omega arith)
+  port_reads {kind} {n} (OfKind.given (Port.port h)) a = number_reads (port_of kind) n a (rw (le-leb n 65535 h))
+  port_reads {kind} (OfKind.missing is-uri) a = null_reads (port_of kind) 65536 a (rw (eq-eqb kind 106 is-uri, is_null_token p))
 
 -- an address that stands there
 pub address_reads : {kind : ℕ} {t : Bool} {a : List ℕ} → Address kind t a → (w : Token) → w.major ≡ cond t 3 2 → w.arg ≡ length a

@@ -13,6 +13,9 @@ use native.Mathlib.Omega.{arith}
 use lib.ListN.{length, drop}
 use lib.Dec.{ltb, eqb}
 use borrow.Author.Tests.{le-ltb, ltb-false, eqb-true, eqb-false, eq-eqb, ne_eqb}
+use Rattle.options.specs.Text.{Noted}
+use Rattle.std.specs.Prelude.{Ok, Err}
+use Rattle.options.specs.Part.{Read, departs, part}
 use Rattle.base.specs.Pick.{pick}
 use Rattle.base.specs.BigEndian.{Bytes}
 use Rattle.base.proofs.Picks.{pick-case}
@@ -23,7 +26,6 @@ use Rattle.cbor.specs.Tree.{Item, Items, count, depth, depths, encode}
 use Rattle.cbor.specs.Token.{token_at, size_at, items_in, up_to}
 use Rattle.cbor.proofs.Tokens.{token_is, token_end, is_array}
 use Rattle.options.specs.declared.objective.Objective.{Objective}
-use Rattle.options.specs.declared.objective.ObjectiveRead.{ObjectiveRead}
 use Rattle.options.specs.Text.{span_of, content_in, bad_text}
 use Rattle.options.specs.Objective.{long_name, objective_from, objective_in, objective_named, objective_at}
 use Rattle.rfc8990.specs.Message.{Obj}
@@ -36,9 +38,9 @@ use Rattle.message_laws.proofs.Texts.{bad_text_lem, long_name_lem}
 use Rattle.message_laws.proofs.Sizes.{sized_item, item_sized}
 
 -- what is answered by the tokens of name, flags and count, with a value of so many bytes
-abbrev answer : ℕ → List ℕ → Token → Token → Token → ℕ → ℕ → ObjectiveRead
+abbrev answer : ℕ → List ℕ → Token → Token → Token → ℕ → ℕ → Read Objective
 answer base s n f c len size =
-    ObjectiveRead.Got (objective_from base n (up_to 15 f) c (up_to 255 c) len) size (bad_text (content_in s n) (base + n.at)) (long_name n (base + n.at))
+    part (objective_from base n (up_to 15 f) c (up_to 255 c) len) size (bad_text (content_in s n) (base + n.at)) (long_name n (base + n.at))
 
 -- what follows the count ends where the value does
 value_ends : (base : ℕ) {m : List ℕ} {p e len : ℕ} {v : Value} (xs : Items) → suc (suc (suc (count xs))) ≡ items_with v → StandAll (drop base m) p e xs
@@ -87,9 +89,9 @@ unfolding count
 limits (ObjectiveItem.bare few byte) = (few, byte, refl)
 limits (ObjectiveItem.valued few byte) = (few, byte, refl)
 
-abbrev Sound : ℕ → List ℕ → ℕ → ObjectiveRead → Type 0
-Sound levels m base (ObjectiveRead.Bad place) = Unit {0}
-Sound levels m base (ObjectiveRead.Got o size bad long) = ObjectiveStands levels m base (base + size) o bad long
+abbrev Sound : ℕ → List ℕ → ℕ → Read Objective → Type 0
+Sound levels m base (Err e) = Unit {0}
+Sound levels m base (Ok o) = ObjectiveStands levels m base (base + o.size) o.value o.bad o.long
 
 sound : (levels : ℕ) (m : List ℕ) (base : ℕ) → Bytes m → Sound levels m base (objective_at levels m base)
 unfolding objective_in objective_named count depth
@@ -134,7 +136,7 @@ sound levels m base by =
     len : ℕ
     len = size_at levels s c.next
 
-    P : ObjectiveRead → Type 0
+    P : Read Objective → Type 0
     P = Sound levels m base
 
     bytes : Bytes s
@@ -175,16 +177,16 @@ sound levels m base by =
         }
 
 -- what is read stands there
-pub objective_sound : (levels : ℕ) (m : List ℕ) (base : ℕ) (o : Objective) (size bad long : ℕ) → Bytes m
-    → objective_at levels m base ≡ ObjectiveRead.Got o size bad long → ObjectiveStands levels m base (base + size) o bad long
+pub objective_sound : (levels : ℕ) (m : List ℕ) (base : ℕ) (o : Objective) (size : ℕ) (bad long : Noted) → Bytes m
+    → objective_at levels m base ≡ part o size bad long → ObjectiveStands levels m base (base + size) o bad long
 objective_sound levels m base o size bad long by q = subst (Sound levels m base) q (sound levels m base by)
 
 -- ---- read
 -- the reader's tests but for the value, over plain tokens
-unfoldable ending : ℕ → ℕ → List ℕ → ℕ → Token → Token → Token → ObjectiveRead
+unfoldable ending : ℕ → ℕ → List ℕ → ℕ → Token → Token → Token → Read Objective
 ending levels base s items n f c =
     pick (eqb items 3) (answer base s n f c 0 c.next)
-    (pick (eqb (size_at levels s c.next) 0) (ObjectiveRead.Bad (base + c.next))
+    (pick (eqb (size_at levels s c.next) 0) (departs (base + c.next))
     (answer base s n f c (size_at levels s c.next) (c.next + size_at levels s c.next)))
 
 accept : (levels base : ℕ) (s : List ℕ) (a n f c : Token) → a ≡ token_at s 0 → n ≡ token_at s a.next → f ≡ token_at s n.next → c ≡ token_at s f.next
@@ -246,7 +248,7 @@ ends_valued levels base s n f c has_value e = rw (ne_eqb _ _ has_value, e)
 -- an item that is an objective is read, and as the objective that it is
 pub objective_read_lem : (levels : ℕ) {m : List ℕ} {base e : ℕ} {x : Item} {obj : Obj Value} → Stands m base e x → depth x ≤ suc (left_under levels)
     → ObjectiveItem x obj
-    → (o : Objective) × (bad : ℕ) × (long : ℕ) × (objective_at levels m base ≡ ObjectiveRead.Got o (e - base) bad long) × ObjectiveIs m base e o obj
+    → (o : Objective) × (bad : Noted) × (long : Noted) × (objective_at levels m base ≡ part o (e - base) bad long) × ObjectiveIs m base e o obj
 unfolding count depth
 objective_read_lem levels {m} {base} {e} st d (ObjectiveItem.bare few byte) =
     let b = begun levels st few byte (omega arith) in (
@@ -273,7 +275,7 @@ objective_read_lem levels {m} {base} {e} st d (ObjectiveItem.valued {x = x} few 
 
 -- An objective is read exactly where an item that is one stands, of no more levels than may open, up to its end.
 pub objective_exactly : (levels : ℕ) (m : List ℕ) (base size : ℕ) → Bytes m
-    → ((o : Objective) × (bad : ℕ) × (long : ℕ) × (objective_at levels m base ≡ ObjectiveRead.Got o size bad long))
+    → ((o : Objective) × (bad : Noted) × (long : Noted) × (objective_at levels m base ≡ part o size bad long))
     ↔ ((x : Item) × (obj : Obj Value) × Stands m base (base + size) x × (depth x ≤ suc (left_under levels)) × ObjectiveItem x obj)
 objective_exactly levels m base size by = (
   λ (o, bad, long, q). let i = objective_sound levels m base o size bad long by q in (i.item, i.obj, i.stands, i.shallow, i.is),

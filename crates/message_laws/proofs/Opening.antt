@@ -3,6 +3,9 @@
 use mathlib.Core.Path.{◌≡◌}
 use mathlib.Core.List.{List}
 use Prim.Native.Nat.{ℕ}
+use Rattle.std.specs.Prelude.{Ok}
+use Rattle.options.specs.Part.{departs}
+use Rattle.message.specs.Opening.{Before}
 use Rattle.base.specs.Pick.{pick}
 use Rattle.base.specs.BigEndian.{Bytes}
 use Rattle.base.proofs.Picks.{pick-case}
@@ -12,8 +15,6 @@ use Rattle.rfc8990.specs.Cddl.{Number, Initiator}
 use Rattle.message_laws.specs.Stands.{StandAll}
 use Rattle.options.specs.Text.{content_of}
 use Rattle.message.specs.declared.opening.Opening.{Opening}
-use Rattle.message.specs.declared.opening.OpeningRead.{OpeningRead}
-use Rattle.message.specs.declared.opening.OpeningRead.TheVariants.{Bad, Got}
 use Rattle.message.specs.Opening.{most_number, opening_at}
 use Rattle.message_laws.proofs.Heads.{NumberHere, InitiatorHere, number_at_most, initiator_at, number_passed, initiator_passed}
 
@@ -26,9 +27,9 @@ pub record OpeningHere (s : List ℕ) (at next : ℕ) (o : Opening) : Type 0 whe
   pub ttl : NumberHere s before next o.ttl
 
 -- the answer
-pub data OpeningOk (s : List ℕ) (at : ℕ) : OpeningRead → Type 0 where
-  bad : {place : ℕ} → OpeningOk s at (Bad place)
-  got : {o : Opening} {next : ℕ} → OpeningHere s at next o → OpeningOk s at (Got o next)
+pub data OpeningOk (s : List ℕ) (at : ℕ) : Before Opening → Type 0 where
+  bad : {place : ℕ} → OpeningOk s at (departs place)
+  got : {o : Opening} {next : ℕ} → OpeningHere s at next o → OpeningOk s at (Ok (o, next))
 
 -- what is read stands there
 pub opening_sound : {s : List ℕ} {at : ℕ} → Bytes s → OpeningOk s at (opening_at s at)
@@ -47,7 +48,7 @@ opening_sound {s} {at} b =
 -- what stands there is read, and the items after it follow
 pub opening_complete : {s : List ℕ} {at e session ttl : ℕ} {x y z : Item} {xs : Items} {from : List ℕ}
     → StandAll s at e (Items.more x (Items.more y (Items.more z xs)))
-    → Number x session → Initiator y from → Number z ttl → (o : Opening) × (next : ℕ) × (opening_at s at ≡ Got o next) × StandAll s next e xs
+    → Number x session → Initiator y from → Number z ttl → (o : Opening) × (next : ℕ) × (opening_at s at ≡ Ok (o, next)) × StandAll s next e xs
 unfolding opening_at pick
 opening_complete {s} {at} a i j k =
     let (e, b) = number_passed a i in

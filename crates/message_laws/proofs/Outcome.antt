@@ -12,6 +12,9 @@ use native.Mathlib.Omega.{arith}
 use lib.ListN.{length, drop}
 use lib.Dec.{ltb, eqb, lit≤}
 use borrow.Author.Tests.{ltb-false, eqb-true, eqb-false, ne_eqb}
+use Rattle.options.specs.Text.{Noted}
+use Rattle.std.specs.Prelude.{None}
+use Rattle.options.specs.Part.{Read, departs, part}
 use Rattle.base.specs.Pick.{pick}
 use Rattle.base.specs.BigEndian.{Bytes}
 use Rattle.base.specs.Lists.{Every}
@@ -22,7 +25,6 @@ use Rattle.cbor.specs.Tree.{Item, Items, count}
 use Rattle.cbor.proofs.Tokens.{token_is, is_array}
 use Rattle.options.specs.declared.Span.{Span}
 use Rattle.options.specs.declared.outcome.Outcome.{Outcome}
-use Rattle.options.specs.declared.outcome.OutcomeRead.{OutcomeRead}
 use Rattle.options.specs.Text.{span_of, content_in, bad_text}
 use Rattle.options.specs.Outcome.{reason_in, outcome_in, outcome_at}
 use Rattle.rfc8990.specs.Message.{Outc}
@@ -37,19 +39,19 @@ use Rattle.message_laws.proofs.Noted.{clean, single}
 use Rattle.message_laws.proofs.Heads.{uint_passed, string_passed, array_passed, string_at}
 
 -- ---- sound
--- the outcome o, read from p to e with a bad reason at `bad` (0 is none): the item that stands there, and the outcome
+-- the outcome o, read from p to e with a bad reason at `bad`, if any: the item that stands there, and the outcome
 -- that it is
-pub record OutcomeStands (s : List ℕ) (p e : ℕ) (o : Outcome) (bad : ℕ) : Type 0 where
+pub record OutcomeStands (s : List ℕ) (p e : ℕ) (o : Outcome) (bad : Noted) : Type 0 where
   pub item : Item
   pub outc : Outc
   pub stands : Stands s p e item
   pub is : OutcItem item outc
   pub described : e ≡ length s → OutcomeIs s o outc
-  pub texts : bad ≡ 0 ↔ Every Utf8 (outc_texts outc)
+  pub texts : bad ≡ None ↔ Every Utf8 (outc_texts outc)
 
-pub data OutcomeSound (s : List ℕ) (p : ℕ) : OutcomeRead → Type 0 where
-  refused : {place : ℕ} → OutcomeSound s p (OutcomeRead.Bad place)
-  got : {o : Outcome} {size bad : ℕ} → OutcomeStands s p (p + size) o bad → OutcomeSound s p (OutcomeRead.Got o size bad)
+pub data OutcomeSound (s : List ℕ) (p : ℕ) : Read Outcome → Type 0 where
+  refused : {place : ℕ} → OutcomeSound s p (departs place)
+  got : {o : Outcome} {size : ℕ} {bad : Noted} → OutcomeStands s p (p + size) o bad → OutcomeSound s p (part o size bad None)
 
 -- what is read stands there
 pub outcome_sound : (s : List ℕ) (p : ℕ) → Bytes s → OutcomeSound s p (outcome_at s p)
@@ -93,11 +95,12 @@ outcome_sound s p b =
     (λ _. OutcomeSound.refused))
     (λ _. OutcomeSound.refused))))))
   where
-    P : OutcomeRead → Type 0
+    P : Read Outcome → Type 0
     P = OutcomeSound s p
 
-    got : {o : Outcome} {size bad : ℕ} {x : Item} {outc : Outc} → Stands (drop p s) 0 size x → OutcItem x outc → (p + size ≡ length s → OutcomeIs s o outc)
-        → bad ≡ 0 ↔ Every Utf8 (outc_texts outc) → P (OutcomeRead.Got o size bad)
+    got : {o : Outcome} {size : ℕ} {bad : Noted} {x : Item} {outc : Outc} → Stands (drop p s) 0 size x → OutcItem x outc
+        → (p + size ≡ length s → OutcomeIs s o outc)
+        → bad ≡ None ↔ Every Utf8 (outc_texts outc) → P (part o size bad None)
     got {x = x} {outc} st is described texts =
         OutcomeSound.got (record { item = x; outc = outc; stands = lift_first st; is = is; described = described; texts = texts })
 
@@ -128,16 +131,16 @@ led {s} {p} {e} {xs = xs} st hi =
 
 -- an accept or a decline is read
 pub outcome_read : {s : List ℕ} {p e : ℕ} {x : Item} {outc : Outc} → Stands s p e x → OutcItem x outc
-    → (o : Outcome) × (bad : ℕ) × (outcome_at s p ≡ OutcomeRead.Got o (e - p) bad)
+    → (o : Outcome) × (bad : Noted) × (outcome_at s p ≡ part o (e - p) bad None)
 unfolding outcome_in reason_in count pick
 outcome_read {s} {p} {e} st OutcItem.accept =
     let l = led st (lit≤ tt) in
     let end = none_end l.rest in
-    (Outcome.Accept, 0, rw (ne_eqb _ _ l.filled, l.lead, l.arg, end))
+    (Outcome.Accept, None, rw (ne_eqb _ _ l.filled, l.lead, l.arg, end))
 outcome_read {s} {p} {e} st OutcItem.decline =
     let l = led st (lit≤ tt) in
     let end = none_end l.rest in
-    (Outcome.Decline, 0, rw (ne_eqb _ _ l.filled, l.lead, l.arg, end))
+    (Outcome.Decline, None, rw (ne_eqb _ _ l.filled, l.lead, l.arg, end))
 outcome_read {s} {p} {e} st OutcItem.reason =
     let l = led st (lit≤ tt) in
     let (text, long, rest) = string_passed l.rest in
@@ -153,12 +156,12 @@ outcome_read {s} {p} {e} st OutcItem.reason =
 
 -- An accept or a decline is read exactly where an item that is one stands, up to its end.
 pub outcome_exactly : (s : List ℕ) (p size : ℕ) → Bytes s
-    → ((o : Outcome) × (bad : ℕ) × (outcome_at s p ≡ OutcomeRead.Got o size bad))
+    → ((o : Outcome) × (bad : Noted) × (outcome_at s p ≡ part o size bad None))
     ↔ ((x : Item) × (outc : Outc) × Stands s p (p + size) x × OutcItem x outc)
 outcome_exactly s p size b = (
   λ (o, bad, q). there (subst (OutcomeSound s p) q (outcome_sound s p b)),
   λ (x, outc, st, is). let (o, bad, read) = outcome_read st is in (o, bad, rw (add-sub_cancel_left p size) at read),
 )
   where
-    there : {o : Outcome} {bad : ℕ} → OutcomeSound s p (OutcomeRead.Got o size bad) → (x : Item) × (outc : Outc) × Stands s p (p + size) x × OutcItem x outc
+    there : {o : Outcome} {bad : Noted} → OutcomeSound s p (part o size bad None) → (x : Item) × (outc : Outc) × Stands s p (p + size) x × OutcItem x outc
     there (OutcomeSound.got i) = (i.item, i.outc, i.stands, i.is)

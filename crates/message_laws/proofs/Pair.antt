@@ -14,6 +14,12 @@ use lib.ListN.{drop}
 use lib.Seq.{drop-drop}
 use lib.Dec.{eqb}
 use borrow.Author.Tests.{eqb-true, eqb-false, eq-eqb, ne_eqb}
+use Rattle.options.specs.Text.{Noted}
+use Rattle.std.specs.Prelude.{Some, None}
+use Rattle.std.specs.Prelude.{Ok, Err}
+use Rattle.options.specs.Part.{Read, part}
+use Rattle.options.specs.declared.pair.Pair as P
+use Rattle.options.specs.Pair.{paired}
 use Rattle.base.specs.Pick.{pick}
 use Rattle.base.specs.BigEndian.{Bytes}
 use Rattle.base.specs.Lists.{Every}
@@ -25,11 +31,8 @@ use Rattle.cbor.specs.Tree.{Item, count, depth}
 use Rattle.cbor.specs.Token.{token_at, items_in}
 use Rattle.cbor.proofs.Tokens.{is_array, token_first}
 use Rattle.options.specs.declared.locator.Locator.{Locator}
-use Rattle.options.specs.declared.locator.LocatorRead.{LocatorRead}
 use Rattle.options.specs.declared.objective.Objective.{Objective}
-use Rattle.options.specs.declared.objective.ObjectiveRead.{ObjectiveRead}
-use Rattle.options.specs.declared.pair.Tag.{Tag}
-use Rattle.options.specs.declared.pair.PairRead.{PairRead}
+use Rattle.options.specs.Pair.{Tag}
 use Rattle.options.specs.Text.{first_of}
 use Rattle.options.specs.Locator.{locator_in, locator_at}
 use Rattle.options.specs.Objective.{objective_in, objective_at}
@@ -48,9 +51,9 @@ use Rattle.message_laws.proofs.Locator.{locator_sound, locator_read}
 use Rattle.message_laws.proofs.Objective.{objective_sound, objective_read_lem}
 
 -- ---- sound
-abbrev Sound : List ℕ → ℕ → PairRead → Type 0
-Sound m base (PairRead.Bad place) = Unit {0}
-Sound m base (PairRead.Got o t size bad long) = PairStands m base (base + size) o t bad long
+abbrev Sound : List ℕ → ℕ → Read P.Pair → Type 0
+Sound m base (Err e) = Unit {0}
+Sound m base (Ok r) = PairStands m base (base + r.size) r.value.objective r.value.tag r.bad r.long
 
 -- the objective is read: now its tag
 module _ (m : List ℕ) (base : ℕ) (a : Token) (n : ℕ) where
@@ -60,11 +63,11 @@ module _ (m : List ℕ) (base : ℕ) (a : Token) (n : ℕ) where
   abbrev at : ℕ
   at = a.next + n
 
-  module _ (ha : Heading s 0 a) (major : a.major ≡ 4) (two : a.arg ≡ 2) {o : Objective} {bad long : ℕ}
+  module _ (ha : Heading s 0 a) (major : a.major ≡ 4) (two : a.arg ≡ 2) {o : Objective} {bad long : Noted}
       (i : ObjectiveStands 3 m (base + a.next) (base + a.next + n) o bad long) where
-    made : (size : ℕ) (y : Item) (t : Tag) (l : Option Loc) (bad' : ℕ) → Stands s at size y → depth y ≤ 1
+    made : (size : ℕ) (y : Item) (t : Tag) (l : Option Loc) (bad' : Noted) → Stands s at size y → depth y ≤ 1
         → ((w : ℕ) → PairItem (array w (i.item ∷ y ∷ [])) (i.obj, l)) → TagIs m (base + a.next + n) t l
-        → bad' ≡ 0 ↔ (bad ≡ 0) × Every Utf8 (tag_texts l) → PairStands m base (base + size) o t bad' long
+        → bad' ≡ None ↔ (bad ≡ None) × Every Utf8 (tag_texts l) → PairStands m base (base + size) o t bad' long
     unfolding count depth pair_texts
     made size y t l bad' second flat is tag texts =
         let (there, back) = i.texts in
@@ -86,15 +89,15 @@ module _ (m : List ℕ) (base : ℕ) (a : Token) (n : ℕ) where
           names = i.names;
         }
 
-    tagged : Bytes m → (r : LocatorRead) → locator_at m (base + at) ≡ r → Sound m base (pair_tagged at o bad long r)
+    tagged : Bytes m → (r : Read Locator) → locator_at m (base + at) ≡ r → Sound m base (pair_tagged at o bad long r)
     unfolding pair_tagged tag_texts
-    tagged by (LocatorRead.Bad place) q = tt
-    tagged by (LocatorRead.Got l size bad') q =
-        let j = locator_sound m (base + at) l size bad' by q in
-        let (there, back) = first_zero bad bad' in
-        made (at + size) j.item (Tag.At l) (some j.loc) (first_of bad bad') (sink_sized m base at size j.stands) (omega (arith, locator_deep j.is))
+    tagged by (Err e) q = tt
+    tagged by (Ok l) q =
+        let j = locator_sound m (base + at) l by q in
+        let (there, back) = first_zero bad l.bad in
+        made (at + l.size) j.item (Some l.value) (some j.loc) (first_of bad l.bad) (sink_sized m base at l.size j.stands) (omega (arith, locator_deep j.is))
         (λ w. PairItem.tagged i.is j.is)
-        (TagIs.at (subst (λ (p : ℕ). LocatorIs m p l j.loc) (sym (add_assoc base a.next n)) j.described))
+        (TagIs.at (subst (λ (p : ℕ). LocatorIs m p l.value j.loc) (sym (add_assoc base a.next n)) j.described))
         (λ z. let (x, y) = there z in (x, j.texts.0 y), λ h. back (h.0, j.texts.1 h.1))
 
     tailed : Bytes m → Sound m base (pair_tail base s at o bad long)
@@ -103,20 +106,20 @@ module _ (m : List ℕ) (base : ℕ) (a : Token) (n : ℕ) where
         pick-case (Sound m base) (is_empty w)
         (λ e. let (four, zero) = empty_is w e in
         let h = token_heading s at w (bytes_drop base m by) refl (omega arith) in
-        made w.next _ Tag.Empty none bad (array_at h four zero (no_more h.within)) (omega arith) (λ k. PairItem.untagged i.is) TagIs.empty
+        made w.next _ None none bad (array_at h four zero (no_more h.within)) (omega arith) (λ k. PairItem.untagged i.is) TagIs.empty
         (λ z. (z, tt), λ z. z.0))
         (λ _. tagged by (locator_in (base + at) (drop at s)) (ap (locator_in (base + at)) (sym (drop-drop at base m))))
       where
         w : Token
         w = token_at s at
 
-led : (m : List ℕ) (base : ℕ) (a : Token) → Heading (drop base m) 0 a → a.major ≡ 4 → Bytes m → (r : ObjectiveRead) → objective_at 3 m (base + a.next) ≡ r
+led : (m : List ℕ) (base : ℕ) (a : Token) → Heading (drop base m) 0 a → a.major ≡ 4 → Bytes m → (r : Read Objective) → objective_at 3 m (base + a.next) ≡ r
     → Sound m base (pair_led base (drop base m) a.arg a.next r)
 unfolding pair_led
-led m base a ha major by (ObjectiveRead.Bad place) q = tt
-led m base a ha major by (ObjectiveRead.Got o n bad long) q =
+led m base a ha major by (Err e) q = tt
+led m base a ha major by (Ok o) q =
     pick-case (Sound m base) (eqb a.arg 2)
-    (λ e. tailed m base a n ha major (eqb-true a.arg 2 e) (objective_sound 3 m (base + a.next) o n bad long by q) by) (λ _. tt)
+    (λ e. tailed m base a o.size ha major (eqb-true a.arg 2 e) (objective_sound 3 m (base + a.next) o.value o.size o.bad o.long by q) by) (λ _. tt)
 
 sound : (m : List ℕ) (base : ℕ) → Bytes m → Sound m base (pair_at m base)
 unfolding pair_in
@@ -133,34 +136,35 @@ sound m base by =
     a = token_at s₀ 0
 
 -- what is read stands there
-pub pair_sound : (m : List ℕ) (base : ℕ) (o : Objective) (t : Tag) (size bad long : ℕ) → Bytes m → pair_at m base ≡ PairRead.Got o t size bad long
+pub pair_sound : (m : List ℕ) (base : ℕ) (o : Objective) (t : Tag) (size : ℕ) (bad long : Noted) → Bytes m → pair_at m base ≡ paired o t size bad long
     → PairStands m base (base + size) o t bad long
 pair_sound m base o t size bad long by q = subst (Sound m base) q (sound m base by)
 
 -- ---- read
 -- the reader's tests, over plain tokens
-accept : (base : ℕ) (s : List ℕ) (a : Token) (r : PairRead) (o : Objective) (size bad long : ℕ) → a ≡ token_at s 0 → (items_in a ≡ 0 → ⊥) → a.arg ≡ 2
-    → objective_in 3 (base + a.next) (drop a.next s) ≡ ObjectiveRead.Got o size bad long → pair_tail base s (a.next + size) o bad long ≡ r
+accept : (base : ℕ) (s : List ℕ) (a : Token) (r : Read P.Pair) (o : Objective) (size : ℕ) (bad long : Noted) → a ≡ token_at s 0 → (items_in a ≡ 0 → ⊥)
+    → a.arg ≡ 2
+    → objective_in 3 (base + a.next) (drop a.next s) ≡ part o size bad long → pair_tail base s (a.next + size) o bad long ≡ r
     → pair_in base s ≡ r
 unfolding pair_in pair_led pick
 accept base s a r o size bad long ea t₁ t₂ got tail = rw (← ea, ne_eqb _ _ t₁, got, eq-eqb _ _ t₂) tail
 
-empty_tail : (base : ℕ) (s : List ℕ) (at : ℕ) (o : Objective) (bad long : ℕ) (w : Token) {size : ℕ} → w ≡ token_at s at → w.major ≡ 4 → w.arg ≡ 0
+empty_tail : (base : ℕ) (s : List ℕ) (at : ℕ) (o : Objective) (bad long : Noted) (w : Token) {size : ℕ} → w ≡ token_at s at → w.major ≡ 4 → w.arg ≡ 0
     → size ≡ w.next
-    → pair_tail base s at o bad long ≡ PairRead.Got o Tag.Empty size bad long
+    → pair_tail base s at o bad long ≡ paired o None size bad long
 unfolding pair_tail is_empty pick
 empty_tail base s at o bad long w ew t₁ t₂ e = rw (← ew, eq-eqb _ _ t₁, eq-eqb _ _ t₂, e)
 
 -- the array of a locator that is read isn't empty
-locator_items : (base : ℕ) (s : List ℕ) {l : Locator} {size bad : ℕ} → locator_in base s ≡ LocatorRead.Got l size bad → (token_at s 0).arg ≡ 0 → ⊥
+locator_items : (base : ℕ) (s : List ℕ) {l : Locator} {size : ℕ} {bad : Noted} → locator_in base s ≡ part l size bad None → (token_at s 0).arg ≡ 0 → ⊥
 unfolding locator_in items_in
 locator_items base s {l} {size} {bad} q z =
     let (some_items, _) = past (eqb (items_in (token_at s 0)) 0) q (λ e. let y : ◌≡◌ {A = ℕ} 0 1 = cc in omega arith) in
     eqb-false (items_in (token_at s 0)) 0 some_items (both (λ (n : ℕ). n ≡ 0) _ z refl)
 
-tagged_tail : (base : ℕ) (s : List ℕ) (at : ℕ) (o : Objective) (bad long : ℕ) (l : Locator) (n bad' : ℕ) {size : ℕ}
-    → locator_in (base + at) (drop at s) ≡ LocatorRead.Got l n bad' → size ≡ at + n
-    → pair_tail base s at o bad long ≡ PairRead.Got o (Tag.At l) size (first_of bad bad') long
+tagged_tail : (base : ℕ) (s : List ℕ) (at : ℕ) (o : Objective) (bad long : Noted) (l : Locator) (n : ℕ) (bad' : Noted) {size : ℕ}
+    → locator_in (base + at) (drop at s) ≡ part l n bad' None → size ≡ at + n
+    → pair_tail base s at o bad long ≡ paired o (Some l) size (first_of bad bad') long
 unfolding pair_tail pair_tagged is_empty pick
 tagged_tail base s at o bad long l n bad' got e =
     rw (ne_eqb _ _ (λ z. locator_items (base + at) (drop at s) got (sym (token_first s at).arg ∙ z)), and-false (eqb (token_at s at).major 4), got, e)
@@ -169,9 +173,9 @@ tagged_tail base s at o bad long l n bad' got e =
 record Begun (m : List ℕ) (base e : ℕ) (obj : Obj Value) (y : Item) : Type 0 where
   mid : ℕ
   objective : Objective
-  bad : ℕ
-  long : ℕ
-  read : (r : PairRead) → pair_tail base (drop base m) mid objective bad long ≡ r → pair_at m base ≡ r
+  bad : Noted
+  long : Noted
+  read : (r : Read P.Pair) → pair_tail base (drop base m) mid objective bad long ≡ r → pair_at m base ≡ r
   described : {t : Tag} {l : Option Loc} → TagIs m (base + mid) t l → PairIs m base objective t (obj, l)
   second : Stands (drop base m) mid (e - base) y
 
@@ -199,30 +203,30 @@ begun {m} {base} {e} st d is =
     }
 
 -- a pair is read
-abbrev Read : List ℕ → ℕ → ℕ → Pair Value → Type 0
-Read m base e pair =
-    (o : Objective) × (t : Tag) × (bad : ℕ) × (long : ℕ) × (pair_at m base ≡ PairRead.Got o t (e - base) bad long) × PairIs m base o t pair
+abbrev PairThere : List ℕ → ℕ → ℕ → Pair Value → Type 0
+PairThere m base e pair =
+    (o : Objective) × (t : Tag) × (bad : Noted) × (long : Noted) × (pair_at m base ≡ paired o t (e - base) bad long) × PairIs m base o t pair
 
-untagged_read : {m : List ℕ} {base e v : ℕ} {obj : Obj Value} → Begun m base e obj (array v []) → Read m base e (obj, none)
+untagged_read : {m : List ℕ} {base e v : ℕ} {obj : Obj Value} → Begun m base e obj (array v []) → PairThere m base e (obj, none)
 unfolding count
 untagged_read {m} {base} b =
     let empty = array_token b.second in
     let read =
     b.read _ (empty_tail base (drop base m) b.mid b.objective b.bad b.long _ (sym empty.token) refl refl (none_end empty.items)) in
-    (b.objective, Tag.Empty, b.bad, b.long, read, b.described TagIs.empty)
+    (b.objective, None, b.bad, b.long, read, b.described TagIs.empty)
 
-tagged_read : {m : List ℕ} {base e : ℕ} {y : Item} {obj : Obj Value} {loc : Loc} → Begun m base e obj y → LocatorItem y loc → Read m base e (obj, some loc)
+tagged_read : {m : List ℕ} {base e : ℕ} {y : Item} {obj : Obj Value} {loc : Loc} → Begun m base e obj y → LocatorItem y loc → PairThere m base e (obj, some loc)
 tagged_read {m} {base} {e} b is =
     let (l, bad', got, located) = locator_read (lift base b.second) is in
     let n : ℕ = base + (e - base) - (base + b.mid) in
     let sum : e - base ≡ b.mid + n = omega (arith, advances b.second) in
     let tail = tagged_tail base (drop base m) b.mid b.objective b.bad b.long l n bad'
     (ap (locator_in (base + b.mid)) (drop-drop b.mid base m) ∙ got) sum in
-    (b.objective, Tag.At l, first_of b.bad bad', b.long, b.read _ tail, b.described (TagIs.at located))
+    (b.objective, Some l, first_of b.bad bad', b.long, b.read _ tail, b.described (TagIs.at located))
 
 -- an item that is a pair is read, and as the pair that it is
 pub pair_read : {m : List ℕ} {base e : ℕ} {x : Item} {pair : Pair Value} → Stands m base e x → depth x ≤ left_under 1 → PairItem x pair
-    → (o : Objective) × (t : Tag) × (bad : ℕ) × (long : ℕ) × (pair_at m base ≡ PairRead.Got o t (e - base) bad long) × PairIs m base o t pair
+    → (o : Objective) × (t : Tag) × (bad : Noted) × (long : Noted) × (pair_at m base ≡ paired o t (e - base) bad long) × PairIs m base o t pair
 unfolding depth
 pair_read st d (PairItem.untagged is) = untagged_read (begun st (omega arith) is)
 pair_read st d (PairItem.tagged is loc) = tagged_read (begun st (omega arith) is) loc
@@ -231,7 +235,7 @@ pair_read st d (PairItem.tagged is loc) = tagged_read (begun st (omega arith) is
 
 -- A pair is read exactly where an item that is one stands, of 7 levels at most, up to its end.
 pub pair_exactly : (m : List ℕ) (base size : ℕ) → Bytes m
-    → ((o : Objective) × (t : Tag) × (bad : ℕ) × (long : ℕ) × (pair_at m base ≡ PairRead.Got o t size bad long))
+    → ((o : Objective) × (t : Tag) × (bad : Noted) × (long : Noted) × (pair_at m base ≡ paired o t size bad long))
     ↔ ((x : Item) × (pair : Pair Value) × Stands m base (base + size) x × (depth x ≤ left_under 1) × PairItem x pair)
 pair_exactly m base size by = (
   λ (o, t, bad, long, q). let i = pair_sound m base o t size bad long by q in (i.item, i.pair, i.stands, i.shallow, i.is),

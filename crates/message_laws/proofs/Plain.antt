@@ -6,6 +6,8 @@ use mathlib.Core.Option.{none, some}
 use Prim.Native.Nat.{ℕ, ◌≤◌}
 use native.Mathlib.Omega.{arith}
 use borrow.Author.Tests.{ltb-false, eqb-true, eqb-false, ne_eqb}
+use Rattle.options.specs.Part.{Read}
+use Rattle.options.specs.declared.outcome.Outcome.{Outcome}
 use Rattle.base.proofs.Picks.{pick-case}
 use Rattle.cbor.specs.Token.{token_at, size_at, up_to}
 use Rattle.cbor.specs.Tree.{Item, Items, count, depth}
@@ -15,7 +17,6 @@ use Rattle.rfc8990.specs.Limits.{texts_of, names_of}
 use Rattle.message_laws.specs.Stands.{StandAll, ValueIs}
 use Rattle.message_laws.proofs.Bridge.{join, none as no_items, last, only, stands_within}
 use Rattle.message_laws.proofs.Sizes.{sized_item, item_sized}
-use Rattle.options.specs.declared.outcome.OutcomeRead.{OutcomeRead}
 use Rattle.message.specs.Opening.{most_number}
 use Rattle.message.specs.Shape.{noop_at, wait_at, invalid_at, ended, end_at}
 use Rattle.message_laws.specs.Describes.{Describes}
@@ -107,7 +108,7 @@ end_sound {s} {n} {at} k =
     (λ three. past_case _
     (λ e. by (subst (λ (n : ℕ). Kinded s 6 n at) (eqb-true n 3 three) k) (number_at_most k.bytes e) _ (outcome_sound s (token_at s at).next k.bytes)))
   where
-    by : {p session : ℕ} → Kinded s 6 3 at → NumberHere s at p session → (x : OutcomeRead) → OutcomeSound s p x → ShapeOk s (ended session p x)
+    by : {p session : ℕ} → Kinded s 6 3 at → NumberHere s at p session → (x : Read Outcome) → OutcomeSound s p x → ShapeOk s (ended session p x)
     by k i _ OutcomeSound.refused = IfGood.bad
     by {session = session} k i _ (OutcomeSound.got x) =
         built k _ _ (Msg.end session x.outc) refl (join i.is.stands (last x.stands)) (λ w v. MessageItem.end (Number.number i.low) x.is)
@@ -120,4 +121,4 @@ unfolding end_at ended
 end_complete {s} {at} a i j =
     let (e, b) = number_passed a i in
     let (o, bad, same) = outcome_read (only b) j in
-    taken _ refl (skipped _ e (subst (λ (r : OutcomeRead). Reads (ended (up_to most_number (token_at s at)) (token_at s at).next r)) (sym same) Reads.reads))
+    taken _ refl (skipped _ e (subst (λ (r : Read Outcome). Reads (ended (up_to most_number (token_at s at)) (token_at s at).next r)) (sym same) Reads.reads))

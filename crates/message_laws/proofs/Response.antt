@@ -11,15 +11,21 @@ use lib.ListN.{length, drop, length-drop}
 use lib.Seq.{drop-drop}
 use lib.Dec.{eqb}
 use borrow.Author.Tests.{ltb-false, eqb-true, le-ltb, eq-eqb}
+use Rattle.options.specs.Text.{Noted}
+use Rattle.std.specs.Prelude.{Some, None}
+use Rattle.std.specs.Prelude.{Ok, Err}
+use Rattle.options.specs.Part.{Read, part}
+use Rattle.options.specs.declared.objective.Objective.{Objective}
+use Rattle.message.specs.Opening.{Before}
+use Rattle.options.specs.Divert.{DivertRead}
+use Rattle.options.specs.Locators.{LocatorsRead}
+use Rattle.options.specs.Locators.{ran}
 use Rattle.base.specs.Pick.{pick}
 use Rattle.base.specs.BigEndian.{Bytes}
 use Rattle.base.specs.Lists.{Every}
 use Rattle.base.proofs.Picks.{pick-case}
 use Rattle.cbor.specs.Tree.{Item, Items, count, encodes, depth, depths}
 use Rattle.options.specs.declared.locator.Locator.{Locator}
-use Rattle.options.specs.declared.locators.LocatorsRead.{LocatorsRead}
-use Rattle.options.specs.declared.divert.DivertRead.{DivertRead}
-use Rattle.options.specs.declared.objective.ObjectiveRead.{ObjectiveRead}
 use Rattle.options.specs.Text.{first_of}
 use Rattle.options.specs.Locators.{text_led, locators_from, locators_at}
 use Rattle.options.specs.Objective.{objective_at}
@@ -31,10 +37,8 @@ use Rattle.message_laws.proofs.Objective.{objective_sound}
 use Rattle.message_laws.proofs.Bridge.{join, none as no_items, last, split, none_end}
 use Rattle.message_laws.proofs.Pieces.{head_array}
 use Rattle.message.specs.declared.Targets.{Targets}
-use Rattle.message.specs.declared.Extra.{Extra}
+use Rattle.message.specs.Fields.{Extra}
 use Rattle.message.specs.declared.opening.Opening.{Opening}
-use Rattle.message.specs.declared.opening.OpeningRead.{OpeningRead}
-use Rattle.message.specs.declared.shape.Shape.TheVariants as S
 use Rattle.message.specs.Opening.{objective_levels}
 use Rattle.message.specs.Response.{response_of, rest_of, rest_at, located_of, located_at, targets_of, targets_at, response_by, response_at}
 use Rattle.message_laws.specs.Describes.{TargetsIs, ExtraIs, Describes}
@@ -61,34 +65,34 @@ count_joined (Items.more x xs) ys = ap suc (count_joined xs ys) ∙ omega arith
 
 -- ---- what is read stands there
 -- nothing more, or one objective
-record RestHere (s : List ℕ) (p left bad end bad' long : ℕ) (extra : Extra) : Type 0 where
+record RestHere (s : List ℕ) (p left : ℕ) (bad : Noted) (end : ℕ) (bad' long : Noted) (extra : Extra) : Type 0 where
   items : Items
   obj : Option (Obj Value)
   stand : StandAll s p end items
   counted : left ≡ count items
   are : OptionalItems items obj
   is : end ≡ length s → ExtraIs s p extra obj
-  texts : bad' ≡ 0 ↔ (bad ≡ 0) × Every Utf8 (optional_names obj)
-  names : long ≡ 0 ↔ Every Short (optional_names obj)
+  texts : bad' ≡ None ↔ (bad ≡ None) × Every Utf8 (optional_names obj)
+  names : long ≡ None ↔ Every Short (optional_names obj)
 
 -- where a message is made with whatever follows the locators or the divert
-module _ {s : List ℕ} {opening : Opening} {targets : Targets} {left p bad : ℕ} (bytes : Bytes s) (go : (extra : Extra) (end bad' long : ℕ)
-    → RestHere s p left bad end bad' long extra → ShapeOk s (S.Good (response_of opening targets extra) end bad' long)) where
+module _ {s : List ℕ} {opening : Opening} {targets : Targets} {left p : ℕ} {bad : Noted} (bytes : Bytes s) (go : (extra : Extra) (end : ℕ) (bad' long : Noted)
+    → RestHere s p left bad end bad' long extra → ShapeOk s (part (response_of opening targets extra) end bad' long)) where
   -- one objective, and then the end
-  rest_of_sound : (x : ObjectiveRead) → objective_at objective_levels s p ≡ x → ShapeOk s (rest_of s opening targets left p bad x)
+  rest_of_sound : (x : Read Objective) → objective_at objective_levels s p ≡ x → ShapeOk s (rest_of s opening targets left p bad x)
   unfolding rest_of count optional_names
-  rest_of_sound (ObjectiveRead.Bad place) e = IfGood.bad
-  rest_of_sound (ObjectiveRead.Got o size bad' long) e =
-      let x = objective_sound objective_levels s p o size bad' long bytes e in
+  rest_of_sound (Err d) e = IfGood.bad
+  rest_of_sound (Ok o) e =
+      let x = objective_sound objective_levels s p o.value o.size o.bad o.long bytes e in
       held_case _
-      (λ one. go (Extra.With o) (p + size) (first_of bad bad') long
+      (λ one. go (Some o.value) (p + o.size) (first_of bad o.bad) o.long
       (record {
         items = Items.more x.item Items.done;
         obj = some x.obj;
         stand = last x.stands;
         counted = eqb-true left 1 one;
         are = OptionalItems.with_one x.is;
-        is = λ full. ExtraIs.with_one (subst (λ (e : ℕ). ObjectiveIs s p e o x.obj) full x.described);
+        is = λ full. ExtraIs.with_one (subst (λ (e : ℕ). ObjectiveIs s p e o.value x.obj) full x.described);
         texts = more_noted Utf8 (x.obj.name ∷ []) [] (single x.texts) none_noted;
         names = single x.names;
       }))
@@ -98,7 +102,7 @@ module _ {s : List ℕ} {opening : Opening} {targets : Targets} {left p bad : �
   unfolding rest_at count optional_names
   rest_sound low =
       pick-case (ShapeOk s) _
-      (λ zero. go Extra.Without p bad 0
+      (λ zero. go None p bad None
       (record {
         items = Items.done;
         obj = none;
@@ -113,11 +117,12 @@ module _ {s : List ℕ} {opening : Opening} {targets : Targets} {left p bad : �
 
 module _ {s : List ℕ} {n at next : ℕ} (k : Kinded s 2 n at) {opening : Opening} (h : OpeningHere s at next opening) where
   -- the opening and what follows it are the message
-  responded : {e e' bad long : ℕ} {xs : Items} {tgts : Tgts} {obj : Option (Obj Value)} {targets : Targets} {extra : Extra} → n ≡ 4 + count xs
+  responded : {e e' : ℕ} {bad long : Noted} {xs : Items} {tgts : Tgts} {obj : Option (Obj Value)} {targets : Targets} {extra : Extra} → n ≡ 4 + count xs
       → StandAll s next e xs → TgtsItems xs tgts obj
-      → TargetsIs s next e' targets tgts → (e ≡ length s → ExtraIs s e' extra obj) → bad ≡ 0 ↔ Every Utf8 (tgts_texts tgts ++ optional_names obj) → long ≡ 0
+      → TargetsIs s next e' targets tgts → (e ≡ length s → ExtraIs s e' extra obj) → bad ≡ None ↔ Every Utf8 (tgts_texts tgts ++ optional_names obj)
+      → long ≡ None
       ↔ Every Short (optional_names obj)
-      → ShapeOk s (S.Good (response_of opening targets extra) e bad long)
+      → ShapeOk s (part (response_of opening targets extra) e bad long)
   unfolding count texts_of names_of
   responded {tgts = tgts} {obj} counted stand are pointed followed texts names =
       built k _ _ (Msg.response _ h.initiator.content _ tgts obj) (counted ∙ omega arith)
@@ -126,9 +131,10 @@ module _ {s : List ℕ} {n at next : ℕ} (k : Kinded s 2 n at) {opening : Openi
       (λ full. Describes.response k.is h.session.is h.initiator.is h.ttl.is pointed (followed full)) texts names
 
   -- locators, and what follows them
-  located_finish : {n' p' left bad end bad' long : ℕ} {first : Locator} {extra : Extra} → n ≡ 4 + n' → (l : Located s next p' n' left bad first)
+  located_finish : {n' p' left : ℕ} {bad : Noted} {end : ℕ} {bad' long : Noted} {first : Locator} {extra : Extra} → n ≡ 4 + n'
+      → (l : Located s next p' n' left bad first)
       → RestHere s p' left bad end bad' long extra
-      → ShapeOk s (S.Good (response_of opening (Targets.Locators first (record { at = next; many = n' - left })) extra) end bad' long)
+      → ShapeOk s (part (response_of opening (Targets.Locators first (record { at = next; many = n' - left })) extra) end bad' long)
   unfolding count tgts_texts
   located_finish {n'} counted l r =
       let xs = l.items in
@@ -147,12 +153,13 @@ module _ {s : List ℕ} {n at next : ℕ} (k : Kinded s 2 n at) {opening : Openi
     where
       by : (x : LocatorsRead) → LocatedOk s next next parts x → ShapeOk s (located_of s opening parts next x)
       by _ LocatedOk.refused = IfGood.bad
-      by _ (LocatedOk.ran l) = rest_sound k.bytes (λ extra end bad' long r. located_finish counted l r) l.stand.within
+      by _ (LocatedOk.some l) = rest_sound k.bytes (λ extra end bad' long r. located_finish counted l r) l.stand.within
 
   -- a divert, and what follows it
-  divert_finish : {at many p' left bad end bad' long : ℕ} {first : Locator} {extra : Extra} → n ≡ 5 + left → DivertStands s next p' first at many bad
+  divert_finish : {at many p' left : ℕ} {bad : Noted} {end : ℕ} {bad' long : Noted} {first : Locator} {extra : Extra} → n ≡ 5 + left
+      → DivertStands s next p' first at many bad
       → RestHere s p' left bad end bad' long extra
-      → ShapeOk s (S.Good (response_of opening (Targets.Divert first (record { at = at; many = many })) extra) end bad' long)
+      → ShapeOk s (part (response_of opening (Targets.Divert first (record { at = at; many = many })) extra) end bad' long)
   unfolding count tgts_texts
   divert_finish counted d r =
       responded (counted ∙ omega (arith, r.counted)) (join (head_array d.head (ap suc d.count_is) (join d.lead d.stand)) r.stand)
@@ -171,7 +178,7 @@ module _ {s : List ℕ} {n at next : ℕ} (k : Kinded s 2 n at) {opening : Openi
       by _ (DivertSound.got d) = rest_sound k.bytes (λ extra end bad' long r. divert_finish (omega arith) d r) d.stand.within
 
 -- after the opening
-response_by_sound : {s : List ℕ} {n at : ℕ} → Kinded s 2 n at → 5 ≤ n → (x : OpeningRead) → OpeningOk s at x → ShapeOk s (response_by s n x)
+response_by_sound : {s : List ℕ} {n at : ℕ} → Kinded s 2 n at → 5 ≤ n → (x : Before Opening) → OpeningOk s at x → ShapeOk s (response_by s n x)
 unfolding response_by
 response_by_sound k five _ OpeningOk.bad = IfGood.bad
 response_by_sound {n = n} k five _ (OpeningOk.got h) = targets_sound k h (n - 4) (omega arith) (omega arith)
@@ -197,8 +204,8 @@ depths_joined Items.done ys d = d
 depths_joined (Items.more x xs) ys d = depths_joined xs ys (omega arith)
 
 -- the locators of a part end where nothing more or an objective stands
-stops : (s : List ℕ) (base p e bad : ℕ) (first : Locator) {ys : Items} {obj : Option (Obj Value)} → StandAll s (base + p) e ys → OptionalItems ys obj
-    → locators_from base (drop base s) first (count ys) p bad ≡ LocatorsRead.Ran first p (count ys) bad
+stops : (s : List ℕ) (base p e : ℕ) (bad : Noted) (first : Locator) {ys : Items} {obj : Option (Obj Value)} → StandAll s (base + p) e ys → OptionalItems ys obj
+    → locators_from base (drop base s) first (count ys) p bad ≡ ran first p (count ys) bad
 unfolding locators_from count pick
 stops s base p e bad first a OptionalItems.without = refl
 stops s base p e bad first a (OptionalItems.with_one i) = rw (ap text_led (drop-drop p base s) ∙ objective_led a i)
@@ -227,7 +234,7 @@ sink_all {s} {p} {e} {xs} a =
 
 module _ (s : List ℕ) (opening : Opening) where
   -- what follows the locators or the divert is read
-  rest_complete : {p e left : ℕ} (bad : ℕ) {ys : Items} {obj : Option (Obj Value)} (targets : Targets) → StandAll s p e ys → OptionalItems ys obj
+  rest_complete : {p e left : ℕ} (bad : Noted) {ys : Items} {obj : Option (Obj Value)} (targets : Targets) → StandAll s p e ys → OptionalItems ys obj
       → depths ys ≤ part_levels → left ≡ count ys
       → Reads (rest_at s opening targets left p bad)
   unfolding rest_at rest_of count depth
@@ -248,7 +255,7 @@ module _ (s : List ℕ) (opening : Opening) where
       let place : p + (m - p) ≡ m = omega (arith, first.end) in
       let there = subst (λ (k : ℕ). StandAll s k e ys) (sym place) rest in
       let more : parts - 1 ≡ count xs + count ys = omega (arith, counted, count_joined all ys) in
-      let read : locators_at s p (parts - 1) ≡ LocatorsRead.Ran f (m - p) (count ys) bad =
+      let read : locators_at s p (parts - 1) ≡ ran f (m - p) (count ys) bad =
       ap (locators_at s p) more ∙ same ∙ stops s p (m - p) e bad f there o in
       subst (λ (r : LocatorsRead). Reads (located_of s opening parts p r)) (sym read) (rest_complete bad _ there o (depths_joined all ys d) refl)
 
@@ -274,4 +281,4 @@ unfolding response_at response_by
 response_complete {s} {n} {at} a i j k is d counted =
     let (o, next, same, b) = opening_complete a i j k in
     skipped _ (le-ltb n 5 (omega (arith, some_items is)))
-    (subst (λ (r : OpeningRead). Reads (response_by s n r)) (sym same) (targets_complete s o b d (omega arith) is))
+    (subst (λ (r : Before Opening). Reads (response_by s n r)) (sym same) (targets_complete s o b d (omega arith) is))

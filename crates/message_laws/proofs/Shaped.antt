@@ -10,6 +10,8 @@ use native.Mathlib.Omega.{arith}
 use lib.ListN.{length, drop}
 use lib.Dec.{ltb, eqb, lit<}
 use borrow.Author.Tests.{ltb-true, ltb-false, eqb-true, eqb-false, ne_eqb, eq-eqb, lt-ltb}
+use Rattle.options.specs.Text.{Noted}
+use Rattle.options.specs.Part.{Read, departs, part}
 use Rattle.base.specs.Pick.{pick}
 use Rattle.base.proofs.Picks.{pick-case}
 use Rattle.cbor.specs.declared.token.Token.{Token}
@@ -23,10 +25,11 @@ use Rattle.message_laws.specs.Stands.{Stands, StandAll}
 use Rattle.message_laws.proofs.Bridge.{headed_major, token_heading, number_token, split, last}
 use Rattle.message_laws.proofs.Pieces.{array_items, array_head}
 use Rattle.message.specs.declared.Message.{Message}
-use Rattle.message.specs.declared.shape.Shape.{Shape}
-use Rattle.message.specs.declared.shape.Shape.TheVariants as S
 use Rattle.message.specs.declared.Examined.{Examined}
-use Rattle.message.specs.declared.Examined.TheVariants as E
+use Rattle.base.specs.declared.refusal.Refusal.TheVariants as R
+use Rattle.base.specs.declared.refusal.Refused.{Refused}
+use Rattle.base.specs.Refusal.{refused}
+use Rattle.std.specs.Prelude.{Result}
 use Rattle.message.specs.Shape.{exchange_at}
 use Rattle.message.specs.Examined.{by_kind, judged_shape, examined}
 use Rattle.rfc8990.specs.Accepted.{OneItem}
@@ -59,7 +62,7 @@ shape_sound {s} {kind} {n} {at} k known =
     (λ e₉₉. exchange (omega (arith, eqb-false kind 0 e₀, eqb-false kind 1 e₁, eqb-false kind 2 e₂))
     (omega (arith, low known (eqb-false kind 99 e₉₉), eqb-false kind 9 e₉)) (λ six. omega (arith, eqb-false kind 6 e₆, eqb-false kind 7 e₇)))))))))
   where
-    Ok : Shape → Type 0
+    Ok : Read Message → Type 0
     Ok = ShapeOk s
 
     of_kind_lem : (kind' : ℕ) → kind ≡ kind' → Kinded s kind' n at
@@ -143,8 +146,9 @@ module _ {s : List ℕ} (one : OneItem s) where
       record { bytes = one_bytes one; is = record { many = _; from = _; width = i.width; opened = array_head h four; stands = i.stands }; many = refl }
 
   -- an item of an unknown kind, a departure, or a message that is described
-  pub examined_case : (P : Examined → Type 0) → ((place : ℕ) → UnknownKind one.item → P (E.Refused 8 place)) → ((place : ℕ) → P (E.Refused 9 place))
-      → ((m : Message) (end bad long : ℕ) → WholeIs one m bad long → P (judged_shape (S.Good m end bad long))) → P (examined s)
+  pub examined_case : (P : Result Examined Refused → Type 0) → ((place : ℕ) → UnknownKind one.item → P (refused R.UnknownKind place))
+      → ((place : ℕ) → P (refused R.BadShape place))
+      → ((m : Message) (end : ℕ) (bad long : Noted) → WholeIs one m bad long → P (judged_shape (part m end bad long))) → P (examined s)
   unfolding examined judged_shape
   examined_case P unknown departs reads =
       let a = token_at s 0 in
@@ -162,7 +166,7 @@ module _ {s : List ℕ} (one : OneItem s) where
       (λ e₃. shape (shape_sound at-kind (inl (ltb-false 9 k.arg e₃)))))
       (λ _. departs _))
     where
-      shape : {r : Shape} → ShapeOk s r → P (judged_shape r)
+      shape : {r : Read Message} → ShapeOk s r → P (judged_shape r)
       shape (IfGood.bad {place}) = departs place
       shape (IfGood.good {m} {end} {bad} {long} i) = reads m end bad long (fills one i)
 
@@ -172,7 +176,8 @@ record Led (s : List ℕ) (kind : ℕ) (xs : Items) : Type 0 where
   place : ℕ
   end : ℕ
   stand : StandAll s at end xs
-  is : let read = judged_shape (by_kind s kind (suc (count xs)) at) in examined s ≡ pick (ltb 9 kind) (pick (eqb kind 99) read (E.Refused 8 place)) read
+  is : let read = judged_shape (by_kind s kind (suc (count xs)) at) in examined s ≡ pick (ltb 9 kind) (pick (eqb kind 99) read (refused R.UnknownKind place))
+      read
 
 -- such an array is so read
 led : {s : List ℕ} {w v kind : ℕ} {xs : Items} → Stands s 0 (length s) (Item.array w (Items.more (uint v kind) xs)) → Led s kind xs
@@ -194,7 +199,7 @@ led {s} {kind = kind} {xs} a =
     }
 
 -- an item of no known kind
-pub unknown_complete : {s : List ℕ} {x : Item} → Stands s 0 (length s) x → UnknownKind x → (place : ℕ) × (examined s ≡ E.Refused 8 place)
+pub unknown_complete : {s : List ℕ} {x : Item} → Stands s 0 (length s) x → UnknownKind x → (place : ℕ) × (examined s ≡ refused R.UnknownKind place)
 unfolding pick
 unknown_complete a (UnknownKind.unknown {n = n} high other) = let l = led a in (l.place, l.is ∙ rw (lt-ltb 9 n high, ne_eqb n 99 other))
 
@@ -202,12 +207,12 @@ unknown_complete a (UnknownKind.unknown {n = n} high other) = let l = led a in (
 pub record MessageReads (s : List ℕ) : Type 0 where
   pub message : Message
   pub end : ℕ
-  pub bad : ℕ
-  pub long : ℕ
-  pub is : examined s ≡ judged_shape (S.Good message end bad long)
+  pub bad : Noted
+  pub long : Noted
+  pub is : examined s ≡ judged_shape (part message end bad long)
 
 -- as its shape is read
-reads_of : {s : List ℕ} (r : Shape) → examined s ≡ judged_shape r → Reads r → MessageReads s
+reads_of : {s : List ℕ} (r : Read Message) → examined s ≡ judged_shape r → Reads r → MessageReads s
 reads_of _ e (Reads.reads {m} {end} {bad} {long}) = record { message = m; end = end; bad = bad; long = long; is = e }
 
 -- each message is read

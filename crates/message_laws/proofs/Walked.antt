@@ -10,20 +10,24 @@ use native.Mathlib.Omega.{arith}
 use lib.ListN.{drop}
 use lib.Dec.{ltb}
 use borrow.Author.Tests.{ltb-false, eqb-true, eqb-false}
+use Rattle.options.specs.Text.{Noted}
+use Rattle.std.specs.Prelude.{Result, Ok, Err, Some, None}
+use Rattle.options.specs.Part.{Read, departs, part}
+use Rattle.options.specs.declared.outcome.Outcome.{Outcome}
+use Rattle.message.proofs.Clear.{clear_case}
+use Rattle.message.proofs.Fits.{accepted_same}
+use Rattle.message.specs.Opening.{Before}
+use Rattle.options.specs.Divert.{DivertRead}
+use Rattle.options.specs.Locators.{LocatorsRead}
+use Rattle.message.specs.Sequence.{PairsRead}
 use Rattle.base.proofs.Picks.{pick-case, both}
-use Rattle.cbor.specs.declared.item.ItemRead.{ItemRead}
 use Rattle.cbor.specs.declared.token.Token.{Token}
 use Rattle.cbor.specs.Item.{left_under, first_item}
 use Rattle.cbor.specs.Token.{token_at, size_at, items_in, up_to}
 use Rattle.cbor.proofs.Tokens.{is_array, is_number}
 use Rattle.cbor.proofs.Passes.{Passes, passes_none, passes_then, passes_within, leaf_passes, array_passes, size_passes, passes_item}
-use Rattle.options.specs.declared.locators.LocatorsRead.{LocatorsRead}
-use Rattle.options.specs.declared.divert.DivertRead.{DivertRead}
-use Rattle.options.specs.declared.outcome.OutcomeRead.{OutcomeRead}
 use Rattle.options.specs.declared.objective.Objective.{Objective}
-use Rattle.options.specs.declared.objective.ObjectiveRead.{ObjectiveRead}
 use Rattle.options.specs.declared.pair.Pair.{Pair}
-use Rattle.options.specs.declared.pair.PairRead.{PairRead}
 use Rattle.options.specs.Text.{first_of}
 use Rattle.options.specs.Locators.{locators_at}
 use Rattle.options.specs.Divert.{divert_at}
@@ -36,18 +40,14 @@ use Rattle.message.specs.declared.Series.{Series}
 use Rattle.message.specs.declared.Targets.{Targets}
 use Rattle.message.specs.declared.Message.{Message}
 use Rattle.message.specs.declared.opening.Opening.{Opening}
-use Rattle.message.specs.declared.opening.OpeningRead.{OpeningRead}
-use Rattle.message.specs.declared.sequence.PairsRead.{PairsRead}
-use Rattle.message.specs.declared.shape.Shape.{Shape}
-use Rattle.message.specs.declared.shape.Shape.TheVariants as S
 use Rattle.message.specs.declared.Examined.{Examined}
-use Rattle.message.specs.declared.Examined.TheVariants as E
+use Rattle.base.specs.declared.refusal.Refused.{Refused}
 use Rattle.message.specs.Opening.{most_number, objective_levels, is_initiator, opening_at}
 use Rattle.message.specs.Sequence.{pair_then, pairs_from}
 use Rattle.message.specs.Shape.{noop_at, discovered, discovery_at, exchanged, exchange_at, wait_at, invalid_at, ended, end_at}
 use Rattle.message.specs.Response.{rest_of, rest_at, located_of, located_at, targets_of, targets_at, response_by, response_at}
 use Rattle.message.specs.Flood.{flooded_by, flooded_of, flooded_at, flood_by, flood_at}
-use Rattle.message.specs.Examined.{by_kind, judged_shape, examined}
+use Rattle.message.specs.Examined.{accepted, by_kind, judged_shape, examined}
 use Rattle.message.proofs.Parts.{initiated}
 use Rattle.message_laws.proofs.Whole.{part_levels, IfGood, past_case, held_case}
 
@@ -77,49 +77,49 @@ module _ (s : List ℕ) where
   -- ---- pairs, one after the other
   -- all n pairs are passed
   abbrev PairsWalked : ℕ → ℕ → PairsRead → Type 0
-  PairsWalked n p (PairsRead.Bad place) = Unit {0}
-  PairsWalked n p (PairsRead.Ran end bad long) = Parts n p end
+  PairsWalked n p (Err e) = Unit {0}
+  PairsWalked n p (Ok run) = Parts n p run.end
 
   -- one pair, and then others
   pairs_more : (n : ℕ) {p m : ℕ} (r : PairsRead) → Parts 1 p m → PairsWalked n m r → PairsWalked (suc n) p r
-  pairs_more n (PairsRead.Bad place) h rest = tt
-  pairs_more n (PairsRead.Ran end bad long) h rest = let sum : suc n ≡ 1 + n = omega arith in rw sum (passes_then h rest)
+  pairs_more n (Err e) h rest = tt
+  pairs_more n (Ok run) h rest = let sum : suc n ≡ 1 + n = omega arith in rw sum (passes_then h rest)
 
   -- the loop over pairs
-  pairs_walked : (n p bad long : ℕ) → PairsWalked n p (pairs_from s n p bad long)
+  pairs_walked : (n p : ℕ) (bad long : Noted) → PairsWalked n p (pairs_from s n p bad long)
   unfolding pairs_from pair_then
   pairs_walked zero p bad long = passes_none
   pairs_walked (suc n) p bad long = next (pairs_walked n) (pair_at s p) (pair_walked p (drop p s))
     where
-      next : ((p' bad' long' : ℕ) → PairsWalked n p' (pairs_from s n p' bad' long')) → (x : PairRead) → PairWalked (drop p s) x
+      next : ((p' : ℕ) (bad' long' : Noted) → PairsWalked n p' (pairs_from s n p' bad' long')) → (x : Read Pair) → PairWalked (drop p s) x
           → PairsWalked (suc n) p (pair_then (pairs_from s n) p bad long x)
-      next go (PairRead.Bad place) h = tt
-      next go (PairRead.Got o t size bad' long') h = pairs_more n (pairs_from s n (p + size) (first_of bad bad') (first_of long long')) (passes_within h)
-          (go (p + size) (first_of bad bad') (first_of long long'))
+      next go (Err e) h = tt
+      next go (Ok r) h = pairs_more n (pairs_from s n (p + r.size) (first_of bad r.bad) (first_of long r.long)) (passes_within h)
+          (go (p + r.size) (first_of bad r.bad) (first_of long r.long))
 
   -- ---- the shapes
   -- the n items from p on are passed, up to where the parts of a shape end
-  abbrev ShapeWalked : ℕ → ℕ → Shape → Type 0
-  ShapeWalked n p = IfGood (λ (m : Message) (end bad long : ℕ). Parts n p end)
+  abbrev ShapeWalked : ℕ → ℕ → Read Message → Type 0
+  ShapeWalked n p = IfGood (λ (m : Message) (end : ℕ) (bad long : Noted). Parts n p end)
 
   -- as many items as there are
-  counted : {n c p : ℕ} {m : Message} {end bad long : ℕ} → n ≡ c → Parts c p end → ShapeWalked n p (S.Good m end bad long)
+  counted : {n c p : ℕ} {m : Message} {end : ℕ} {bad long : Noted} → n ≡ c → Parts c p end → ShapeWalked n p (part m end bad long)
   counted {end = end} sum h = IfGood.good {end = end} (rw sum h)
 
   -- some items, and then a shape's
-  after : {n c d p m : ℕ} {x : Shape} → n ≡ c + d → Parts c p m → ShapeWalked d m x → ShapeWalked n p x
+  after : {n c d p m : ℕ} {x : Read Message} → n ≡ c + d → Parts c p m → ShapeWalked d m x → ShapeWalked n p x
   after sum h IfGood.bad = IfGood.bad
   after sum h (IfGood.good rest) = counted sum (passes_then h rest)
 
   -- an objective
-  objective_then : {n p : ℕ} (f : ObjectiveRead → Shape) → ((place : ℕ) → ShapeWalked n p (f (ObjectiveRead.Bad place)))
-      → ((o : Objective) (size bad long : ℕ) → Parts 1 p (p + size) → ShapeWalked n p (f (ObjectiveRead.Got o size bad long)))
+  objective_then : {n p : ℕ} (f : Read Objective → Read Message) → ((place : ℕ) → ShapeWalked n p (f (departs place)))
+      → ((o : Objective) (size : ℕ) (bad long : Noted) → Parts 1 p (p + size) → ShapeWalked n p (f (part o size bad long)))
       → ShapeWalked n p (f (objective_at objective_levels s p))
   objective_then {n} {p} f none got = by (objective_at objective_levels s p) (objective_walked objective_levels p (drop p s))
     where
-      by : (x : ObjectiveRead) → ObjectiveWalked objective_levels (drop p s) x → ShapeWalked n p (f x)
-      by (ObjectiveRead.Bad place) h = none place
-      by (ObjectiveRead.Got o size bad long) h = got o size bad long (passes_within h)
+      by : (x : Read Objective) → ObjectiveWalked objective_levels (drop p s) x → ShapeWalked n p (f x)
+      by (Err e) h = none e.place
+      by (Ok o) h = got o.value o.size o.bad o.long (passes_within h)
 
   -- 0, Noop
   noop_walked : (n p : ℕ) → ShapeWalked (n - 1) p (noop_at n p)
@@ -175,24 +175,24 @@ module _ (s : List ℕ) where
       (λ e. after (omega (arith, eqb-true n 3 three)) (most_passes e)
       (by _ (token_at s p).next (outcome_at s (token_at s p).next) (outcome_walked (token_at s p).next (drop (token_at s p).next s)))))
     where
-      by : (session q : ℕ) (x : OutcomeRead) → OutcomeWalked (drop q s) x → ShapeWalked 1 q (ended session q x)
-      by session q (OutcomeRead.Bad place) h = IfGood.bad
-      by session q (OutcomeRead.Got o size bad) h = IfGood.good (passes_within (h (left_under 2)))
+      by : (session q : ℕ) (x : Read Outcome) → OutcomeWalked (drop q s) x → ShapeWalked 1 q (ended session q x)
+      by session q (Err e) h = IfGood.bad
+      by session q (Ok o) h = IfGood.good (passes_within (h (left_under 2)))
 
   -- what Response and Flood begin with
-  data OpeningWalked (p : ℕ) : OpeningRead → Type 0 where
-    departs : {place : ℕ} → OpeningWalked p (OpeningRead.Bad place)
-    opened : {opening : Opening} {next : ℕ} → Parts 3 p next → OpeningWalked p (OpeningRead.Got opening next)
+  data OpeningWalked (p : ℕ) : Before Opening → Type 0 where
+    refused : {place : ℕ} → OpeningWalked p (departs place)
+    opened : {opening : Opening} {next : ℕ} → Parts 3 p next → OpeningWalked p (Ok (opening, next))
 
   -- its three items
   opening_walked : (p : ℕ) → OpeningWalked p (opening_at s p)
   unfolding opening_at
   opening_walked p =
-      pick-case (OpeningWalked p) _ (λ _. OpeningWalked.departs)
+      pick-case (OpeningWalked p) _ (λ _. OpeningWalked.refused)
       (λ e. pick-case (OpeningWalked p) _
-      (λ e'. pick-case (OpeningWalked p) _ (λ _. OpeningWalked.departs)
+      (λ e'. pick-case (OpeningWalked p) _ (λ _. OpeningWalked.refused)
       (λ e''. OpeningWalked.opened (passes_then (passes_then (most_passes e) (initiator_passes e')) (most_passes e''))))
-      (λ _. OpeningWalked.departs))
+      (λ _. OpeningWalked.refused))
 
   -- the pairs of a Flood
   flooded_walked : (n p : ℕ) (opening : Opening) → 1 ≤ n → ShapeWalked n p (flooded_at s opening n p)
@@ -200,26 +200,27 @@ module _ (s : List ℕ) where
   flooded_walked n p opening some = by (pair_at s p) (pair_walked p (drop p s))
     where
       all : (m : ℕ) (first : Pair) (pairs : Series) (x : PairsRead) → PairsWalked (n - 1) m x → ShapeWalked (n - 1) m (flooded_by opening first pairs x)
-      all m first pairs (PairsRead.Bad place) h = IfGood.bad
-      all m first pairs (PairsRead.Ran end bad long) h = IfGood.good h
+      all m first pairs (Err e) h = IfGood.bad
+      all m first pairs (Ok run) h = IfGood.good h
 
-      by : (x : PairRead) → PairWalked (drop p s) x → ShapeWalked n p (flooded_of s opening n p x)
-      by (PairRead.Bad place) h = IfGood.bad
-      by (PairRead.Got o tag size bad long) h =
-          after (omega arith) (passes_within h) (all (p + size) _ _ (pairs_from s (n - 1) (p + size) bad long) (pairs_walked (n - 1) (p + size) bad long))
+      by : (x : Read Pair) → PairWalked (drop p s) x → ShapeWalked n p (flooded_of s opening n p x)
+      by (Err e) h = IfGood.bad
+      by (Ok r) h =
+          after (omega arith) (passes_within h) (all (p + r.size) _ _ (pairs_from s (n - 1) (p + r.size) r.bad r.long) (pairs_walked (n - 1) (p + r.size) r.bad
+          r.long))
 
   -- 9, Flood
   flood_walked : (n p : ℕ) → ShapeWalked (n - 1) p (flood_at s n p)
   unfolding flood_at flood_by
   flood_walked n p = past_case _ (λ five. by (ltb-false n 5 five) (opening_at s p) (opening_walked p))
     where
-      by : 5 ≤ n → (x : OpeningRead) → OpeningWalked p x → ShapeWalked (n - 1) p (flood_by s n x)
-      by five _ OpeningWalked.departs = IfGood.bad
+      by : 5 ≤ n → (x : Before Opening) → OpeningWalked p x → ShapeWalked (n - 1) p (flood_by s n x)
+      by five _ OpeningWalked.refused = IfGood.bad
       by five _ (OpeningWalked.opened {opening} {next} h) = after (omega arith) h (flooded_walked (n - 4) next opening (omega arith))
 
   module _ (opening : Opening) where
     -- what follows the locators or the divert of a Response
-    rest_walked : (targets : Targets) (left p bad : ℕ) → ShapeWalked left p (rest_at s opening targets left p bad)
+    rest_walked : (targets : Targets) (left p : ℕ) (bad : Noted) → ShapeWalked left p (rest_at s opening targets left p bad)
     unfolding rest_at rest_of
     rest_walked targets left p bad =
         pick-case (ShapeWalked left p) _ (λ none. counted (eqb-true left 0 none) passes_none)
@@ -231,8 +232,8 @@ module _ (s : List ℕ) where
     located_walked n p some = by (locators_at s p (n - 1)) (locators_walked p (drop p s) (left_under 2) 0 (n - 1))
       where
         by : (x : LocatorsRead) → LocatorsWalked p (drop p s) (left_under 2) (suc (n - 1)) 0 x → ShapeWalked n p (located_of s opening n p x)
-        by (LocatorsRead.Bad place) h = IfGood.bad
-        by (LocatorsRead.Ran first end left bad) (c, sum, h) = after (omega arith) (passes_within h) (rest_walked _ left (p + end) bad)
+        by (Err e) h = IfGood.bad
+        by (Ok run) (c, sum, h) = after (omega arith) (passes_within h) (rest_walked _ run.left (p + run.end) run.bad)
 
     -- a divert first, or else locators
     targets_walked : (n p : ℕ) → 1 ≤ n → ShapeWalked n p (targets_at s opening n p)
@@ -240,17 +241,17 @@ module _ (s : List ℕ) where
     targets_walked n p some = by (divert_at s p) (divert_walked p (drop p s))
       where
         by : (x : DivertRead) → DivertWalked p (drop p s) x → ShapeWalked n p (targets_of s opening n p x)
-        by DivertRead.Other h = located_walked n p some
-        by (DivertRead.Bad place) h = IfGood.bad
-        by (DivertRead.Got first at many size bad) h = after (omega arith) (passes_within (h (left_under 3))) (rest_walked _ (n - 1) (p + size) bad)
+        by (Ok None) h = located_walked n p some
+        by (Err e) h = IfGood.bad
+        by (Ok (Some d)) h = after (omega arith) (passes_within (h (left_under 3))) (rest_walked _ (n - 1) (p + d.size) d.bad)
 
   -- 2, Response
   response_walked : (n p : ℕ) → ShapeWalked (n - 1) p (response_at s n p)
   unfolding response_at response_by
   response_walked n p = past_case _ (λ five. by (ltb-false n 5 five) (opening_at s p) (opening_walked p))
     where
-      by : 5 ≤ n → (x : OpeningRead) → OpeningWalked p x → ShapeWalked (n - 1) p (response_by s n x)
-      by five _ OpeningWalked.departs = IfGood.bad
+      by : 5 ≤ n → (x : Before Opening) → OpeningWalked p x → ShapeWalked (n - 1) p (response_by s n x)
+      by five _ OpeningWalked.refused = IfGood.bad
       by five _ (OpeningWalked.opened {opening} {next} h) = after (omega arith) h (targets_walked opening (n - 4) next (omega arith))
 
   -- any kind
@@ -262,31 +263,31 @@ module _ (s : List ℕ) where
       (both P _ (response_walked n p)
       (both P _ (end_walked n p) (both P _ (wait_walked n p) (both P _ (flood_walked n p) (both P _ (invalid_walked n p) (exchange_walked kind n p)))))))
     where
-      P : Shape → Type 0
+      P : Read Message → Type 0
       P = ShapeWalked (n - 1) p
 
   -- ---- the whole
   module _ (filled : items_in (token_at s 0) ≡ 0 → ⊥) (number : (token_at s (token_at s 0).next).major ≡ 0) where
     -- the walk ends where the parts after the kind end
-    whole_walked : {end : ℕ} → Parts ((token_at s 0).arg - 1) (token_at s (token_at s 0).next).next end → first_item 0 s ≡ ItemRead.Ends end
+    whole_walked : {end : ℕ} → Parts ((token_at s 0).arg - 1) (token_at s (token_at s 0).next).next end → first_item 0 s ≡ Ok end
     whole_walked {end} h =
         let a = token_at s 0 in
         let sum : a.arg ≡ 1 + (a.arg - 1) = omega (arith, array_filled a filled) in
         passes_item 0 s end (array_passes s 0 (is_array a filled) (rw sum (passes_then (leaf_passes s a.next (inl (omega arith))) h)))
 
     -- which are those of a message that is accepted
-    judged_walked : {m : Message} {end : ℕ} {x : Shape} → ShapeWalked ((token_at s 0).arg - 1) (token_at s (token_at s 0).next).next x
-        → judged_shape x ≡ E.Accepted m end → first_item 0 s ≡ ItemRead.Ends end
+    judged_walked : {m : Message} {end : ℕ} {x : Read Message} → ShapeWalked ((token_at s 0).arg - 1) (token_at s (token_at s 0).next).next x
+        → judged_shape x ≡ accepted m end → first_item 0 s ≡ Ok end
     unfolding judged_shape
     judged_walked IfGood.bad = λ q. cc
     judged_walked {m} {end} (IfGood.good {end = end'} h) =
-        both P _ (both P _ (λ q. let same : end' ≡ end = cc in whole_walked h ∙ ap ItemRead.Ends same) (λ q. cc)) (λ q. cc)
+        clear_case P _ (clear_case P _ (λ q. let same : end' ≡ end = (accepted_same q).1 in whole_walked h ∙ ap Ok same) (λ _ q. cc)) (λ _ q. cc)
       where
-        P : Examined → Type 0
-        P x = x ≡ E.Accepted m end → first_item 0 s ≡ ItemRead.Ends end
+        P : Result Examined Refused → Type 0
+        P x = x ≡ accepted m end → first_item 0 s ≡ Ok end
 
 -- The walk accepts a message that its parts make up, and ends where they end.
-pub parts_walked : (s : List ℕ) {m : Message} {end : ℕ} → examined s ≡ E.Accepted m end → first_item 0 s ≡ ItemRead.Ends end
+pub parts_walked : (s : List ℕ) {m : Message} {end : ℕ} → examined s ≡ accepted m end → first_item 0 s ≡ Ok end
 unfolding examined
 parts_walked s {m} {end} =
     pick-case P _ (λ _ q. cc)
@@ -297,5 +298,5 @@ parts_walked s {m} {end} =
     both P _ (both P _ read (λ q. cc)) read)
     (λ _ q. cc))
   where
-    P : Examined → Type 0
-    P x = x ≡ E.Accepted m end → first_item 0 s ≡ ItemRead.Ends end
+    P : Result Examined Refused → Type 0
+    P x = x ≡ accepted m end → first_item 0 s ≡ Ok end

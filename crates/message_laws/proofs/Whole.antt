@@ -8,6 +8,9 @@ use mathlib.Core.Bool.{Bool, true, false}
 use Prim.Native.Nat.{ℕ, suc}
 use native.Mathlib.Omega.{arith}
 use lib.ListN.{length, drop}
+use Rattle.options.specs.Text.{Noted}
+use Rattle.std.specs.Prelude.{None}
+use Rattle.options.specs.Part.{Read, departs, part}
 use Rattle.base.specs.Pick.{pick}
 use Rattle.base.specs.BigEndian.{Bytes}
 use Rattle.base.proofs.Picks.{pick-case}
@@ -21,8 +24,6 @@ use Rattle.message_laws.specs.Stands.{Stands, StandAll}
 use Rattle.message_laws.proofs.Bridge.{join, stands_whole}
 use Rattle.message_laws.proofs.Pieces.{head_array}
 use Rattle.message.specs.declared.Message.{Message}
-use Rattle.message.specs.declared.shape.Shape.{Shape}
-use Rattle.message.specs.declared.shape.Shape.TheVariants as S
 use Rattle.message_laws.specs.Describes.{KindIs, Describes}
 use Rattle.rfc8990.specs.Accepted.{OneItem}
 use Rattle.message_laws.proofs.Bytes.{bytes_encode}
@@ -33,40 +34,42 @@ part_levels = left_under 1
 
 -- the first bytes of s, up to `end`, are the encoding of a message, which m describes where it is the whole; bad is 0
 -- exactly if its texts are UTF-8, and long exactly if its names are short
-pub record ShapeIs (s : List ℕ) (m : Message) (end bad long : ℕ) : Type 0 where
+pub record ShapeIs (s : List ℕ) (m : Message) (end : ℕ) (bad long : Noted) : Type 0 where
   pub item : Item
   pub msg : Msg Value
   pub stands : Stands s 0 end item
   pub is : MessageItem item msg
   pub describes : end ≡ length s → Describes s m msg
-  pub texts : bad ≡ 0 ↔ TextsGood msg
-  pub names : long ≡ 0 ↔ NamesGood msg
+  pub texts : bad ≡ None ↔ TextsGood msg
+  pub names : long ≡ None ↔ NamesGood msg
 
 -- P holds of what a good shape has: its message, where its parts end, its bad text and its long name
-pub data IfGood (P : Message → ℕ → ℕ → ℕ → Type 0) : Shape → Type 0 where
-  bad : {place : ℕ} → IfGood P (S.Bad place)
-  good : {m : Message} {end bad long : ℕ} → P m end bad long → IfGood P (S.Good m end bad long)
+pub data IfGood (P : Message → ℕ → Noted → Noted → Type 0) : Read Message → Type 0 where
+  bad : {place : ℕ} → IfGood P (departs place)
+  good : {m : Message} {end : ℕ} {bad long : Noted} → P m end bad long → IfGood P (part m end bad long)
 
 -- what the tests leave
-pub past_case : {P : Message → ℕ → ℕ → ℕ → Type 0} {t : Bool} (place : ℕ) {x : Shape} → (t ≡ false → IfGood P x) → IfGood P (pick t (S.Bad place) x)
+pub past_case : {P : Message → ℕ → Noted → Noted → Type 0} {t : Bool} (place : ℕ) {x : Read Message} → (t ≡ false → IfGood P x)
+    → IfGood P (pick t (departs place) x)
 past_case {P} {t} place f = pick-case (IfGood P) t (λ _. IfGood.bad) f
 
-pub held_case : {P : Message → ℕ → ℕ → ℕ → Type 0} {t : Bool} (place : ℕ) {x : Shape} → (t ≡ true → IfGood P x) → IfGood P (pick t x (S.Bad place))
+pub held_case : {P : Message → ℕ → Noted → Noted → Type 0} {t : Bool} (place : ℕ) {x : Read Message} → (t ≡ true → IfGood P x)
+    → IfGood P (pick t x (departs place))
 held_case {P} {t} place f = pick-case (IfGood P) t f (λ _. IfGood.bad)
 
 -- a shape that was read is one of a message
-abbrev pub ShapeOk : List ℕ → Shape → Type 0
+abbrev pub ShapeOk : List ℕ → Read Message → Type 0
 ShapeOk s = IfGood (ShapeIs s)
 
 -- a shape that is read, and the tests that lead there
-pub data Reads : Shape → Type 0 where
-  reads : {m : Message} {end bad long : ℕ} → Reads (S.Good m end bad long)
+pub data Reads : Read Message → Type 0 where
+  reads : {m : Message} {end : ℕ} {bad long : Noted} → Reads (part m end bad long)
 
-pub taken : {t : Bool} {x : Shape} (y : Shape) → t ≡ true → Reads x → Reads (pick t x y)
+pub taken : {t : Bool} {x : Read Message} (y : Read Message) → t ≡ true → Reads x → Reads (pick t x y)
 unfolding pick
 taken y e r = rw e r
 
-pub skipped : {t : Bool} (x : Shape) {y : Shape} → t ≡ false → Reads y → Reads (pick t x y)
+pub skipped : {t : Bool} (x : Read Message) {y : Read Message} → t ≡ false → Reads y → Reads (pick t x y)
 unfolding pick
 skipped x e r = rw e r
 
@@ -77,9 +80,9 @@ pub record Kinded (s : List ℕ) (kind n at : ℕ) : Type 0 where
   pub many : is.many ≡ n
 
 -- items that stand after the kind are the rest of the message
-pub built : {s : List ℕ} {kind n at : ℕ} {m : Message} {bad long : ℕ} → Kinded s kind n at → (e : ℕ) (xs : Items) (msg : Msg Value)
+pub built : {s : List ℕ} {kind n at : ℕ} {m : Message} {bad long : Noted} → Kinded s kind n at → (e : ℕ) (xs : Items) (msg : Msg Value)
     → n ≡ suc (count xs) → StandAll s at e xs → ((w v : ℕ) → MessageItem (Item.array w (Items.more (uint v kind) xs)) msg)
-    → (e ≡ length s → Describes s m msg) → bad ≡ 0 ↔ TextsGood msg → long ≡ 0 ↔ NamesGood msg → ShapeOk s (S.Good m e bad long)
+    → (e ≡ length s → Describes s m msg) → bad ≡ None ↔ TextsGood msg → long ≡ None ↔ NamesGood msg → ShapeOk s (part m e bad long)
 unfolding count
 built {kind = kind} k e xs msg counted stand is describes texts names =
     let i = k.is in
@@ -96,12 +99,12 @@ built {kind = kind} k e xs msg counted stand is describes texts names =
 
 -- ---- one item that is the whole
 -- m describes a message that the item is
-pub record WholeIs {s : List ℕ} (one : OneItem s) (m : Message) (bad long : ℕ) : Type 0 where
+pub record WholeIs {s : List ℕ} (one : OneItem s) (m : Message) (bad long : Noted) : Type 0 where
   pub msg : Msg Value
   pub is : MessageItem one.item msg
   pub describes : Describes s m msg
-  pub texts : bad ≡ 0 ↔ TextsGood msg
-  pub names : long ≡ 0 ↔ NamesGood msg
+  pub texts : bad ≡ None ↔ TextsGood msg
+  pub names : long ≡ None ↔ NamesGood msg
 
 module _ {s : List ℕ} (one : OneItem s) where
   -- it stands from the start to the end
@@ -116,7 +119,7 @@ module _ {s : List ℕ} (one : OneItem s) where
   only_one {e} {x} a = unique x one.item (drop e s) (drop (length s) s) a.good one.good (sym a.is ∙ stands.is)
 
   -- a message that stands at the start is the whole
-  pub fills : {m : Message} {end bad long : ℕ} → ShapeIs s m end bad long → WholeIs one m bad long
+  pub fills : {m : Message} {end : ℕ} {bad long : Noted} → ShapeIs s m end bad long → WholeIs one m bad long
   fills h =
       let same = only_one h.stands in
       record {

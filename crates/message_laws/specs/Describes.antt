@@ -1,4 +1,5 @@
 -- What an answer of `reader::read` describes, by the message's bytes s.
+use Rattle.std.specs.Prelude.{Some, None}
 use Rattle.std.specs.Prelude.{ℕ, suc, ◌+◌, List, ◌∷◌, ◌≡◌, length}
 use Rattle.std.proofs.Math.Option.{Option, none, some}
 use Rattle.cbor.specs.Tree.{Items, count}
@@ -12,7 +13,7 @@ use Rattle.message_laws.specs.Stands.{Stands, StandAll, ArrayHead, Before}
 use Rattle.message_laws.specs.Stands.{LocatorIs, ValueIs, ObjectiveIs, PairIs}
 use Rattle.message.specs.declared.Series.{Series}
 use Rattle.message.specs.declared.Targets.{Targets}
-use Rattle.message.specs.declared.Extra.{Extra}
+use Rattle.message.specs.Fields.{Extra}
 use Rattle.options.specs.declared.outcome.Outcome.{Outcome}
 use Rattle.message.specs.declared.Message.{Message}
 use Rattle.message.specs.declared.Message.TheVariants as M
@@ -56,9 +57,9 @@ pub data TargetsIs (s : List ℕ) (p e : ℕ) : Targets → Tgts → Type 0 wher
 
 -- the message ends at p, or an objective stands from there on
 pub data ExtraIs (s : List ℕ) (p : ℕ) : Extra → Option (Obj Value) → Type 0 where
-  without : p ≡ length s → ExtraIs s p Extra.Without none
+  without : p ≡ length s → ExtraIs s p None none
   with_one : {o : Objective} {obj : Obj Value} → ObjectiveIs s p (length s) o obj
-      → ExtraIs s p (Extra.With o) (some obj)
+      → ExtraIs s p (Some o) (some obj)
 
 -- an End's outcome; a reason stands at the message's end
 pub data OutcomeIs (s : List ℕ) : Outcome → Outc → Type 0 where

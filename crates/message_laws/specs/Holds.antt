@@ -1,17 +1,19 @@
 -- What an answer of `reader::read` holds, by the message's bytes s: its numbers are the message's, and the bytes at
 -- each of its spans are the message's contents. Where the parts stand isn't asked here.
+use Rattle.options.specs.Text.{Noted}
+use Rattle.std.specs.Prelude.{Some, None}
 use Rattle.std.specs.Prelude.{ℕ, ◌+◌, ◌-◌, ◌≤◌, List, [], ◌∷◌, ◌≡◌, length}
 use Rattle.std.proofs.Math.Option.{Option, none, some}
+use Rattle.options.specs.Part.{part}
+use Rattle.options.specs.Pair.{paired}
 use Rattle.cbor.specs.Tree.{Item, encode}
 use Rattle.options.specs.declared.Span.{Span}
 use Rattle.options.specs.declared.outcome.Outcome.{Outcome}
 use Rattle.options.specs.declared.locator.Locator.{Locator}
 use Rattle.options.specs.declared.locator.Locator.TheVariants as L
-use Rattle.options.specs.declared.locator.LocatorRead.{LocatorRead}
 use Rattle.options.specs.declared.objective.Objective.{Objective}
-use Rattle.options.specs.declared.pair.Tag.{Tag}
+use Rattle.options.specs.Pair.{Tag}
 use Rattle.options.specs.declared.pair.Pair as P
-use Rattle.options.specs.declared.pair.PairRead.{PairRead}
 use Rattle.options.specs.Text.{span_of, held}
 use Rattle.options.specs.Locator.{null_protocol, null_port, locator_at}
 use Rattle.options.specs.Pair.{pair_at}
@@ -19,7 +21,7 @@ use Rattle.rfc8990.specs.Message.{Loc, or_null, Obj, Pair, Tgts, Outc, Msg}
 use Rattle.rfc8990.specs.Cddl.{uint, Value}
 use Rattle.message.specs.declared.Series.{Series}
 use Rattle.message.specs.declared.Targets.{Targets}
-use Rattle.message.specs.declared.Extra.{Extra}
+use Rattle.message.specs.Fields.{Extra}
 use Rattle.message.specs.declared.Message.{Message}
 use Rattle.message.specs.declared.Message.TheVariants as M
 
@@ -57,8 +59,8 @@ pub record ObjectiveHolds (s : List ℕ) (o : Objective) (obj : Obj Value) : Typ
 
 -- a pair's locator, or none
 pub data TagHolds (s : List ℕ) : Tag → Option Loc → Type 0 where
-  empty : TagHolds s Tag.Empty none
-  at : {l : Locator} {loc : Loc} → LocatorHolds s l loc → TagHolds s (Tag.At l) (some loc)
+  empty : TagHolds s None none
+  at : {l : Locator} {loc : Loc} → LocatorHolds s l loc → TagHolds s (Some l) (some loc)
 
 -- a Flood's pair
 pub record PairHolds (s : List ℕ) (o : Objective) (t : Tag) (pair : Pair Value) : Type 0 where
@@ -75,8 +77,8 @@ pub data InTurn {A : Type 0} (Reads : ℕ → ℕ → A → Type 0) : ℕ → Li
 pub record LocatorReads (s : List ℕ) (at next : ℕ) (loc : Loc) : Type 0 where
   pub locator : Locator
   pub size : ℕ
-  pub bad : ℕ
-  pub read : locator_at s at ≡ LocatorRead.Got locator size bad
+  pub bad : Noted
+  pub read : locator_at s at ≡ part locator size bad None
   pub after : next ≡ at + size
   pub holds : LocatorHolds s locator loc
 
@@ -85,9 +87,9 @@ pub record PairReads (s : List ℕ) (at next : ℕ) (pair : Pair Value) : Type 0
   pub objective : Objective
   pub tag : Tag
   pub size : ℕ
-  pub bad : ℕ
-  pub long : ℕ
-  pub read : pair_at s at ≡ PairRead.Got objective tag size bad long
+  pub bad : Noted
+  pub long : Noted
+  pub read : pair_at s at ≡ paired objective tag size bad long
   pub after : next ≡ at + size
   pub holds : PairHolds s objective tag pair
 
@@ -108,8 +110,8 @@ pub data TargetsHold (s : List ℕ) : Targets → Tgts → Type 0 where
 
 -- an objective that may be left out
 pub data ExtraHolds (s : List ℕ) : Extra → Option (Obj Value) → Type 0 where
-  without : ExtraHolds s Extra.Without none
-  with_one : {o : Objective} {obj : Obj Value} → ObjectiveHolds s o obj → ExtraHolds s (Extra.With o) (some obj)
+  without : ExtraHolds s None none
+  with_one : {o : Objective} {obj : Obj Value} → ObjectiveHolds s o obj → ExtraHolds s (Some o) (some obj)
 
 -- how a negotiation ends
 pub data OutcomeHolds (s : List ℕ) : Outcome → Outc → Type 0 where

@@ -1,4 +1,6 @@
 -- What the answers of the readers describe, by the message's bytes.
+use Rattle.options.specs.Text.{Noted}
+use Rattle.std.specs.Prelude.{Some, None}
 use Rattle.std.specs.Prelude.{ℕ, suc, ◌+◌, ◌-◌, ◌≤◌, List, ◌++◌, ◌≡◌, ◌↔◌, length, drop}
 use Rattle.std.proofs.Math.Option.{Option, none, some}
 use Rattle.base.specs.Lists.{Every}
@@ -8,7 +10,7 @@ use Rattle.options.specs.declared.Span.{Span}
 use Rattle.options.specs.declared.locator.Locator.{Locator}
 use Rattle.options.specs.declared.locator.Locator.TheVariants as L
 use Rattle.options.specs.declared.objective.Objective.{Objective}
-use Rattle.options.specs.declared.pair.Tag.{Tag}
+use Rattle.options.specs.Pair.{Tag}
 use Rattle.options.specs.Text.{span_of}
 use Rattle.options.specs.Locator.{null_protocol, null_port}
 use Rattle.rfc8990.specs.Message.{Loc, or_null, Obj, Pair}
@@ -68,8 +70,8 @@ pub record LocatorIs (s : List ℕ) (p : ℕ) (l : Locator) (loc : Loc) : Type 0
 
 -- the tag that an answer describes, read of the item that begins at p
 pub data TagIs (s : List ℕ) (p : ℕ) : Tag → Option Loc → Type 0 where
-  empty : TagIs s p Tag.Empty none
-  at : {l : Locator} {loc : Loc} → LocatorIs s p l loc → TagIs s p (Tag.At l) (some loc)
+  empty : TagIs s p None none
+  at : {l : Locator} {loc : Loc} → LocatorIs s p l loc → TagIs s p (Some l) (some loc)
 
 -- the item that a span holds: none where it has no bytes
 pub data ValueIs (s : List ℕ) (span : Span) : Value → Type 0 where
@@ -110,36 +112,36 @@ pub record PairIs (s : List ℕ) (p : ℕ) (o : Objective) (t : Tag) (pair : Pai
   pub tag : TagIs s mid t pair.1
 
 -- ---- what is read of a part
--- the locator l, read from p to e with a bad text at `bad` (0 is none): the item that stands there, and the locator
+-- the locator l, read from p to e with a bad text at `bad`, if any: the item that stands there, and the locator
 -- that it is
-pub record LocatorStands (s : List ℕ) (p e : ℕ) (l : Locator) (bad : ℕ) : Type 0 where
+pub record LocatorStands (s : List ℕ) (p e : ℕ) (l : Locator) (bad : Noted) : Type 0 where
   pub item : Item
   pub loc : Loc
   pub stands : Stands s p e item
   pub is : LocatorItem item loc
   pub described : LocatorIs s p l loc
-  pub texts : bad ≡ 0 ↔ Every Utf8 (loc_texts loc)
+  pub texts : bad ≡ None ↔ Every Utf8 (loc_texts loc)
 
 -- the objective o, read from p to e with a name that is a bad text at `bad` or too long at `long`: the item that stands
 -- there, and the objective that it is; so many levels are open around its value, its own among them
-pub record ObjectiveStands (levels : ℕ) (s : List ℕ) (p e : ℕ) (o : Objective) (bad long : ℕ) : Type 0 where
+pub record ObjectiveStands (levels : ℕ) (s : List ℕ) (p e : ℕ) (o : Objective) (bad long : Noted) : Type 0 where
   pub item : Item
   pub obj : Obj Value
   pub stands : Stands s p e item
   pub shallow : depth item ≤ suc (left_under levels)
   pub is : ObjectiveItem item obj
   pub described : ObjectiveIs s p e o obj
-  pub texts : bad ≡ 0 ↔ Utf8 obj.name
-  pub names : long ≡ 0 ↔ Short obj.name
+  pub texts : bad ≡ None ↔ Utf8 obj.name
+  pub names : long ≡ None ↔ Short obj.name
 
 -- the pair of o and t, read from p to e with a bad text at `bad` or a name too long at `long`: the item that stands
 -- there, and the pair that it is; the message's level is open around it
-pub record PairStands (s : List ℕ) (p e : ℕ) (o : Objective) (t : Tag) (bad long : ℕ) : Type 0 where
+pub record PairStands (s : List ℕ) (p e : ℕ) (o : Objective) (t : Tag) (bad long : Noted) : Type 0 where
   pub item : Item
   pub pair : Pair Value
   pub stands : Stands s p e item
   pub shallow : depth item ≤ left_under 1
   pub is : PairItem item pair
   pub described : PairIs s p o t pair
-  pub texts : bad ≡ 0 ↔ Every Utf8 (pair_texts pair)
-  pub names : long ≡ 0 ↔ Short pair.0.name
+  pub texts : bad ≡ None ↔ Every Utf8 (pair_texts pair)
+  pub names : long ≡ None ↔ Short pair.0.name

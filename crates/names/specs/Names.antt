@@ -1,9 +1,9 @@
 -- A node's own names (refusal 16, rules 8.4): one CBOR array that passes refusals 1 to 7, with 0 to 16 items, each a
 -- UTF-8 text of at most 64 bytes.
+use Rattle.cbor.specs.Item.{ItemRead}
 use Rattle.std.specs.Prelude.{ℕ, zero, suc, Bool, true, false, not, ◌&&◌, ◌||◌, List, length, ltb, leb, eqb}
 use Rattle.base.specs.Pick.{pick}
 use Rattle.base.specs.Bytes.{same_bytes}
-use Rattle.cbor.specs.declared.item.ItemRead.{ItemRead}
 use Rattle.cbor.specs.declared.token.Token.{Token}
 use Rattle.cbor.specs.Item.{first_item, framed_by}
 use Rattle.cbor.specs.Token.{token_at}
@@ -33,7 +33,7 @@ array_bad s =
 
 -- bad by the walk, or else by the array
 unfoldable pub framed_bad : List ℕ → ItemRead → Bool
-framed_bad s r = framed_by (λ number place. true) (array_bad s) (length s) r
+framed_bad s r = framed_by (λ refusal place. true) (array_bad s) (length s) r
 
 -- refusal 16 is due
 unfoldable pub names_bad : List ℕ → Bool

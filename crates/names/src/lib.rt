@@ -5,7 +5,6 @@ ghost use Rattle.std.specs.Prelude.{◌≡◌, ◌≤◌, length};
 ghost use Rattle.names.specs.Names.{good_name, names_bad, array_bad, is_named};
 
 use base::bytes;
-use cbor::item::ItemRead;
 use cbor::token::Token;
 use cbor::{item, token};
 use message::MOST_BYTES;
@@ -15,6 +14,7 @@ use options::objective::MOST_NAME;
 pub const MOST_NAMES: u64 = 16;
 
 // 16: not one array that passes refusals 1 to 7, of 0 to 16 items, each a UTF-8 text of at most 64 bytes.
+#[tactic(auto, unfolding(crate::specs::Names::names_bad, crate::specs::Names::framed_bad, base::specs::Pick::pick), using(base::proofs::Tests::tests))]
 pub fn are_bad(s: &[u8]) -> bool
     ensures { result ≡ names_bad s.now }
 {
@@ -24,15 +24,9 @@ pub fn are_bad(s: &[u8]) -> bool
     if MOST_BYTES < s.len() {
         return true;
     }
-    let whole = item::first(0, s);
-    match whole {
-        ItemRead::Refused { .. } => true,
-        ItemRead::Ends(end) => {
-            if end != s.len() {
-                return true;
-            }
-            is_bad_array(s)
-        }
+    match item::first(0, s) {
+        Err(_) => true,
+        Ok(end) => end != s.len() || is_bad_array(s),
     }
 }
 
@@ -48,14 +42,12 @@ fn is_bad_array(s: &[u8]) -> bool
         return true;
     }
     let mut at = a.next;
-    let mut left = a.arg;
-    while 0 < left {
+    for _ in 0..a.arg {
         let t = token::token_at(s, at);
         if !is_good(s, t) {
             return true;
         }
         at = t.next;
-        left -= 1;
     }
     false
 }
@@ -85,8 +77,7 @@ pub fn is_named(s: &[u8], name: &[u8]) -> bool
         return false;
     }
     let mut at = a.next;
-    let mut left = a.arg;
-    while 0 < left {
+    for _ in 0..a.arg {
         let t = token::token_at(s, at);
         let from = t.body;
         let to = t.next;
@@ -94,7 +85,6 @@ pub fn is_named(s: &[u8], name: &[u8]) -> bool
             return true;
         }
         at = to;
-        left -= 1;
     }
     false
 }

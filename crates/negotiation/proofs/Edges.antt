@@ -14,14 +14,14 @@ use Rattle.options.specs.Text.{bad_text}
 use Rattle.options.specs.Objective.{long_name, objective_from, objective_in, objective_named}
 use Rattle.options.specs.Outcome.{reason_in, outcome_in}
 use Rattle.message.specs.Shape.{exchange_of, exchanged, exchange_at, wait_at, ended, end_at}
-use Rattle.message.specs.Examined.{by_kind, judged_shape, examined}
+use Rattle.message.specs.Examined.{by_kind, clear, judged_shape, examined}
 use Rattle.reader.specs.Read.{framed, read_placed, placeless, read_of}
 use Rattle.negotiation.specs.declared.Side.TheVariants.{Us, Them}
 use Rattle.negotiation.specs.declared.State.TheVariants.{Fresh, Open, Closed}
-use Rattle.negotiation.specs.declared.Stepped.{Stepped}
-use Rattle.negotiation.specs.declared.Stepped.TheVariants.{Refused, Moved}
+use Rattle.std.specs.Prelude.{Ok, Err}
+use Rattle.base.specs.declared.refusal.Refusal.TheVariants as R
 use Rattle.negotiation.specs.declared.Side.{Side}
-use Rattle.negotiation.specs.Step.{move_of, fresh_step, lower_step, turn_step, state_step, reading_step, step}
+use Rattle.negotiation.specs.Step.{Stepped, not_allowed, move_of, fresh_step, lower_step, turn_step, state_step, reading_step, step}
 use Rattle.negotiation.specs.Turns.{Sent, StepTaken, after, steps_of, is_moved, accepted_of, is_kind, negotiated}
 
 -- session 7: kind 3 or 5 with the objective "EX1", flags 1 and a count; an End with accept; a Wait of 1,000 ms
@@ -54,15 +54,15 @@ answers_of (x ∷ xs) = x.answer ∷ answers_of xs
 -- What each message is answered: the Request opened the state at 3, and two Negotiates are accepted.
 pub session :
     (answers_of (steps_of Fresh messages)
-    ≡ Refused 20 ∷ Refused 20 ∷ Moved (Open 7 3 Them) ∷ Refused 20 ∷ Refused 20 ∷ Moved (Open 7 2 Us)
-    ∷ Refused 20 ∷ Refused 20 ∷ Moved (Open 7 1 Them) ∷ Moved (Open 7 1 Them) ∷ Refused 20 ∷ Refused 20 ∷ Moved Closed
-    ∷ Refused 20 ∷ Refused 1 ∷ [])
+    ≡ not_allowed ∷ not_allowed ∷ Ok (Open 7 3 Them) ∷ not_allowed ∷ not_allowed ∷ Ok (Open 7 2 Us)
+    ∷ not_allowed ∷ not_allowed ∷ Ok (Open 7 1 Them) ∷ Ok (Open 7 1 Them) ∷ not_allowed ∷ not_allowed ∷ Ok Closed
+    ∷ not_allowed ∷ Err R.BadSize ∷ [])
     × (negotiated (accepted_of (steps_of Fresh messages)) ≡ 2)
-    × (step (Open 7 0 Us) ending Us ≡ Refused 20)
+    × (step (Open 7 0 Us) ending Us ≡ not_allowed)
 unfolding pick big_endian width_of least_of initial_of arg_of judged head_from head_by head_of head_at opens step_of step_from step_at items_of next run enough
     first_item
     nothing_at token_of token_from token_at items_in up_to tails_of least_tail greatest_tail goes_on is_utf8 bad_text long_name objective_from objective_in
     objective_named
-    exchange_of exchanged exchange_at wait_at reason_in outcome_in ended end_at by_kind judged_shape examined framed read_placed placeless read_of move_of
+    exchange_of exchanged exchange_at wait_at reason_in outcome_in ended end_at by_kind judged_shape clear examined framed read_placed placeless read_of move_of
     fresh_step lower_step turn_step state_step reading_step step after steps_of is_moved accepted_of is_kind negotiated
 session = (refl, refl, refl)

@@ -1,6 +1,7 @@
 -- The last sentence of demand 3 (rules 13.3.5). An open state may still accept one Negotiate less than its count says,
 -- and each accepted one lowers the count.
 -- Assumes nothing.
+use Rattle.reader.specs.Read.{Reading}
 use mathlib.Core.Path.{◌≡◌, refl, sym, ap, ◌∙◌}
 use mathlib.Core.List.{List, [], ◌∷◌}
 use mathlib.Core.Bool.{Bool, true, false, true≢false}
@@ -13,15 +14,13 @@ use Rattle.base.specs.Lists.{Every, EachPair}
 use Rattle.base.proofs.Lists.{every_imp}
 use Rattle.message.specs.declared.Message.{Message}
 use Rattle.message.specs.declared.Message.TheVariants as M
-use Rattle.reader.specs.declared.Reading.{Reading}
 use Rattle.reader.specs.Read.{read_of}
 use Rattle.message.specs.Fields.{kind_of, objective_of, count_in}
 use Rattle.negotiation.specs.declared.Side.{Side}
 use Rattle.negotiation.specs.declared.State.{State}
 use Rattle.negotiation.specs.declared.State.TheVariants.{Fresh, Open, Closed}
-use Rattle.negotiation.specs.declared.Stepped.{Stepped}
-use Rattle.negotiation.specs.declared.Stepped.TheVariants.{Refused, Moved}
-use Rattle.negotiation.specs.Step.{step}
+use Rattle.std.specs.Prelude.{Ok, Err}
+use Rattle.negotiation.specs.Step.{Stepped, step}
 use Rattle.negotiation.specs.Allowed.{HasCount, Allowed}
 use Rattle.negotiation.specs.Turns.{Sent, after, steps_of, is_moved, accepted_of, is_kind, negotiated, Opens, BoundedIn, Bounded}
 use Rattle.negotiation.proofs.Accepted.{moved_exactly}
@@ -39,10 +38,10 @@ is_fresh Closed = false
 
 -- ---- what was read of some bytes is read of them again
 message_in : Reading → Message
-message_in (Reading.Refused number) = M.Noop
-message_in (Reading.Read m) = m
+message_in (Err refusal) = M.Noop
+message_in (Ok m) = m
 
-message_once : {r : Reading} {m m' : Message} → r ≡ Reading.Read m → r ≡ Reading.Read m' → m ≡ m'
+message_once : {r : Reading} {m m' : Message} → r ≡ Ok m → r ≡ Ok m' → m ≡ m'
 unfolding message_in
 message_once e f = ap message_in (sym e ∙ f)
 
@@ -56,11 +55,11 @@ adds : List ℕ → Stepped → List (List ℕ) → List (List ℕ)
 adds bytes answer rest = pick (is_moved answer) (bytes ∷ rest) rest
 
 -- a message that is no Request opens nothing
-other_opens : {bytes : List ℕ} {m : Message} {kind c : ℕ} → read_of bytes ≡ Reading.Read m → kind_of m ≡ kind → (kind ≡ 3 → ⊥) → Opens bytes c → ⊥
+other_opens : {bytes : List ℕ} {m : Message} {kind c : ℕ} → read_of bytes ≡ Ok m → kind_of m ≡ kind → (kind ≡ 3 → ⊥) → Opens bytes c → ⊥
 other_opens read is other o = other (sym is ∙ ap kind_of (message_once read o.read) ∙ o.request)
 
 -- whether a message that was read is a Negotiate
-negotiates : (bytes : List ℕ) {m : Message} {kind : ℕ} → read_of bytes ≡ Reading.Read m → kind_of m ≡ kind → is_kind 5 (read_of bytes) ≡ eqb kind 5
+negotiates : (bytes : List ℕ) {m : Message} {kind : ℕ} → read_of bytes ≡ Ok m → kind_of m ≡ kind → is_kind 5 (read_of bytes) ≡ eqb kind 5
 unfolding is_kind
 negotiates bytes read is = rw (read, is)
 
@@ -69,7 +68,7 @@ record Goes (state : State) (accepted : List (List ℕ)) : Type 0 where
   most : negotiated accepted ≤ left state
   none : Every (λ bytes. (c : ℕ) → Opens bytes c → ⊥) accepted
 
-allowed_goes : {sender : Side} {m : Message} {state next : State} (bytes : List ℕ) (rest : List (List ℕ)) → read_of bytes ≡ Reading.Read m
+allowed_goes : {sender : Side} {m : Message} {state next : State} (bytes : List ℕ) (rest : List (List ℕ)) → read_of bytes ≡ Ok m
     → is_fresh state ≡ false → Allowed sender m state next → (is_fresh next ≡ false → Goes next rest) → Goes state (bytes ∷ rest)
 unfolding is_fresh left negotiated pick
 allowed_goes bytes rest read old (Allowed.request n c least) go = absurd (true≢false old)
@@ -97,8 +96,8 @@ goes (m ∷ ms) state old = by (step state m.bytes m.sender) refl (λ s. goes ms
   where
     by : (x : Stepped) → step state m.bytes m.sender ≡ x → ((s : State) → is_fresh s ≡ false → Goes s (accepted_of (steps_of s ms)))
         → Goes state (adds m.bytes x (accepted_of (steps_of (after state x) ms)))
-    by (Refused number) e rest = rest state old
-    by (Moved next) e rest =
+    by (Err refusal) e rest = rest state old
+    by (Ok next) e rest =
         let (is, read, allowed) = (moved_exactly state m.bytes m.sender next).0 e in
         allowed_goes m.bytes (accepted_of (steps_of next ms)) read old allowed (rest next)
 
@@ -108,7 +107,7 @@ none_twice [] h = tt
 none_twice (x ∷ xs) (_, h) = (every_imp _ _ (λ y none c d _ o. none d o) xs h, none_twice xs h)
 
 -- a Request opens a fresh state, and then the rest is bounded
-opened_bounded : {sender : Side} {m : Message} {state next : State} (bytes : List ℕ) (ms : List Sent) → read_of bytes ≡ Reading.Read m → state ≡ Fresh
+opened_bounded : {sender : Side} {m : Message} {state next : State} (bytes : List ℕ) (ms : List Sent) → read_of bytes ≡ Ok m → state ≡ Fresh
     → Allowed sender m state next → BoundedIn (bytes ∷ accepted_of (steps_of next ms))
 unfolding is_fresh left negotiated pick
 opened_bounded {next = next} bytes ms read new (Allowed.request {session} {count} n c least) =
@@ -138,5 +137,5 @@ negotiation_bounded [] = record { once = tt; opened = tt; unopened = λ _. refl 
 negotiation_bounded (m ∷ ms) = by (step Fresh m.bytes m.sender) refl (negotiation_bounded ms)
   where
     by : (x : Stepped) → step Fresh m.bytes m.sender ≡ x → Bounded ms → BoundedIn (adds m.bytes x (accepted_of (steps_of (after Fresh x) ms)))
-    by (Refused number) e rest = rest
-    by (Moved next) e rest = let (is, read, allowed) = (moved_exactly Fresh m.bytes m.sender next).0 e in opened_bounded m.bytes ms read refl allowed
+    by (Err refusal) e rest = rest
+    by (Ok next) e rest = let (is, read, allowed) = (moved_exactly Fresh m.bytes m.sender next).0 e in opened_bounded m.bytes ms read refl allowed

@@ -6,29 +6,30 @@ use Prim.Native.Nat.{ℕ, ◌+◌, ◌≤◌}
 use native.Mathlib.Omega.{arith}
 use lib.Dec.{eqb}
 use borrow.Author.Tests.{eq-eqb, ne_eqb, eqb-true, eqb-false}
+use Rattle.std.specs.Prelude.{Some, None}
 use Rattle.base.specs.Pick.{pick}
 use Rattle.base.proofs.Picks.{pick-case}
 use Rattle.options.specs.declared.objective.Objective.{Objective}
 use Rattle.message.specs.declared.Message.{Message}
 use Rattle.message.specs.declared.Message.TheVariants as M
-use Rattle.message.specs.declared.Extra.{Extra}
-use Rattle.message.specs.declared.fields.Session.{Session}
+use Rattle.message.specs.Fields.{Extra}
+use Rattle.message.specs.Fields.{Session}
 use Rattle.message.specs.Fields.{kind_of, session_of, objective_of}
 use Rattle.negotiation.specs.declared.Side.{Side}
 use Rattle.negotiation.specs.declared.Side.TheVariants.{Us, Them}
 use Rattle.negotiation.specs.declared.State.{State}
 use Rattle.negotiation.specs.declared.State.TheVariants.{Fresh, Open, Closed}
-use Rattle.negotiation.specs.declared.Stepped.{Stepped}
-use Rattle.negotiation.specs.declared.Stepped.TheVariants.{Refused, Moved}
+use Rattle.std.specs.Prelude.{Ok, Err}
+use Rattle.base.specs.declared.refusal.Refusal.TheVariants as R
 use Rattle.negotiation.specs.declared.Move.{Move}
 use Rattle.negotiation.specs.declared.Move.TheVariants.{Request, Negotiate, Wait, End, Other}
-use Rattle.negotiation.specs.Step.{move_of, same_side, fresh_step, lower_step, turn_step, state_step}
+use Rattle.negotiation.specs.Step.{Stepped, not_allowed, move_of, same_side, fresh_step, lower_step, turn_step, state_step}
 use Rattle.negotiation.specs.Allowed.{KindAndSession, HasCount, Allowed}
 
--- an answer to a message that was read: 20, or a state that is allowed
+-- an answer to a message that was read: not allowed, or a state that is allowed
 abbrev pub Judged : Side → Message → State → Stepped → Type 0
-Judged sender m state (Refused number) = number ≡ 20
-Judged sender m state (Moved next) = Allowed sender m state next
+Judged sender m state (Err refusal) = refusal ≡ R.NotAllowed
+Judged sender m state (Ok next) = Allowed sender m state next
 
 -- ---- what a step leads to is allowed
 fresh_judged : (sender : Side) (m : Message) → Judged sender m Fresh (fresh_step (move_of m) sender)
@@ -50,7 +51,7 @@ fresh_judged sender (M.Flood session initiator ttl first pairs) = refl
 fresh_judged sender (M.Invalid session item) = refl
 
 -- a move of this session
-in_session : (P : Stepped → Type 0) (session named : ℕ) {x : Stepped} → P (Refused 20) → (named ≡ session → P x) → P (pick (eqb named session) x (Refused 20))
+in_session : (P : Stepped → Type 0) (session named : ℕ) {x : Stepped} → P not_allowed → (named ≡ session → P x) → P (pick (eqb named session) x not_allowed)
 in_session P session named refused f = pick-case P (eqb named session) (λ e. f (eqb-true named session e)) (λ _. refused)
 
 lower_judged : (turn : Side) (session count named : ℕ) (objective : Objective) → named ≡ session
@@ -62,7 +63,7 @@ lower_judged turn session count named objective same =
     let least = eqb-false objective.count 0 e in
     pick-case J _
     (λ lower.
-    Allowed.negotiate (record { of_kind = refl; of_session = ap Session.Number same }) (record { objective = objective; has = refl; is = refl })
+    Allowed.negotiate (record { of_kind = refl; of_session = ap Some same }) (record { objective = objective; has = refl; is = refl })
     (omega arith) (eqb-true _ _ lower))
     (λ _. refl))
   where
@@ -83,10 +84,10 @@ module _ (turn : Side) (session count : ℕ) (some : 1 ≤ count) where
       (λ same. lower_judged turn session count named objective same)
   turn_judged (M.End named outcome) =
       in_session (Judged turn (M.End named outcome) (Open session count turn)) session named refl
-      (λ same. Allowed.end (record { of_kind = refl; of_session = ap Session.Number same }) some)
+      (λ same. Allowed.end (record { of_kind = refl; of_session = ap Some same }) some)
   turn_judged (M.Wait named time) =
       in_session (Judged turn (M.Wait named time) (Open session count turn)) session named refl
-      (λ same. Allowed.wait (record { of_kind = refl; of_session = ap Session.Number same }) some)
+      (λ same. Allowed.wait (record { of_kind = refl; of_session = ap Some same }) some)
   turn_judged (M.Synch named objective) = refl
   turn_judged (M.Flood named initiator ttl first pairs) = refl
   turn_judged (M.Invalid named item) = refl
@@ -117,14 +118,14 @@ state_judged sender m Closed = refl
 -- ---- what is allowed is led to
 -- with a session and a count
 counted : (ℕ → ℕ → Move) → Session → Extra → Move
-counted f Session.Without extra = Other
-counted f (Session.Number session) Extra.Without = Other
-counted f (Session.Number session) (Extra.With objective) = f session objective.count
+counted f None extra = Other
+counted f (Some session) None = Other
+counted f (Some session) (Some objective) = f session objective.count
 
 -- with a session
 held : (ℕ → Move) → Session → Move
-held f Session.Without = Other
-held f (Session.Number session) = f session
+held f None = Other
+held f (Some session) = f session
 
 -- the move by what the message holds
 move_by : ℕ → Session → Extra → Move
@@ -175,7 +176,7 @@ on_turn : (session count : ℕ) (turn : Side) (move : Move) → 1 ≤ count → 
 unfolding state_step pick
 on_turn session count turn move some = rw (ne_eqb count 0 (λ e. omega arith), side_same turn)
 
-pub allowed_moves : {sender : Side} {m : Message} {state next : State} → Allowed sender m state next → state_step state (move_of m) sender ≡ Moved next
+pub allowed_moves : {sender : Side} {m : Message} {state next : State} → Allowed sender m state next → state_step state (move_of m) sender ≡ Ok next
 unfolding state_step fresh_step turn_step lower_step pick
 allowed_moves (Allowed.request {session} {count} n c least) = rw (request_move n c, ne_eqb count 0 (λ e. omega arith))
 allowed_moves {sender} {m} (Allowed.negotiate {session} {count} {lower} n c least one) =

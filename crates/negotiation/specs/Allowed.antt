@@ -1,10 +1,9 @@
 -- The ways in which a step is accepted (rules 10.3), said of what the message holds: its kind, its session, its
 -- objective's count.
+use Rattle.std.specs.Prelude.{Some}
 use Rattle.std.specs.Prelude.{◌≡◌, ℕ, ◌+◌, ◌≤◌}
 use Rattle.options.specs.declared.objective.Objective.{Objective}
 use Rattle.message.specs.declared.Message.{Message}
-use Rattle.message.specs.declared.Extra.{Extra}
-use Rattle.message.specs.declared.fields.Session.{Session}
 use Rattle.message.specs.Fields.{kind_of, session_of, objective_of}
 use Rattle.negotiation.specs.declared.Side.{Side}
 use Rattle.negotiation.specs.declared.State.{State}
@@ -14,12 +13,12 @@ use Rattle.negotiation.specs.Step.{other_side}
 -- a message of this kind and session
 pub record KindAndSession (m : Message) (kind session : ℕ) : Type 0 where
   pub of_kind : kind_of m ≡ kind
-  pub of_session : session_of m ≡ Session.Number session
+  pub of_session : session_of m ≡ Some session
 
 -- a message with this count in its objective
 pub record HasCount (m : Message) (count : ℕ) : Type 0 where
   pub objective : Objective
-  pub has : objective_of m ≡ Extra.With objective
+  pub has : objective_of m ≡ Some objective
   pub is : objective.count ≡ count
 
 -- from which state to which state a message of this sender leads

@@ -1,17 +1,15 @@
 -- A list of steps on one negotiation state (rules 13.9), and the last sentence of demand 3 about it (rules 13.3.5).
-use Rattle.std.specs.Prelude.{◌≡◌, List, [], ◌∷◌, Bool, true, false, ℕ, suc, ◌+◌, ◌≤◌, eqb}
+use Rattle.reader.specs.Read.{Reading}
+use Rattle.std.specs.Prelude.{◌≡◌, List, [], ◌∷◌, Bool, true, false, ℕ, suc, ◌+◌, ◌≤◌, eqb, Ok, Err}
 use Rattle.base.specs.Pick.{pick}
 use Rattle.base.specs.Lists.{Every, EachPair}
 use Rattle.message.specs.declared.Message.{Message}
-use Rattle.reader.specs.declared.Reading.{Reading}
 use Rattle.reader.specs.Read.{read_of}
 use Rattle.message.specs.Fields.{kind_of}
 use Rattle.negotiation.specs.declared.Side.{Side}
 use Rattle.negotiation.specs.declared.State.{State}
 use Rattle.negotiation.specs.declared.State.TheVariants.{Fresh}
-use Rattle.negotiation.specs.declared.Stepped.{Stepped}
-use Rattle.negotiation.specs.declared.Stepped.TheVariants.{Refused, Moved}
-use Rattle.negotiation.specs.Step.{step}
+use Rattle.negotiation.specs.Step.{Stepped, step}
 use Rattle.negotiation.specs.Allowed.{HasCount}
 
 -- the bytes of a message and the side that sent it
@@ -26,8 +24,8 @@ pub record StepTaken : Type 0 where
 
 -- the state after a step: the one that it returned, or as it was
 unfoldable pub after : State → Stepped → State
-after state (Refused number) = state
-after state (Moved next) = next
+after state (Err refusal) = state
+after state (Ok next) = next
 
 -- the steps of a list, each given the state that the step before it returned or left
 unfoldable pub steps_of : State → List Sent → List StepTaken
@@ -38,8 +36,8 @@ steps_of state (m ∷ ms) =
 
 -- whether a step is accepted
 unfoldable pub is_moved : Stepped → Bool
-is_moved (Refused number) = false
-is_moved (Moved next) = true
+is_moved (Err refusal) = false
+is_moved (Ok next) = true
 
 -- the messages that are accepted, in their order
 unfoldable pub accepted_of : List StepTaken → List (List ℕ)
@@ -48,8 +46,8 @@ accepted_of (x ∷ xs) = pick (is_moved x.answer) (x.bytes ∷ accepted_of xs) (
 
 -- whether a message was read, and of this kind
 unfoldable pub is_kind : ℕ → Reading → Bool
-is_kind kind (Reading.Refused number) = false
-is_kind kind (Reading.Read m) = eqb (kind_of m) kind
+is_kind kind (Err refusal) = false
+is_kind kind (Ok m) = eqb (kind_of m) kind
 
 -- how many of these messages are Negotiates (kind 5)
 unfoldable pub negotiated : List (List ℕ) → ℕ
@@ -59,7 +57,7 @@ negotiated (bytes ∷ rest) = pick (is_kind 5 (read_of bytes)) (suc (negotiated 
 -- an accepted message opened the state at a count: it is a Request (kind 3) with that count
 pub record Opens (bytes : List ℕ) (count : ℕ) : Type 0 where
   pub m : Message
-  pub read : read_of bytes ≡ Reading.Read m
+  pub read : read_of bytes ≡ Ok m
   pub request : kind_of m ≡ 3
   pub counts : HasCount m count
 

@@ -3,8 +3,9 @@
 // the place of the one that is there.
 #![tactic(auto)]
 
-use negotiation::{Side, State, Stepped};
+use negotiation::{Side, State};
 use std::io::{self, Read, Write};
+use streams::{read_array, read_full};
 
 const MOST_OPERATIONS: usize = 1_000_000;
 
@@ -16,8 +17,7 @@ fn run_all(from: &mut impl Read, to: &mut impl Write) -> io::Result<()> {
     let mut state = State::Fresh;
     for _ in 0..MOST_OPERATIONS {
         let mut operation = [0u8; 1];
-        let got = streams::read_full(from, &mut operation)?;
-        if got < 1 {
+        if read_full(from, &mut operation)? < 1 {
             return Ok(());
         }
         state = run(from, to, state, operation[0])?;
@@ -32,125 +32,71 @@ fn run(
     state: State,
     operation: u8,
 ) -> io::Result<State> {
-    if operation == 2 {
-        return run_step(from, to, state);
+    match operation {
+        2 => run_step(from, to, state),
+        3 => next_state(from),
+        _ => Ok(State::Fresh),
     }
-    if operation == 3 {
-        return next_state(from);
-    }
-    Ok(State::Fresh)
-}
-
-// The next bytes of the input as numbers, the most significant first.
-fn next_byte(from: &mut impl Read) -> io::Result<u8> {
-    let mut b = [0u8; 1];
-    streams::read_full(from, &mut b)?;
-    Ok(b[0])
-}
-
-fn next_two(from: &mut impl Read) -> io::Result<u16> {
-    let high = next_byte(from)?;
-    let low = next_byte(from)?;
-    Ok(high as u16 * 256 + low as u16)
-}
-
-fn next_four(from: &mut impl Read) -> io::Result<u32> {
-    let high = next_two(from)?;
-    let low = next_two(from)?;
-    Ok(high as u32 * 65_536 + low as u32)
 }
 
 fn next_side(from: &mut impl Read) -> io::Result<Side> {
-    if next_byte(from)? == 0 {
-        return Ok(Side::Us);
-    }
-    Ok(Side::Them)
+    let side = u8::from_be_bytes(read_array(from)?);
+    Ok(if side == 0 { Side::Us } else { Side::Them })
 }
 
 // A phase, a session, a count and a turn.
 fn next_state(from: &mut impl Read) -> io::Result<State> {
-    let phase = next_byte(from)?;
-    let session = next_four(from)?;
-    let count = next_byte(from)?;
+    let phase = u8::from_be_bytes(read_array(from)?);
+    let session = u32::from_be_bytes(read_array(from)?);
+    let count = u8::from_be_bytes(read_array(from)?);
     let turn = next_side(from)?;
-    if phase == 0 {
-        return Ok(State::Fresh);
-    }
-    if phase == 1 {
-        return Ok(State::Open {
+    Ok(match phase {
+        0 => State::Fresh,
+        1 => State::Open {
             session,
             count,
             turn,
-        });
-    }
-    Ok(State::Closed)
+        },
+        _ => State::Closed,
+    })
 }
 
 fn run_step(from: &mut impl Read, to: &mut impl Write, state: State) -> io::Result<State> {
     let sender = next_side(from)?;
+    let len = u16::from_be_bytes(read_array(from)?) as usize;
     let mut message = [0u8; 4_096];
-    step_in(from, to, state, &mut message, sender)
-}
-
-fn step_in(
-    from: &mut impl Read,
-    to: &mut impl Write,
-    state: State,
-    message: &mut [u8],
-    sender: Side,
-) -> io::Result<State> {
-    let len = next_two(from)? as usize;
-    if message.len() < len {
+    let Some(message) = message.get_mut(..len) else {
         return Ok(state);
-    }
-    streams::read_full(from, &mut message[..len])?;
-    step(to, state, &message[..len], sender)
-}
-
-fn step(to: &mut impl Write, state: State, message: &[u8], sender: Side) -> io::Result<State> {
-    let stepped = negotiation::step(state, message, sender);
-    match stepped {
-        Stepped::Refused(number) => {
-            print_number(to, b"refused", number as u64)?;
-            print_state(to, state)?;
-            Ok(state)
-        }
-        Stepped::Moved(after) => {
+    };
+    read_full(from, message)?;
+    match negotiation::step(state, message, sender) {
+        Ok(after) => {
             to.write_all(b"taken")?;
             print_state(to, after)?;
             Ok(after)
+        }
+        Err(refusal) => {
+            write!(to, "refused {}", u8::from(refusal))?;
+            print_state(to, state)?;
+            Ok(state)
         }
     }
 }
 
 fn print_state(to: &mut impl Write, state: State) -> io::Result<()> {
     match state {
-        State::Fresh => to.write_all(b" fresh\n")?,
+        State::Fresh => to.write_all(b" fresh\n"),
         State::Open {
             session,
             count,
             turn,
         } => {
-            print_number(to, b" open", session as u64)?;
-            print_number(to, b"", count as u64)?;
-            print_turn(to, turn)?;
+            let turn: u8 = match turn {
+                Side::Us => 0,
+                Side::Them => 1,
+            };
+            writeln!(to, " open {session} {count} {turn}")
         }
-        State::Closed => to.write_all(b" closed\n")?,
+        State::Closed => to.write_all(b" closed\n"),
     }
-    Ok(())
-}
-
-fn print_turn(to: &mut impl Write, turn: Side) -> io::Result<()> {
-    match turn {
-        Side::Us => to.write_all(b" 0\n")?,
-        Side::Them => to.write_all(b" 1\n")?,
-    }
-    Ok(())
-}
-
-// A word and a number.
-fn print_number(to: &mut impl Write, word: &[u8], n: u64) -> io::Result<()> {
-    to.write_all(word)?;
-    to.write_all(b" ")?;
-    write!(to, "{n}")
 }

@@ -13,7 +13,7 @@ use Rattle.options.specs.Text.{held}
 use Rattle.base.specs.Pick.{pick}
 use Rattle.options.specs.declared.Span.{Span}
 use Rattle.rfc8990.specs.Limits.{most_bytes}
-use Rattle.writer.specs.declared.Written.{Written}
+use Rattle.std.specs.Prelude.{Ok}
 use Rattle.writer.specs.Write.{hand_answer, hand_out, passes, pass_answer, pass_out, lower_answer, lower_out, answer_of, answer_answer, answer_out}
 use Rattle.writer.proofs.Lengths.{initiator_sized, sized_few, answer_few}
 use Rattle.writer.proofs.Onward.{lowered_shorter, lowered_given}
@@ -33,7 +33,7 @@ use Rattle.node.proofs.Spreads.{role_spreading, read_most}
 
 pub onward_given : (message out : List ℕ) (s : Spread) → RoleIn message (Role.Spreads s) → 1 ≤ s.objective.count → most_bytes ≤ length out
     → (lower_answer message s.objective.count_at s.objective.value.at s.objective.count out
-    ≡ Written.Length (length (onward message s.objective)))
+    ≡ Ok (length (onward message s.objective)))
     × (lower_out message s.objective.count_at s.objective.value.at s.objective.count out ≡ written (onward message s.objective) out)
 onward_given message out s r some room =
     let lowers = (role_spreading message s r).lowers in
@@ -55,7 +55,7 @@ held_sized {message = message} {s = s} w =
 pub response_given : (r : Record) (message out : List ℕ) (s : Spread) → length r.address ≡ 16
     → (length (held message s.initiator) ≡ 4) ⊎ (length (held message s.initiator) ≡ 16)
     → most_bytes ≤ length out
-    → (answer_answer s.session (held message s.initiator) r.ttl r.address r.port out ≡ Written.Length (length (response r message s)))
+    → (answer_answer s.session (held message s.initiator) r.ttl r.address r.port out ≡ Ok (length (response r message s)))
     × (answer_out s.session (held message s.initiator) r.ttl r.address r.port out ≡ written (response r message s) out)
 unfolding response answer_answer answer_out pass_answer pass_out passes hand_answer hand_out pick
 response_given r message out s sixteen sized room =

@@ -1,10 +1,13 @@
 -- One node call (rules 3.2, 8, 9), from its first test to what it sends and keeps: what it answers, and the
 -- record, the table and the output after it.
-use Rattle.std.specs.Prelude.{ℕ, ◌^◌, Bool, true, false, not, ◌&&◌, List, length, ltb, leb, eqb}
+use Rattle.reader.specs.Read.{Reading}
+use Rattle.std.specs.Prelude.{ℕ, ◌^◌, Bool, true, false, not, ◌&&◌, List, length, ltb, leb, eqb, Result, Ok, Err, ⊤}
 use Rattle.std.specs.Int.Count.{ones}
 use Rattle.options.specs.Text.{held}
 use Rattle.base.specs.Pick.{pick}
-use Rattle.reader.specs.declared.Reading.{Reading}
+use Rattle.base.specs.declared.refusal.Refusal.{Refusal}
+use Rattle.base.specs.declared.refusal.Refusal.TheVariants as R
+use Rattle.base.specs.Refusal.{answer_number}
 use Rattle.rfc8990.specs.Limits.{most_bytes}
 use Rattle.reader.specs.Read.{read_of}
 use Rattle.cbor.specs.Put.{written}
@@ -16,8 +19,7 @@ use Rattle.node_state.specs.declared.Record.{Record}
 use Rattle.node.specs.declared.Verdict.{Verdict}
 use Rattle.node.specs.declared.Verdict.TheVariants.{Own, Answer, Duplicate, Last, Nowhere}
 use Rattle.node.specs.declared.Verdict.TheVariants.{NoRow, Relay, Noop, Hand}
-use Rattle.node.specs.declared.Reply.{Reply}
-use Rattle.node.specs.declared.Reply.TheVariants.{Refused, Given}
+use Rattle.node.specs.declared.Given.{Given}
 use Rattle.node.specs.declared.CallAnswer.{CallAnswer}
 use Rattle.node.specs.declared.role.Spread.{Spread}
 use Rattle.node.specs.declared.role.Role.{Role}
@@ -38,41 +40,56 @@ abbrev pub call_of : ℕ → ℕ → List ℕ → List ℕ → List ℕ → Call
 call_of clock interface names message output =
     record { clock = clock; interface = interface; names = names; message = message; output = output }
 
--- what it answers, and the table and the output after it
+-- what it answers, and the record, the table and the output after it
 pub record After : Type 0 where
-  pub called : CallAnswer
+  pub answer : Result Given Refusal
+  pub node : Record
   pub table : List ℕ
   pub output : List ℕ
 
--- what is after a call, part by part
-abbrev pub after_of : CallAnswer → List ℕ → List ℕ → After
-after_of called table output = record { called = called; table = table; output = output }
+-- an answer, part by part
+abbrev pub verdict_given : Verdict → Bool → ℕ → ℕ → Given
+verdict_given verdict up mask len = record { verdict = verdict; handed_up = up; mask = mask; length = len }
 
--- the refusals 12 to 17 in their order, 0 for none
-unfoldable pub barred : Record → List ℕ → ℕ → ℕ → List ℕ → ℕ → ℕ
+-- an answer beside the record
+abbrev pub gives : Verdict → Bool → ℕ → ℕ → Record → CallAnswer
+gives verdict up mask len node = record { given = verdict_given verdict up mask len; node = node }
+
+-- what is after a call that is given an answer
+abbrev pub after_given : CallAnswer → List ℕ → List ℕ → After
+after_given called table output =
+    record { answer = Ok called.given; node = called.node; table = table; output = output }
+
+-- what is after a call on a record: where it is refused, that record
+unfoldable pub after_of : Record → Result CallAnswer Refusal → List ℕ → List ℕ → After
+after_of r (Ok called) table output = after_given called table output
+after_of r (Err refusal) table output = record { answer = Err refusal; node = r; table = table; output = output }
+
+-- the refusals 12 to 17 in their order
+unfoldable pub barred : Record → List ℕ → ℕ → ℕ → List ℕ → ℕ → Result ⊤ Refusal
 barred r t clock interface names room =
-    pick (record_bad r) 12
-    (pick (arrival_bad r interface) 13
-    (pick (ltb clock r.clock) 14
-    (pick (table_bad clock t) 15
-    (pick (names_bad names) 16
-    (pick (ltb room most_bytes) 17 0)))))
+    pick (record_bad r) (Err R.BadRecord)
+    (pick (arrival_bad r interface) (Err R.BadLink)
+    (pick (ltb clock r.clock) (Err R.EarlyClock)
+    (pick (table_bad clock t) (Err R.BadTable)
+    (pick (names_bad names) (Err R.BadNames)
+    (pick (ltb room most_bytes) (Err R.CallOutput) (Ok tt))))))
 
--- the number that bars a call before its message is read, 0 for none
+-- what bars a call before its message is read
+abbrev pub bars : Record → List ℕ → Call → Result ⊤ Refusal
+bars r t c = barred r t c.clock c.interface c.names (length c.output)
+
+-- its number, 0 for none
 abbrev pub bar : Record → List ℕ → Call → ℕ
-bar r t c = barred r t c.clock c.interface c.names (length c.output)
-
--- a reply beside the record
-abbrev pub replies : Reply → Record → CallAnswer
-replies reply r = record { reply = reply; node = r }
+bar r t c = answer_number (bars r t c)
 
 -- a refusal leaves everything as it was
-unfoldable pub refuse : ℕ → Record → List ℕ → Call → After
-refuse n r t c = record { called = replies (Refused n) r; table = t; output = c.output }
+unfoldable pub refuse : Refusal → Record → List ℕ → Call → After
+refuse refusal r t c = record { answer = Err refusal; node = r; table = t; output = c.output }
 
 -- a verdict that sends nothing
 unfoldable pub quiet : Verdict → Bool → Record → List ℕ → Call → After
-quiet v up r t c = record { called = replies (Given v up 0 0) r; table = t; output = c.output }
+quiet v up r t c = after_given (gives v up 0 0 r) t c.output
 
 -- the Response that answers a Discovery
 unfoldable pub response : Record → List ℕ → Spread → List ℕ
@@ -98,7 +115,8 @@ module _ (r : Record) (t : List ℕ) (c : Call) (s : Spread) where
   answered =
       let bytes = response r c.message s in
       record {
-        called = replies (Given Answer false (2 ^ c.interface) (length bytes)) r;
+        answer = Ok (verdict_given Answer false (2 ^ c.interface) (length bytes));
+        node = r;
         table = t;
         output = written bytes c.output;
       }
@@ -109,7 +127,8 @@ module _ (r : Record) (t : List ℕ) (c : Call) (s : Spread) where
       let bytes = onward c.message s.objective in
       let mask = others r c.interface in
       record {
-        called = replies (Given Relay s.flood mask (length bytes)) (tallied r (ones mask));
+        answer = Ok (verdict_given Relay s.flood mask (length bytes));
+        node = tallied r (ones mask);
         table = put_row t (lowest_free t) (key_in c.message s) r.clock;
         output = written bytes c.output;
       }
@@ -135,9 +154,14 @@ taken r t c (Role.Spreads s) = carried_out r t c s (verdict_on r t c s)
 -- after 12 to 17: the message's own refusal, or every dead row freed, the clock taken, and the first verdict that
 -- applies
 unfoldable pub received : Record → List ℕ → Call → Reading → After
-received r t c (Reading.Refused number) = refuse number r t c
-received r t c (Reading.Read m) = taken (clocked r c.clock) (freed c.clock t) c (role_of m)
+received r t c (Err refusal) = refuse refusal r t c
+received r t c (Ok m) = taken (clocked r c.clock) (freed c.clock t) c (role_of m)
 
--- one node call: 12 to 17, 0 for none of them, and then what comes of the message
+-- by what bars it
+unfoldable pub called : Record → List ℕ → Call → Result ⊤ Refusal → After
+called r t c (Ok free) = received r t c (read_of c.message)
+called r t c (Err refusal) = refuse refusal r t c
+
+-- one node call: 12 to 17, and where none of them bars it what comes of the message
 unfoldable pub node_call : Record → List ℕ → Call → After
-node_call r t c = pick (eqb (bar r t c) 0) (received r t c (read_of c.message)) (refuse (bar r t c) r t c)
+node_call r t c = called r t c (bars r t c)

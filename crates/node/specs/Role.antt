@@ -1,11 +1,11 @@
 -- What a node looks at in a message (rules 9), and the key of its row (rules 7.9).
+use Rattle.std.specs.Prelude.{Ok}
 use Rattle.std.specs.Prelude.{ℕ, ◌+◌, ◌≤◌, Bool, true, false, List, ◌⊎◌, ◌≡◌, length}
 use Rattle.options.specs.Text.{held}
 use Rattle.options.specs.declared.Span.{Span}
 use Rattle.options.specs.declared.objective.Objective.{Objective}
 use Rattle.message.specs.declared.Message.{Message}
 use Rattle.message.specs.declared.Message.TheVariants as M
-use Rattle.reader.specs.declared.Reading.{Reading}
 use Rattle.reader.specs.Read.{read_of}
 use Rattle.node.specs.declared.role.Spread.{Spread}
 use Rattle.node.specs.declared.role.Role.{Role}
@@ -35,7 +35,7 @@ role_of (M.Invalid session item) = Role.Upward
 -- the message is read, and this is its role
 pub record RoleIn (message : List ℕ) (role : Role) : Type 0 where
   pub is : Message
-  pub read : read_of message ≡ Reading.Read is
+  pub read : read_of message ≡ Ok is
   pub plays : role_of is ≡ role
 
 -- the initiator, of 4 or 16 bytes, and the name lie in the message

@@ -1,19 +1,20 @@
 // One node call.
 ghost use Rattle.std.specs.Prelude.{◌≡◌, ◌<◌, length, true, false};
-ghost use Rattle.node.specs.Call.{call_of, after_of, barred, node_call, taken};
+ghost use Rattle.node.specs.Call.{call_of, after_of, after_given, barred, node_call, taken};
 ghost use Rattle.node.specs.Passed.{Passed};
 ghost use Rattle.node_state.specs.Record.{record_bad, arrival_bad, clocked};
 ghost use Rattle.node_state.specs.Table.{freed};
 ghost use Rattle.node.specs.Role.{RoleIn};
 
 use crate::role::Role;
-use crate::{CallAnswer, Reply, Verdict, mask, role, spread};
+use crate::{CallAnswer, Verdict, mask, role, spread};
+use base::refusal::Refusal;
 use message::MOST_BYTES;
 use node_state::{Record, table};
-use reader::Reading;
 
-// What a node does with a message that arrives on an interface: 12 to 17 in their order, then the message's own
-// refusal, then the first verdict that applies. A refusal leaves record, table and output as they were.
+// What a node does with a message that arrives on an interface, and the record after it: refused in the order of
+// rules 8.3, then by the message's own refusal; else the first verdict that applies. A refusal leaves table and output
+// as they were, and the caller's own record is the one that stays.
 pub fn node_call(
     node: Record,
     table: &mut [u64],
@@ -22,37 +23,18 @@ pub fn node_call(
     names: &[u8],
     message: &[u8],
     out: &mut [u8],
-) -> CallAnswer
-    ensures { after_of result table.new out.new ≡ node_call node table.old
+) -> Result<CallAnswer, Refusal>
+    ensures { after_of node result table.new out.new ≡ node_call node table.old
         (call_of clock interface names.now message.now out.old) }
 {
-    let refusal = barred_by(node, table, clock, interface, names, out.len());
-    if refusal != 0 {
-        return CallAnswer {
-            reply: Reply::Refused(refusal),
-            node,
-        };
-    }
-    let read = reader::read(message);
-    match read {
-        Reading::Refused(number) => CallAnswer {
-            reply: Reply::Refused(number),
-            node,
-        },
-        Reading::Read(m) => take(
-            node,
-            table,
-            clock,
-            interface as u8,
-            names,
-            message,
-            role::role_of(m),
-            out,
-        ),
-    }
+    barred_by(node, table, clock, interface, names, out.len())?;
+    let role = role::role_of(reader::read(message)?);
+    let interface = interface as u8;
+    Ok(take(node, table, clock, interface, names, message, role, out))
 }
 
-// 12 to 17 in their order, 0 for none.
+// Whether anything bars the call before its message is read, in the order of rules 8.3.
+#[tactic(auto, unfolding(crate::specs::Call::barred, base::specs::Pick::pick))]
 fn barred_by(
     node: Record,
     table: &[u64],
@@ -60,28 +42,28 @@ fn barred_by(
     interface: u64,
     names: &[u8],
     room: usize,
-) -> u8
+) -> Result<(), Refusal>
     ensures { result ≡ barred node table.now clock interface names.now room }
 {
     if node.is_bad() {
-        return 12;
+        return Err(Refusal::BadRecord);
     }
     if is_bad_arrival(node, interface) {
-        return 13;
+        return Err(Refusal::BadLink);
     }
     if clock < node.clock {
-        return 14;
+        return Err(Refusal::EarlyClock);
     }
     if table::is_bad(table, clock) {
-        return 15;
+        return Err(Refusal::BadTable);
     }
     if names::are_bad(names) {
-        return 16;
+        return Err(Refusal::BadNames);
     }
     if room < MOST_BYTES {
-        return 17;
+        return Err(Refusal::CallOutput);
     }
-    0
+    Ok(())
 }
 
 // The arriving interface isn't below the count, or its link is down.
@@ -108,13 +90,12 @@ fn take(
 ) -> CallAnswer
     requires passed { Passed node table.old clock interface (length out.old) }
     requires read { RoleIn message.now role }
-    ensures { after_of result table.new out.new
+    ensures { after_given result table.new out.new
         ≡ taken (clocked node clock) (freed clock table.old)
         (call_of clock interface names.now message.now out.old) role }
 {
     table::free_dead(table, clock);
-    let mut node = node;
-    node.clock = clock;
+    let node = Record { clock, ..node };
     match role {
         Role::Noop => crate::quiet(node, Verdict::Noop, false),
         Role::Upward => crate::quiet(node, Verdict::Hand, true),

@@ -2,8 +2,7 @@
 #![tactic(auto)]
 
 ghost use Rattle.std.specs.Prelude.{◌≡◌};
-ghost use Rattle.node.specs.declared.Reply.TheVariants.{Given};
-ghost use Rattle.node.specs.Call.{replies};
+ghost use Rattle.node.specs.Call.{gives};
 
 use node_state::Record;
 
@@ -13,7 +12,7 @@ mod role;
 mod spread;
 
 // What a node does with a message (rules 9.2, 9.3).
-#[derive(Clone, Copy)]
+#[derive(Clone, Copy, Debug, PartialEq, Eq)]
 pub enum Verdict {
     Own,
     Answer,
@@ -26,32 +25,29 @@ pub enum Verdict {
     Hand,
 }
 
-// What a node call answers (rules 8.2): the number of a refusal; or the verdict, whether the message is handed up
-// (given to the host), the mask of the interfaces to send on, and how many bytes to send.
-#[derive(Clone, Copy)]
-pub enum Reply {
-    Refused(u8),
-    Given {
-        verdict: Verdict,
-        handed_up: bool,
-        mask: u8,
-        length: usize,
-    },
+// What a node call that isn't refused answers (rules 8.2): the verdict, whether the message is handed up (given to the
+// host), the mask of the interfaces to send on, and how many bytes to send.
+#[derive(Clone, Copy, Debug, PartialEq, Eq)]
+pub struct Given {
+    pub verdict: Verdict,
+    pub handed_up: bool,
+    pub mask: u8,
+    pub length: usize,
 }
 
-// The answer of a node call and the record after it.
+// The answer of a node call that isn't refused, and the record after it.
 #[derive(Clone, Copy)]
 pub struct CallAnswer {
-    pub reply: Reply,
+    pub given: Given,
     pub node: Record,
 }
 
 // A verdict that sends nothing.
 pub(crate) fn quiet(node: Record, verdict: Verdict, handed_up: bool) -> CallAnswer
-    ensures { result ≡ replies (Given verdict handed_up 0 0) node }
+    ensures { result ≡ gives verdict handed_up 0 0 node }
 {
     CallAnswer {
-        reply: Reply::Given {
+        given: Given {
             verdict,
             handed_up,
             mask: 0,

@@ -22,6 +22,7 @@ pub enum Role {
     Spreads(Spread),
 }
 
+#[tactic(auto, unfolding(crate::specs::Role::role_of))]
 pub(crate) fn role_of(m: Message) -> Role
     ensures { result ≡ role_of m }
 {
@@ -37,27 +38,17 @@ pub(crate) fn role_of(m: Message) -> Role
             initiator,
             objective,
         }),
-        Message::Response { .. } => Role::Upward,
-        Message::RequestNegotiation { .. } => Role::Upward,
-        Message::RequestSynchronization { .. } => Role::Upward,
-        Message::Negotiate { .. } => Role::Upward,
-        Message::End { .. } => Role::Upward,
-        Message::Wait { .. } => Role::Upward,
-        Message::Synch { .. } => Role::Upward,
         Message::Flood {
             session,
             initiator,
             first,
             ..
-        } => {
-            let objective = first.objective;
-            Role::Spreads(Spread {
-                flood: true,
-                session,
-                initiator,
-                objective,
-            })
-        }
-        Message::Invalid { .. } => Role::Upward,
+        } => Role::Spreads(Spread {
+            flood: true,
+            session,
+            initiator,
+            objective: first.objective,
+        }),
+        _ => Role::Upward,
     }
 }

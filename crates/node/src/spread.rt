@@ -5,18 +5,17 @@ ghost use Rattle.options.specs.Text.{held};
 ghost use Rattle.rfc8990.specs.Limits.{most_bytes};
 ghost use Rattle.base.specs.Bytes.{same_bytes};
 ghost use Rattle.names.specs.Names.{is_named};
-ghost use Rattle.node.specs.declared.Reply.TheVariants.{Given};
 ghost use Rattle.node.specs.declared.Verdict.TheVariants.{Answer, Relay};
 ghost use Rattle.node.specs.declared.role.Role.TheVariants.{Spreads};
 ghost use Rattle.node_state.specs.Record.{tallied};
 ghost use Rattle.node.specs.Role.{RoleIn, Within, key_in};
-ghost use Rattle.node.specs.Call.{call_of, after_of, replies, later_verdict, verdict_on, carried_out, response};
+ghost use Rattle.node.specs.Call.{call_of, after_given, gives, later_verdict, verdict_on, carried_out, response};
 ghost use Rattle.node.specs.Passed.{Ready};
 ghost use Rattle.cbor.specs.Put.{written};
 ghost use Rattle.writer.specs.Lower.{onward};
 
 use crate::role::Spread;
-use crate::{CallAnswer, Reply, Verdict, mask};
+use crate::{CallAnswer, Given, Verdict, mask};
 use base::bytes;
 use node_state::key::Key;
 use node_state::{Record, key, table};
@@ -33,7 +32,7 @@ pub(crate) fn judge(
 ) -> CallAnswer
     requires ready { Ready node table.old interface (length out.old) }
     requires read { RoleIn message.now (Spreads s) }
-    ensures { after_of result table.new out.new ≡ carried_out node table.old
+    ensures { after_given result table.new out.new ≡ carried_out node table.old
         (call_of node.clock interface names.now message.now out.old) s
         (verdict_on node table.old
         (call_of node.clock interface names.now message.now out.old) s) }
@@ -80,12 +79,12 @@ fn answer(node: Record, interface: u8, message: &[u8], s: Spread, out: &mut [u8]
     requires small { interface < 8 }
     requires fits { most_bytes ≤ length out.old }
     requires within { Within message.now s }
-    ensures value { result ≡ replies (Given Answer false (2 ^ interface) (length (response node message.now s))) node }
+    ensures value { result ≡ gives Answer false (2 ^ interface) (length (response node message.now s)) node }
     ensures out_after { out.new ≡ written (response node message.now s) out.old }
 {
     let length = put_response(node, message, s, out);
     CallAnswer {
-        reply: Reply::Given {
+        given: Given {
             verdict: Verdict::Answer,
             handed_up: false,
             mask: 1 << interface,
@@ -113,7 +112,8 @@ fn put_response(node: Record, message: &[u8], s: Spread, out: &mut [u8]) -> usiz
         node.port,
         out,
     );
-    sent.len()
+    // Never refused here: the initiator has 4 or 16 bytes, and the output has room.
+    sent.unwrap_or(0)
 }
 
 // The key of the row of s.
@@ -139,7 +139,7 @@ fn relay_or_end(
     requires ready { Ready node table.old interface (length out.old) }
     requires read { RoleIn message.now (Spreads s) }
     requires key { key ≡ key_in message.now s }
-    ensures { (names : List ℕ) → after_of result table.new out.new ≡ carried_out node table.old
+    ensures { (names : List ℕ) → after_given result table.new out.new ≡ carried_out node table.old
         (call_of node.clock interface names message.now out.old) s (later_verdict node
         table.old (call_of node.clock interface names message.now out.old) s) }
 {
@@ -150,8 +150,7 @@ fn relay_or_end(
     if mask == 0 {
         return crate::quiet(node, Verdict::Nowhere, s.flood);
     }
-    let row = table::fill_lowest(table, key, node.clock);
-    if Record::ROWS <= row {
+    if table::fill_lowest(table, key, node.clock).is_none() {
         return crate::quiet(node, Verdict::NoRow, s.flood);
     }
     let length = put_onward(message, s, out);
@@ -168,19 +167,20 @@ fn put_onward(message: &[u8], s: Spread, out: &mut [u8]) -> usize
 {
     let o = s.objective;
     let sent = writer::relay::lower(message, o.count_at, o.value.at, o.count, out);
-    sent.len()
+    // Never refused here: the count is at least 1, and the output has room.
+    sent.unwrap_or(0)
 }
 
 // RELAY: the copies, which are the ones in the mask, are tallied.
 fn relayed(node: Record, flood: bool, mask: u8, length: usize) -> CallAnswer
     requires { node.tally ≤ 2 ^ 63 }
-    ensures { result ≡ replies (Given Relay flood mask length) (tallied node (ones mask)) }
+    ensures { result ≡ gives Relay flood mask length (tallied node (ones mask)) }
 {
     let copies = u8::count_ones(mask);
     let mut next = node;
     next.tally = node.tally + copies as u64;
     CallAnswer {
-        reply: Reply::Given {
+        given: Given {
             verdict: Verdict::Relay,
             handed_up: flood,
             mask,

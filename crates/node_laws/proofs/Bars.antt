@@ -19,6 +19,9 @@ use Rattle.node_laws.proofs.OwnNames.{names_exactly, names_refused}
 use Rattle.node_state.specs.declared.Record.{Record}
 use Rattle.node_state.specs.Record.{links_bad, record_bad, arrival_bad}
 use Rattle.node_state.specs.Table.{table_bad}
+use Rattle.std.specs.Prelude.{Result, ⊤}
+use Rattle.base.specs.declared.refusal.Refusal.{Refusal}
+use Rattle.base.specs.Refusal.{answer_number}
 use Rattle.node.specs.Call.{Call, barred, bar}
 use Rattle.node_state.proofs.Masks.{up_le}
 use Rattle.node_laws.specs.Bars.{HighLink, BadRecord, no_interface, many_interfaces, high_link, high_tally, BadArrival, Earlier, GoodTable}
@@ -84,16 +87,19 @@ module _ (r : Record) (t : List ℕ) (c : Call) where
   room_test : ltb (length c.output) 2048 ≡ true ↔ ShortOutput c
   room_test = below_test (length c.output) 2048
 
-  bars : Barred r t c (bar r t c)
+  barred_so : Barred r t c (bar r t c)
   unfolding barred
-  bars =
-      pick-case (Barred r t c) (record_bad r) (λ e. bad_record ((record_test r).0 e))
-      (λ e. let a = fails (record_test r) e in pick-case (Barred r t c) (arrival_bad r c.interface) (λ e. bad_arrival a ((arrival_test r c).0 e))
-      (λ e. let b = fails (arrival_test r c) e in pick-case (Barred r t c) (ltb c.clock r.clock) (λ e. bad_clock a b (clock_test.0 e))
-      (λ e. let d = fails clock_test e in pick-case (Barred r t c) (table_bad c.clock t) (λ e. bad_table a b d (table_test.0 e))
-      (λ e. let g = (table_good c.clock t).0 e in pick-case (Barred r t c) (names_bad c.names) (λ e. bad_names a b d g ((names_refused c.names).0 e))
-      (λ e. let n = (names_exactly c.names).0 e in pick-case (Barred r t c) (ltb (length c.output) 2048) (λ e. short_output a b d g n (room_test.0 e))
+  barred_so =
+      pick-case B (record_bad r) (λ e. bad_record ((record_test r).0 e))
+      (λ e. let a = fails (record_test r) e in pick-case B (arrival_bad r c.interface) (λ e. bad_arrival a ((arrival_test r c).0 e))
+      (λ e. let b = fails (arrival_test r c) e in pick-case B (ltb c.clock r.clock) (λ e. bad_clock a b (clock_test.0 e))
+      (λ e. let d = fails clock_test e in pick-case B (table_bad c.clock t) (λ e. bad_table a b d (table_test.0 e))
+      (λ e. let g = (table_good c.clock t).0 e in pick-case B (names_bad c.names) (λ e. bad_names a b d g ((names_refused c.names).0 e))
+      (λ e. let n = (names_exactly c.names).0 e in pick-case B (ltb (length c.output) 2048) (λ e. short_output a b d g n (room_test.0 e))
       (λ e. nothing a b d g n (fails room_test e)))))))
+    where
+      B : Result ⊤ Refusal → Type 0
+      B a = Barred r t c (answer_number a)
 
   bars_is : {n : ℕ} → Barred r t c n → bar r t c ≡ n
   unfolding barred pick
@@ -127,4 +133,4 @@ module _ (r : Record) (t : List ℕ) (c : Call) where
 -- A node call is barred with a number exactly if that row of rules 8.3 applies and none before it does, and with 0
 -- exactly if none does.
 pub barred_exactly : (r : Record) (t : List ℕ) (c : Call) (n : ℕ) → bar r t c ≡ n ↔ Barred r t c n
-barred_exactly r t c n = (λ e. subst (Barred r t c) e (bars r t c), bars_is r t c)
+barred_exactly r t c n = (λ e. subst (Barred r t c) e (barred_so r t c), bars_is r t c)

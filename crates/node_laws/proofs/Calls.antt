@@ -1,5 +1,7 @@
 -- One call: the ways a node call can go, and what each does to a row that an earlier relay filled.
 -- Assumes nothing.
+use Rattle.std.specs.Prelude.{Ok, Err}
+use Rattle.reader.specs.Read.{Reading}
 use mathlib.Core.Path.{◌≡◌, refl}
 use mathlib.Core.Logic.{◌≢◌, ◌⊎◌, inl, inr}
 use mathlib.Core.Bool.{Bool, true, false}
@@ -8,28 +10,28 @@ use Prim.Native.Nat.{ℕ, ◌+◌, ◌-◌, ◌≤◌, ◌<◌}
 use native.Mathlib.Nat.{le_trans}
 use native.Mathlib.Decide.{dec_lt}
 use native.Mathlib.Omega.{arith}
-use lib.Dec.{eqb}
 use lib.ListN.{length}
-use borrow.Author.Tests.{eqb-true, leb-false}
+use borrow.Author.Tests.{leb-false}
 use Rattle.base.proofs.Picks.{pick-case, both}
 use Rattle.message.specs.declared.Message.{Message}
-use Rattle.reader.specs.declared.Reading.{Reading}
 use Rattle.reader.specs.Read.{read_of}
 use Rattle.node_state.specs.declared.Record.{Record}
-use Rattle.node_state.specs.declared.RecordAnswer.{RecordAnswer}
+use Rattle.std.specs.Prelude.{Result}
+use Rattle.base.specs.declared.refusal.Refusal.{Refusal}
+use Rattle.std.specs.Result.{result_unwrap_or}
 use Rattle.node.specs.declared.Verdict.{Verdict}
 use Rattle.node.specs.declared.Verdict.TheVariants.{Own, Duplicate, Last, Nowhere, NoRow, Noop, Hand}
 use Rattle.node.specs.declared.role.Spread.{Spread}
 use Rattle.node.specs.declared.role.Role.{Role}
 use Rattle.node_state.specs.declared.key.Key.{Key}
-use Rattle.node_state.specs.Record.{set_links, linked, clocked}
+use Rattle.node_state.specs.Record.{set_links, links_set, linked, clocked}
 use Rattle.node_state.specs.Table.{cell, table_bad, row_life, freed, put_row, lowest_free, is_known}
 use Rattle.node.specs.Role.{role_of, RoleIn, key_in}
-use Rattle.node.specs.Call.{Call, After, bar, refuse, quiet, later_verdict, verdict_on, answered, relayed, carried_out, taken, received, node_call}
+use Rattle.node.specs.Call.{Call, After, refuse, quiet, later_verdict, verdict_on, answered, relayed, carried_out, taken, received, node_call}
 use Rattle.node.specs.Passed.{Passed}
 use Rattle.node_laws.specs.History.{is_relay, says_relay}
 use Rattle.node_state.proofs.TableRows.{Holds, put_other, same_holds, free_admitted, life_least, free_keeps, lowest_zero, unknown, row_admitted}
-use Rattle.node.proofs.Outcomes.{passed}
+use Rattle.node.proofs.Outcomes.{passed, call_case}
 
 -- ---- the ways a node call can go
 
@@ -41,15 +43,15 @@ pub record Relays (r : Record) (t : List ℕ) (c : Call) (s : Spread) : Type 0 w
   pub room : lowest_free (freed c.clock t) < 64
 
 pub data View (r : Record) (t : List ℕ) (c : Call) (b : After) : Type 0 where
-  stayed : b.called.node ≡ r → b.table ≡ t → says_relay b.called.reply ≡ false → View r t c b
-  ended : Passed r t c.clock c.interface (length c.output) → b.called.node ≡ clocked r c.clock → b.table ≡ freed c.clock t
-      → says_relay b.called.reply ≡ false → View r t c b
+  stayed : b.node ≡ r → b.table ≡ t → says_relay b.answer ≡ false → View r t c b
+  ended : Passed r t c.clock c.interface (length c.output) → b.node ≡ clocked r c.clock → b.table ≡ freed c.clock t
+      → says_relay b.answer ≡ false → View r t c b
   went : (s : Spread) → Relays r t c s → b ≡ relayed (clocked r c.clock) (freed c.clock t) c s → View r t c b
 
 module _ (r : Record) (t : List ℕ) (c : Call) where
-  refuse_view : (n : ℕ) → View r t c (refuse n r t c)
+  refuse_view : (refusal : Refusal) → View r t c (refuse refusal r t c)
   unfolding refuse says_relay
-  refuse_view n = stayed refl refl refl
+  refuse_view refusal = stayed refl refl refl
 
   module _ (p : Passed r t c.clock c.interface (length c.output)) where
     quiet_view : (v : Verdict) (up : Bool) → is_relay v ≡ false → View r t c (quiet v up (clocked r c.clock) (freed c.clock t) c)
@@ -73,7 +75,7 @@ module _ (r : Record) (t : List ℕ) (c : Call) where
         went s (record { passes = p; role = role; new = new; counts = leb-false s.objective.count 1 counts; room = leb-false 64 (lowest_free t₁) room })
         refl))))))
 
-    taken_view : (m : Message) → read_of c.message ≡ Reading.Read m → (role : Role) → role_of m ≡ role
+    taken_view : (m : Message) → read_of c.message ≡ Ok m → (role : Role) → role_of m ≡ role
         → View r t c (taken (clocked r c.clock) (freed c.clock t) c role)
     unfolding taken is_relay
     taken_view m read Role.Noop e = quiet_view Noop false refl
@@ -82,15 +84,14 @@ module _ (r : Record) (t : List ℕ) (c : Call) where
 
     received_view : (x : Reading) → read_of c.message ≡ x → View r t c (received r t c x)
     unfolding received
-    received_view (Reading.Refused n) e = refuse_view n
-    received_view (Reading.Read m) e = taken_view m e (role_of m) refl
+    received_view (Err refusal) e = refuse_view (refusal)
+    received_view (Ok m) e = taken_view m e (role_of m) refl
 
   pub view : View r t c (node_call r t c)
-  unfolding node_call
   view =
-      pick-case (View r t c) (eqb (bar r t c) 0)
-      (λ e. received_view (passed r t c.clock c.interface c.names (length c.output) (eqb-true (bar r t c) 0 e)) (read_of c.message) refl)
-      (λ e. refuse_view (bar r t c))
+      call_case (View r t c) r t c
+      (λ free. received_view (passed r t c.clock c.interface c.names (length c.output) free) (read_of c.message) refl)
+      (λ refusal _. refuse_view refusal)
 
 -- ---- setting links
 
@@ -100,10 +101,10 @@ pub record SameNode (r q : Record) : Type 0 where
   pub clock : q.clock ≡ r.clock
   pub tally : q.tally ≡ r.tally
 
-pub links_keep : (r : Record) (mask : ℕ) → SameNode r (set_links r mask).node
+pub links_keep : (r : Record) (mask : ℕ) → SameNode r (links_set r mask)
 unfolding set_links linked
 links_keep r mask =
-    let P : RecordAnswer → Type 0 = λ k. SameNode r k.node in
+    let P : Result Record Refusal → Type 0 = λ k. SameNode r (result_unwrap_or k r) in
     let same : SameNode r r = record { interfaces = refl; clock = refl; tally = refl } in
     both P _ same (both P _ same (record { interfaces = refl; clock = refl; tally = refl }))
 

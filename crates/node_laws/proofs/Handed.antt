@@ -8,13 +8,12 @@ use Prim.Native.Nat.{ℕ, ◌≤◌}
 use native.Mathlib.Omega.{arith}
 use Rattle.message.specs.declared.Message.{Message}
 use Rattle.message.specs.declared.Message.TheVariants as M
-use Rattle.reader.specs.declared.Reading.{Reading}
 use Rattle.reader.specs.Read.{read_of}
 use Rattle.message.specs.Fields.{kind_of}
 use Rattle.node_state.specs.declared.Record.{Record}
 use Rattle.node.specs.declared.Verdict.{Verdict}
-use Rattle.node.specs.declared.Reply.TheVariants.{Given}
-use Rattle.node.specs.Call.{Call, node_call}
+use Rattle.std.specs.Prelude.{Ok}
+use Rattle.node.specs.Call.{Call, verdict_given, node_call}
 use Rattle.node_laws.specs.Due.{Rules, when, otherwise, First, rules_on}
 use Rattle.node_laws.proofs.Verdict.{verdict_exactly}
 
@@ -48,8 +47,8 @@ kept r t c (M.Invalid session item) low = absurd (omega arith)
 
 -- A Noop (kind 0) or Discovery (kind 1) is never handed up.
 pub never_handed : (r : Record) (t : List ℕ) (c : Call) (m : Message) (v : Verdict) (up : Bool) (mask len : ℕ)
-    → read_of c.message ≡ Reading.Read m → kind_of m ≤ 1
-    → (node_call r t c).called.reply ≡ Given v up mask len → up ≡ false
+    → read_of c.message ≡ Ok m → kind_of m ≤ 1
+    → (node_call r t c).answer ≡ Ok (verdict_given v up mask len) → up ≡ false
 never_handed r t c m v up mask len read low said =
     let (passes, is, read', due) = (verdict_exactly r t c v up).0 (mask, len, said) in
     let same : is ≡ m = cc in

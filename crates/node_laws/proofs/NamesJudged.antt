@@ -1,5 +1,7 @@
 -- Own names held against the answer on them, both ways: the frame and the array's head around the texts.
 -- Assumes nothing.
+use Rattle.std.specs.Prelude.{Ok, Err}
+use Rattle.cbor.specs.Item.{ItemRead}
 use mathlib.Core.Path.{◌≡◌, refl, sym, ap, ◌∙◌, subst}
 use mathlib.Core.List.{List, Memᴰ}
 use mathlib.Core.Bool.{true, false, not, ◌||◌, true≢false}
@@ -11,7 +13,6 @@ use borrow.Author.Tests.{eqb-true, ltb-false, not-false, eq-eqb, ne_eqb, le-ltb}
 use Rattle.base.specs.Pick.{pick}
 use Rattle.base.proofs.Picks.{pick-case, past}
 use Rattle.base.proofs.Bools.{or_left, or_right}
-use Rattle.cbor.specs.declared.item.ItemRead.{ItemRead}
 use Rattle.cbor.specs.Item.{most_levels, first_item}
 use Rattle.cbor.specs.Token.{token_at}
 use Rattle.cbor.specs.Tree.{Item, Items, count, depth, encode}
@@ -63,15 +64,15 @@ module _ {s : List ℕ} (o : OwnNames s) where
       ) refl
 
 -- ---- what is found good is own names
-framed_good : (s : List ℕ) (r : ItemRead) → framed_bad s r ≡ false → (r ≡ ItemRead.Ends (length s)) × (array_bad s ≡ false)
+framed_good : (s : List ℕ) (r : ItemRead) → framed_bad s r ≡ false → (r ≡ Ok (length s)) × (array_bad s ≡ false)
 unfolding framed_bad
-framed_good s (ItemRead.Refused number place) = λ q. absurd (true≢false q)
-framed_good s (ItemRead.Ends end) =
-    pick-case (λ r. r ≡ false → (ItemRead.Ends end ≡ ItemRead.Ends (length s)) × (array_bad s ≡ false)) (eqb end (length s))
-    (λ e q. (ap ItemRead.Ends (eqb-true end (length s) e), q)) (λ e q. absurd (true≢false q))
+framed_good s (Err why) = λ q. absurd (true≢false q)
+framed_good s (Ok end) =
+    pick-case (λ r. r ≡ false → (◌≡◌ {A = ItemRead} (Ok end) (Ok (length s))) × (array_bad s ≡ false)) (eqb end (length s))
+    (λ e q. (ap Ok (eqb-true end (length s) e), q)) (λ e q. absurd (true≢false q))
 
 -- the walk took the whole, and the array is good
-array_own : {s : List ℕ} → length s ≤ most_bytes → first_item 0 s ≡ ItemRead.Ends (length s) → array_bad s ≡ false → OwnNames s
+array_own : {s : List ℕ} → length s ≤ most_bytes → first_item 0 s ≡ Ok (length s) → array_bad s ≡ false → OwnNames s
 unfolding array_bad depth
 array_own {s} most all good =
     let a = token_at s 0 in
@@ -86,7 +87,7 @@ array_own {s} most all good =
     let stand = array_at h four n.many n.stand in
     let x = Item.array h.width n.items in
     let shallow : depth x ≤ most_levels = omega (arith, texts_flat n.are) in
-    let ends : ItemRead.Ends (length (encode x)) ≡ ItemRead.Ends (length s) =
+    let ends : Ok (length (encode x)) ≡ Ok (length s) =
     sym (ap (first_item 0) stand.is ∙ item_accepts 0 x (drop n.end s) stand.good shallow) ∙ all in
     let long : length (encode x) ≡ length s = cc in
     record {

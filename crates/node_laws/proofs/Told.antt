@@ -1,5 +1,7 @@
 -- What is read of a Discovery or a Flood that is relayed, and of the message that goes out.
 -- Assumes nothing.
+use Rattle.std.specs.Prelude.{Ok}
+use Rattle.reader.specs.Read.{Reading}
 use mathlib.Core.Path.{◌≡◌, refl, ap, ◌∙◌}
 use mathlib.Core.List.{List}
 use Prim.Native.Nat.{ℕ, ◌-◌}
@@ -7,7 +9,6 @@ use Rattle.options.specs.Text.{held}
 use Rattle.base.specs.Pick.{pick}
 use Rattle.options.specs.declared.objective.Objective.{Objective}
 use Rattle.message.specs.declared.Message.{Message}
-use Rattle.reader.specs.declared.Reading.{Reading}
 use Rattle.message.specs.Fields.{session_of, initiator_of, objective_of, count_in}
 use Rattle.writer.specs.Lower.{Lowers}
 use Rattle.writer_laws.proofs.Relay.{lowered_reads}
@@ -24,7 +25,7 @@ spread_told message s =
     record { kind = pick s.flood 9 1; session = s.session; initiator = held message s.initiator; count = s.objective.count }
 
 -- by the message that was read
-told_by : (message : List ℕ) {m : Message} {s : Spread} → SpreadBy m s → told_reading message (Reading.Read m) ≡ spread_told message s
+told_by : (message : List ℕ) {m : Message} {s : Spread} → SpreadBy m s → told_reading message (Ok m) ≡ spread_told message s
 unfolding told_reading number_in count_in session_of initiator_of objective_of pick
 told_by message SpreadBy.discovery = refl
 told_by message SpreadBy.flood = refl

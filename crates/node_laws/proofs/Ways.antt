@@ -1,7 +1,8 @@
 -- What comes of a node call: each of its tests decides the condition that rules 9.2 and 9.3 name, so the verdict that
 -- it picks is the one that is due.
 -- Assumes nothing.
-use mathlib.Core.Path.{◌≡◌, refl, sym, ◌∙◌, subst}
+use Rattle.reader.specs.Read.{Reading}
+use mathlib.Core.Path.{◌≡◌, refl, sym, ap, ◌∙◌, subst}
 use mathlib.Core.Logic.{◌≢◌, ◌⊎◌, inl, inr, ◌↔◌}
 use mathlib.Core.Bool.{Bool, true, false, false≢true}
 use mathlib.Core.List.{List}
@@ -10,15 +11,15 @@ use native.Mathlib.Decide.{ℕ_discrete}
 use native.Mathlib.Omega.{arith}
 use lib.Dec.{leb, eqb}
 use lib.ListN.{length}
-use borrow.Author.Tests.{leb-true, eqb-true, le-leb, eq-eqb, ne_eqb}
+use borrow.Author.Tests.{leb-true, eqb-true, le-leb, eq-eqb}
 use Rattle.options.specs.Text.{held}
 use Rattle.base.specs.Pick.{pick}
 use Rattle.base.proofs.Picks.{pick-case, both}
+use Rattle.base.proofs.Refusals.{some_number}
 use Rattle.options.specs.declared.Span.{Span}
 use Rattle.options.specs.declared.objective.Objective.{Objective}
 use Rattle.message.specs.declared.Message.{Message}
 use Rattle.message.specs.declared.Message.TheVariants as M
-use Rattle.reader.specs.declared.Reading.{Reading}
 use Rattle.reader.specs.Read.{read_of}
 use Rattle.base.specs.Bytes.{same_bytes}
 use Rattle.names.specs.Names.{is_named}
@@ -27,17 +28,20 @@ use Rattle.node_laws.proofs.OwnNames.{named_exactly, same_exactly}
 use Rattle.node_state.specs.declared.Record.{Record}
 use Rattle.node.specs.declared.Verdict.{Verdict}
 use Rattle.node.specs.declared.Verdict.TheVariants.{Own, Answer, Duplicate, Last, Nowhere, NoRow, Relay, Noop, Hand}
-use Rattle.node.specs.declared.Reply.{Reply}
-use Rattle.node.specs.declared.Reply.TheVariants.{Refused, Given}
+use Rattle.std.specs.Prelude.{Result, Ok, Err}
+use Rattle.base.specs.declared.refusal.Refusal.{Refusal}
+use Rattle.base.specs.Refusal.{answer_number}
+use Rattle.node.specs.declared.Given.{Given}
 use Rattle.node.specs.declared.role.Spread.{Spread}
 use Rattle.node_state.specs.Record.{others, clocked}
 use Rattle.node_state.specs.Table.{freed, lowest_free, is_known}
 use Rattle.node_state.specs.Key.{key_of}
 use Rattle.node.specs.Role.{spread_of, role_of, key_in}
-use Rattle.node.specs.Call.{Call, After, bar, refuse, quiet, answered, relayed, later_verdict, verdict_on, carried_out, taken, received, node_call}
+use Rattle.node.specs.Call.{Call, After, bars, bar, verdict_given, refuse, quiet, answered, relayed, later_verdict, verdict_on, carried_out}
+use Rattle.node.specs.Call.{taken, received, called, node_call}
 use Rattle.node.specs.Passed.{Passed}
 use Rattle.node_state.proofs.Keys.{key_used}
-use Rattle.node.proofs.Outcomes.{passed, arrival_up}
+use Rattle.node.proofs.Outcomes.{passed, call_case, arrival_up}
 use Rattle.node_laws.specs.Due.{OwnInitiator, Named, Known, Alone, Full, Rules, when, otherwise, First, discovery_rules, flood_rules, rules_on, Due}
 use Rattle.node_laws.specs.Due.{Does, sends_nothing, answers, relays_discovery, relays_flood, Comes, barred_by, unread, given}
 use Rattle.node_laws.specs.Bars.{Barred, nothing}
@@ -239,44 +243,45 @@ module _ (r : Record) (t : List ℕ) (c : Call) where
   read_verdicted e (M.Invalid session item) = hands (refl, refl)
 
   -- the call by its refusals
-  call_barred : (n : ℕ) → bar r t c ≡ n → n ≢ 0 → node_call r t c ≡ refuse n r t c
-  unfolding node_call pick
-  call_barred n e some = rw (e, ne_eqb n 0 some) refl
+  call_barred : (refusal : Refusal) → bars r t c ≡ Err refusal → node_call r t c ≡ refuse refusal r t c
+  unfolding node_call called
+  call_barred refusal e = rw e refl
 
   pub call_open : {x : Reading} → bar r t c ≡ 0 → read_of c.message ≡ x → node_call r t c ≡ received r t c x
-  unfolding node_call pick
-  call_open e read = rw (e, read) refl
+  call_open {x} e read =
+      call_case (λ a. a ≡ received r t c x) r t c (λ _. rw read refl)
+      (λ refusal barred. absurd (let some = some_number refusal in let z = ap answer_number barred in omega arith))
 
   pub comes : Comes r t c (node_call r t c)
   unfolding received
-  comes = go (ℕ_discrete (bar r t c) 0) (read_of c.message) refl
+  comes = call_case (Comes r t c) r t c (λ free. go free (read_of c.message) refl) barred_by
     where
-      go : Dec (bar r t c ≡ 0) → (x : Reading) → read_of c.message ≡ x → Comes r t c (node_call r t c)
-      go (no some) x read = subst (Comes r t c) (sym (call_barred (bar r t c) refl some)) (barred_by (bar r t c) refl some)
-      go (yes e) (Reading.Refused n) read = subst (Comes r t c) (sym (call_open e read)) (unread n e read)
-      go (yes e) (Reading.Read m) read =
+      go : bar r t c ≡ 0 → (x : Reading) → read_of c.message ≡ x → Comes r t c (received r t c x)
+      go e (Err refusal) read = unread refusal e read
+      go e (Ok m) read =
           let (v, up, due, does) = read_verdicted e m in
-          subst (Comes r t c) (sym (call_open e read)) (given m v up e read due does)
+          given m v up e read due does
 
   pub comes_is : {a : After} → Comes r t c a → node_call r t c ≡ a
   unfolding received
-  comes_is (barred_by n e some) = call_barred n e some
+  comes_is (barred_by refusal e) = call_barred refusal e
   comes_is (unread n e read) = call_open e read
   comes_is (given m v up e read due does) = call_open e read ∙ verdicted_once m (read_verdicted e m) due does
 
 -- ---- what a reply says
 
 -- this verdict, and whether the message is handed up
-abbrev pub Says : Reply → Verdict → Bool → Type 0
-Says x v up = (mask : ℕ) × (len : ℕ) × (x ≡ Given v up mask len)
+abbrev pub Says : Result Given Refusal → Verdict → Bool → Type 0
+Says x v up = (mask : ℕ) × (len : ℕ) × (x ≡ Ok (verdict_given v up mask len))
 
-pub says_once : {x : Reply} {v w : Verdict} {f g : Bool} → Says x v f → Says x w g → (v ≡ w) × (f ≡ g)
-says_once (mask, len, e) (mask', len', e') = (cc, cc)
+pub says_once : {x : Result Given Refusal} {v w : Verdict} {f g : Bool} → Says x v f → Says x w g → (v ≡ w) × (f ≡ g)
+says_once {v = v} {w} {f} {g} (mask, len, e) (mask', len', e') =
+    let same : verdict_given v f mask len ≡ verdict_given w g mask' len' = cc in (ap (λ (z : Given). z.verdict) same, ap (λ (z : Given). z.handed_up) same)
 
-pub no_refusal : {n : ℕ} {v : Verdict} {up : Bool} → Says (Refused n) v up → ⊥
+pub no_refusal : {refusal : Refusal} {v : Verdict} {up : Bool} → Says (Err refusal) v up → ⊥
 no_refusal (mask, len, e) = false≢true (cc)
 
-pub does_say : {r : Record} {t : List ℕ} {c : Call} {m : Message} {v : Verdict} {up : Bool} {a : After} → Does r t c m v up a → Says a.called.reply v up
+pub does_say : {r : Record} {t : List ℕ} {c : Call} {m : Message} {v : Verdict} {up : Bool} {a : After} → Does r t c m v up a → Says a.answer v up
 unfolding quiet answered relayed
 does_say (sends_nothing n k) = (_, _, refl)
 does_say answers = (_, _, refl)

@@ -22,9 +22,11 @@ use Rattle.base.proofs.Lists.{every_imp, every_chosen, pairs_chosen}
 use Rattle.base.proofs.Pigeonhole.{pigeonhole}
 use Rattle.negotiation.proofs.Turns.{negotiation_bounded}
 use Rattle.node_state.specs.declared.Record.{Record}
-use Rattle.node_state.specs.declared.RecordAnswer.{RecordAnswer}
+use Rattle.std.specs.Prelude.{Result}
+use Rattle.base.specs.declared.refusal.Refusal.{Refusal}
+use Rattle.std.specs.Result.{result_unwrap_or}
 use Rattle.node.specs.declared.role.Spread.{Spread}
-use Rattle.node_state.specs.Record.{fresh, others, clocked, tallied, set_links}
+use Rattle.node_state.specs.Record.{blank, fresh, fresh_or_blank, others, clocked, tallied, links_set}
 use Rattle.node_state.specs.Table.{fresh_table, row_life, freed, lowest_free, is_known}
 use Rattle.node.specs.Role.{key_in}
 use Rattle.writer.specs.Lower.{onward}
@@ -47,12 +49,12 @@ use Rattle.node_laws.proofs.Calls.{Relays, View, stayed, ended, went, view, link
 -- the calls that are answered RELAY
 relaying : List Step → List Step
 relaying [] = []
-relaying (x ∷ xs) = pick (says_relay x.after.called.reply) (x ∷ relaying xs) (relaying xs)
+relaying (x ∷ xs) = pick (says_relay x.after.answer) (x ∷ relaying xs) (relaying xs)
 
 seen_relays : (xs : List Step) → relays_of xs ≡ map seen (relaying xs)
 unfolding relays_of relaying pick
 seen_relays [] = refl
-seen_relays (x ∷ xs) = by (says_relay x.after.called.reply) (seen_relays xs)
+seen_relays (x ∷ xs) = by (says_relay x.after.answer) (seen_relays xs)
   where
     by : (b : Bool) → relays_of xs ≡ map seen (relaying xs) → pick b (seen x ∷ relays_of xs) (relays_of xs) ≡ map seen (pick b (x ∷ relaying xs) (relaying xs))
     by true e = ap (λ (l : List Seen). seen x ∷ l) e
@@ -122,7 +124,7 @@ There x s now t = StillThere (key_in x.call.message s) (row_of x) x.call.clock n
 
 -- a row that was filled before a call, after it
 there_on : (x : Step) (s : Spread) (r : Record) (t : List ℕ) (c : Call) (b : After) → View r t c b → There x s r.clock t
-    → There x s b.called.node.clock b.table
+    → There x s b.node.clock b.table
 unfolding clocked relayed tallied
 there_on x s r t c b (stayed nb tb e) there = rw (nb, tb) there
 there_on x s r t c b (ended p nb tb e) there =
@@ -148,13 +150,13 @@ known_behind x y s s' k ky there =
     }
 
 says_relay_lem : (r : Record) (t : List ℕ) (c : Call) (s : Spread) (b : After) → b ≡ relayed (clocked r c.clock) (freed c.clock t) c s
-    → says_relay b.called.reply ≡ true
+    → says_relay b.answer ≡ true
 unfolding relayed says_relay is_relay
-says_relay_lem r t c s b e = ap (λ (z : After). says_relay z.called.reply) e
+says_relay_lem r t c s b e = ap (λ (z : After). says_relay z.answer) e
 
 -- a call's relay, in front of the later ones
 listed : (r : Record) (t : List ℕ) (c : Call) (b : After) (P : List Step → Type 0) (rest : List Step) → View r t c b
-    → P rest → ((s : Spread) → Known (step_of r t c b) s → P (step_of r t c b ∷ rest)) → P (pick (says_relay b.called.reply) (step_of r t c b ∷ rest) rest)
+    → P rest → ((s : Spread) → Known (step_of r t c b) s → P (step_of r t c b ∷ rest)) → P (pick (says_relay b.answer) (step_of r t c b ∷ rest) rest)
 unfolding pick
 listed r t c b P rest (stayed nb tb e) f g = rw e f
 listed r t c b P rest (ended p nb tb e) f g = rw e f
@@ -166,18 +168,18 @@ unfolding steps relaying row_of
 future x s k [] r t there = tt
 future x s k (call c ∷ es) r t there =
     let b = node_call r t c in
-    let rest = future x s k es b.called.node b.table (there_on x s r t c b (view r t c) there) in
-    listed r t c b (Every (Behind x)) (relaying (steps b.called.node b.table es)) (view r t c) rest
+    let rest = future x s k es b.node b.table (there_on x s r t c b (view r t c) there) in
+    listed r t c b (Every (Behind x)) (relaying (steps b.node b.table es)) (view r t c) rest
     (λ s' k'. (
       known_behind x (step_of r t c b) s s' k k'
           (freed_there (key_in x.call.message s) (row_of x) x.call.clock r.clock c.clock t k'.facts.passes.later there),
       rest,
     ))
-future x s k (links mask ∷ es) r t there = future x s k es (set_links r mask).node t (rw (links_keep r mask).clock there)
+future x s k (links mask ∷ es) r t there = future x s k es (links_set r mask) t (rw (links_keep r mask).clock there)
 
 -- a relay's own row, just filled
 own_row : (r : Record) (t : List ℕ) (c : Call) (b : After) (s : Spread) → Known (step_of r t c b) s
-    → There (step_of r t c b) s b.called.node.clock b.table
+    → There (step_of r t c b) s b.node.clock b.table
 unfolding row_of relayed clocked tallied freed
 own_row r t c b s k =
     let e = k.is in
@@ -189,18 +191,18 @@ unfolding steps relaying
 pairs [] r t = tt
 pairs (call c ∷ es) r t =
     let b = node_call r t c in
-    let rest = pairs es b.called.node b.table in
-    listed r t c b (EachPair Behind) (relaying (steps b.called.node b.table es)) (view r t c) rest
-    (λ s k. (future (step_of r t c b) s k es b.called.node b.table (own_row r t c b s k), rest))
-pairs (links mask ∷ es) r t = pairs es (set_links r mask).node t
+    let rest = pairs es b.node b.table in
+    listed r t c b (EachPair Behind) (relaying (steps b.node b.table es)) (view r t c) rest
+    (λ s k. (future (step_of r t c b) s k es b.node b.table (own_row r t c b s k), rest))
+pairs (links mask ∷ es) r t = pairs es (links_set r mask) t
 
 -- ---- one relay
 
-interfaces_on : (r : Record) (t : List ℕ) (c : Call) (b : After) → View r t c b → b.called.node.interfaces ≡ r.interfaces
+interfaces_on : (r : Record) (t : List ℕ) (c : Call) (b : After) → View r t c b → b.node.interfaces ≡ r.interfaces
 unfolding clocked relayed tallied
 interfaces_on r t c b (stayed nb tb e) = ap (λ (n : Record). n.interfaces) nb
 interfaces_on r t c b (ended p nb tb e) = ap (λ (n : Record). n.interfaces) nb
-interfaces_on r t c b (went s f e) = ap (λ (z : After). z.called.node.interfaces) e
+interfaces_on r t c b (went s f e) = ap (λ (z : After). z.node.interfaces) e
 
 -- the links that a relay goes out by
 outgoing : Step → ℕ
@@ -210,7 +212,7 @@ outgoing x = x.node.links - 2 ^ x.call.interface
 went_copies : (x : Step) (s : Spread) → x.after ≡ relayed (clocked x.node x.call.clock) (freed x.call.clock x.table) x.call s
     → (seen x).copies ≡ interfaces_in 64 (outgoing x)
 unfolding mask_of relayed others clocked outgoing
-went_copies x s is = ap (λ (z : After). interfaces_in 64 (mask_of z.called.reply)) is
+went_copies x s is = ap (λ (z : After). interfaces_in 64 (mask_of z.answer)) is
 
 -- the copies of a call that passed its checks
 module _ (x : Step) (passes : Passed x.node x.table x.call.clock x.call.interface (length x.call.output)) where
@@ -237,17 +239,17 @@ module _ (x : Step) (passes : Passed x.node x.table x.call.clock x.call.interfac
   copies_many = length_interfaces 64 (outgoing x) (le_trans small_mask (pow_mono {j = 64} (omega (arith, (record_links x.node passes.good).most))))
 
   went_tally : (s : Spread) → x.after ≡ relayed (clocked x.node x.call.clock) (freed x.call.clock x.table) x.call s
-      → x.after.called.node.tally ≡ x.node.tally + length (seen x).copies
+      → x.after.node.tally ≡ x.node.tally + length (seen x).copies
   unfolding relayed tallied clocked others outgoing
   went_tally s is =
-      ap (λ (z : After). z.called.node.tally) is ∙ ap (λ (z : ℕ). x.node.tally + z) (sym copies_many ∙ ap length (sym (went_copies x s is)))
+      ap (λ (z : After). z.node.tally) is ∙ ap (λ (z : ℕ). x.node.tally + z) (sym copies_many ∙ ap length (sym (went_copies x s is)))
 
 module _ (x : Step) (s : Spread) (k : Known x s) where
   known_sent : (seen x).sent.count ≡ s.objective.count - 1
   unfolding length_of relayed
   known_sent =
       let bytes = onward x.call.message s.objective in
-      ap (λ (z : After). (told (take (length_of z.called.reply) z.output)).count) k.is
+      ap (λ (z : After). (told (take (length_of z.answer) z.output)).count) k.is
       ∙ ap (λ (z : List ℕ). (told z).count) (take-append_seam bytes (drop (length bytes) x.call.output))
       ∙ onward_count x.call.message s k.facts.role
 
@@ -272,15 +274,15 @@ unfolding steps relaying
 sound n [] r t e = tt
 sound n (call c ∷ es) r t e =
     let b = node_call r t c in
-    let rest = sound n es b.called.node b.table (interfaces_on r t c b (view r t c) ∙ e) in
-    listed r t c b (Every (Sound n)) (relaying (steps b.called.node b.table es)) (view r t c) rest
+    let rest = sound n es b.node b.table (interfaces_on r t c b (view r t c) ∙ e) in
+    listed r t c b (Every (Sound n)) (relaying (steps b.node b.table es)) (view r t c) rest
     (λ s k. (subst (λ (z : ℕ). Sound z (step_of r t c b)) e (known_sound (step_of r t c b) s k), rest))
-sound n (links mask ∷ es) r t e = sound n es (set_links r mask).node t ((links_keep r mask).interfaces ∙ e)
+sound n (links mask ∷ es) r t e = sound n es (links_set r mask) t ((links_keep r mask).interfaces ∙ e)
 
 -- ---- the tally
 
 tally_on : (r : Record) (t : List ℕ) (c : Call) (b : After) (rest : List Seen) → View r t c b
-    → b.called.node.tally + copies_of rest ≡ r.tally + copies_of (pick (says_relay b.called.reply) (seen (step_of r t c b) ∷ rest) rest)
+    → b.node.tally + copies_of rest ≡ r.tally + copies_of (pick (says_relay b.answer) (seen (step_of r t c b) ∷ rest) rest)
 unfolding pick clocked copies_of
 tally_on r t c b rest (stayed nb tb e) = rw (e, nb) refl
 tally_on r t c b rest (ended p nb tb e) = rw (e, nb) refl
@@ -291,9 +293,9 @@ unfolding steps relays_of finally copies_of
 total [] r t = omega arith
 total (call c ∷ es) r t =
     let b = node_call r t c in
-    total es b.called.node b.table ∙ tally_on r t c b (relays_of (steps b.called.node b.table es)) (view r t c)
+    total es b.node b.table ∙ tally_on r t c b (relays_of (steps b.node b.table es)) (view r t c)
 total (links mask ∷ es) r t =
-    total es (set_links r mask).node t ∙ ap (λ (z : ℕ). z + copies_of (relays_of (steps (set_links r mask).node t es))) (links_keep r mask).tally
+    total es (links_set r mask) t ∙ ap (λ (z : ℕ). z + copies_of (relays_of (steps (links_set r mask) t es))) (links_keep r mask).tally
 
 -- ---- relays that are near one another
 
@@ -345,9 +347,9 @@ chosen_seen P (x ∷ xs) (Sublistᴰ.cons-cons {l₁ = l₁} e s) f =
     subst (λ (z : Seen). P (z ∷ l₁)) (sym e) (chosen_seen (λ l. P (seen x ∷ l)) xs s (λ ys t. f (x ∷ ys) (Sublistᴰ.cons-cons refl t)))
 
 -- a fresh record has tallied nothing
-fresh_tally : (address : List ℕ) (port ttl interfaces mask : ℕ) → (fresh address port ttl interfaces mask).node.tally ≡ 0
+fresh_tally : (address : List ℕ) (port ttl interfaces mask : ℕ) → (fresh_or_blank address port ttl interfaces mask).tally ≡ 0
 unfolding fresh
-fresh_tally address port ttl interfaces mask = both (λ (k : RecordAnswer). k.node.tally ≡ 0) _ refl refl
+fresh_tally address port ttl interfaces mask = both (λ (k : Result Record Refusal). (result_unwrap_or k blank).tally ≡ 0) _ refl refl
 
 -- for readers
 
@@ -370,7 +372,7 @@ whole r t events none =
 -- Demand 3, entire.
 pub demand3 : Demand3
 demand3 = record {
-  node = λ address port ttl interfaces mask events. whole (fresh address port ttl interfaces mask).node fresh_table events
+  node = λ address port ttl interfaces mask events. whole (fresh_or_blank address port ttl interfaces mask) fresh_table events
       (fresh_tally address port ttl interfaces mask);
   negotiation = negotiation_bounded;
 }

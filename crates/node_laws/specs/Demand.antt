@@ -2,7 +2,7 @@
 -- every list of steps on one negotiation state.
 use Rattle.std.specs.Prelude.{ℕ, List}
 use Rattle.negotiation.specs.Turns.{Sent, Bounded}
-use Rattle.node_state.specs.Record.{fresh}
+use Rattle.node_state.specs.Record.{fresh_or_blank}
 use Rattle.node_state.specs.Table.{fresh_table}
 use Rattle.node_laws.specs.History.{Event, WholeList}
 
@@ -10,5 +10,5 @@ use Rattle.node_laws.specs.History.{Event, WholeList}
 pub record Demand3 : Type 0 where
   -- also where the fresh record was refused: it is all zeros then, and every call is refused
   pub node : (address : List ℕ) (port ttl interfaces mask : ℕ) (events : List Event)
-      → WholeList (fresh address port ttl interfaces mask).node fresh_table events
+      → WholeList (fresh_or_blank address port ttl interfaces mask) fresh_table events
   pub negotiation : (messages : List Sent) → Bounded messages

@@ -1,4 +1,5 @@
 -- The verdict that is due on a message (rules 9), and what comes of a node call (rules 8.5, 8.6).
+use Rattle.std.specs.Prelude.{Ok}
 use Rattle.std.specs.Prelude.{ℕ, ◌<◌, Bool, true, false, ◌≢◌, ◌⊎◌, ◌≡◌}
 use mathlib.Core.List.{List, Memᴰ}
 use Rattle.options.specs.Text.{held}
@@ -9,7 +10,8 @@ use Rattle.options.specs.declared.pair.Pair.{Pair}
 use Rattle.message.specs.declared.Message.{Message}
 use Rattle.message.specs.declared.Message.TheVariants as M
 use Rattle.message.specs.declared.Series.{Series}
-use Rattle.reader.specs.declared.Reading.{Reading}
+use Rattle.std.specs.Prelude.{Err}
+use Rattle.base.specs.declared.refusal.Refusal.{Refusal}
 use Rattle.reader.specs.Read.{read_of}
 use Rattle.node_laws.specs.OwnNames.{OwnNames}
 use Rattle.node_state.specs.declared.Record.{Record}
@@ -20,7 +22,7 @@ use Rattle.node_state.specs.Record.{clocked}
 use Rattle.node_state.specs.Table.{freed}
 use Rattle.node_state.specs.Key.{key_of}
 use Rattle.node.specs.Role.{spread_of}
-use Rattle.node.specs.Call.{Call, After, bar, refuse, quiet, answered, relayed}
+use Rattle.node.specs.Call.{Call, After, bars, bar, refuse, quiet, answered, relayed}
 use Rattle.node_laws.specs.RelayRows.{Live, HasKey}
 
 -- ---- the conditions
@@ -120,7 +122,7 @@ module _ (r : Record) (t : List ℕ) (c : Call) where
 
   -- refused by 12 to 17; else by the reading; else given the verdict that is due
   pub data Comes : After → Type 0 where
-    barred_by : (n : ℕ) → bar r t c ≡ n → n ≢ 0 → Comes (refuse n r t c)
-    unread : (n : ℕ) → bar r t c ≡ 0 → read_of c.message ≡ Reading.Refused n → Comes (refuse n r t c)
-    given : (m : Message) (v : Verdict) (up : Bool) {a : After} → bar r t c ≡ 0 → read_of c.message ≡ Reading.Read m
+    barred_by : (refusal : Refusal) → bars r t c ≡ Err refusal → Comes (refuse refusal r t c)
+    unread : (refusal : Refusal) → bar r t c ≡ 0 → read_of c.message ≡ Err refusal → Comes (refuse refusal r t c)
+    given : (m : Message) (v : Verdict) (up : Bool) {a : After} → bar r t c ≡ 0 → read_of c.message ≡ Ok m
         → Due m v up → Does m v up a → Comes a

@@ -5,7 +5,7 @@ use Rattle.options.specs.Text.{span_of}
 use Rattle.rfc8990.specs.Limits.{most_bytes}
 use Rattle.writer.specs.Edges.{home}
 use Rattle.node_state.specs.declared.Record.{Record}
-use Rattle.node_state.specs.Record.{fresh}
+use Rattle.node_state.specs.Record.{fresh_or_blank}
 use Rattle.node_state.specs.Table.{fresh_table}
 use Rattle.node.specs.Call.{call_of, After}
 use Rattle.node_laws.specs.History.{Event, call, steps}
@@ -30,4 +30,4 @@ one_row first second third clock = first ∷ second ∷ third ∷ clock ∷ repl
 
 -- what came of each node call of a list from a fresh node
 abbrev pub outcomes : List Event → List After
-outcomes events = map (λ x. x.after) (steps (fresh home 7017 60000 3 7).node fresh_table events)
+outcomes events = map (λ x. x.after) (steps (fresh_or_blank home 7017 60000 3 7) fresh_table events)

@@ -1,13 +1,15 @@
 -- Relays as they are seen, whoever calls the node, and demand 3's sentences about those of one list (rules 13.3.1 to
 -- 13.3.4, 13.5 to 13.8).
+use Rattle.std.specs.Prelude.{Ok, Err}
+use Rattle.reader.specs.Read.{Reading}
+use Rattle.std.specs.Prelude.{Some, None}
 use Rattle.std.specs.Prelude.{ℕ, zero, suc, ◌+◌, ◌*◌, ◌-◌, ◌≤◌, ◌<◌, ◌≢◌, ◌≡◌, length, take, eqb}
 use mathlib.Core.List.{List, [], ◌∷◌, Sublistᴰ}
 use Rattle.options.specs.Text.{held}
 use Rattle.base.specs.Pick.{pick}
 use Rattle.base.specs.Lists.{Every, EachPair, Distinct}
 use Rattle.base.specs.Bits.{has_bit}
-use Rattle.message.specs.declared.fields.Session.{Session}
-use Rattle.reader.specs.declared.Reading.{Reading}
+use Rattle.message.specs.Fields.{Session}
 use Rattle.message.specs.Fields.{kind_of, session_of, initiator_of, objective_of, count_in}
 use Rattle.reader.specs.Read.{read_of}
 use Rattle.node.specs.Call.{Call}
@@ -23,13 +25,13 @@ pub record Told : Type 0 where
 
 -- a session, 0 where there is none
 unfoldable pub number_in : Session → ℕ
-number_in Session.Without = 0
-number_in (Session.Number n) = n
+number_in None = 0
+number_in (Some n) = n
 
 -- by what was read; nothing of a refused message
 unfoldable pub told_reading : List ℕ → Reading → Told
-told_reading s (Reading.Refused number) = record { kind = 0; session = 0; initiator = []; count = 0 }
-told_reading s (Reading.Read m) =
+told_reading s (Err refusal) = record { kind = 0; session = 0; initiator = []; count = 0 }
+told_reading s (Ok m) =
     record {
       kind = kind_of m;
       session = number_in (session_of m);

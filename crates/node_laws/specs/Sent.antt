@@ -5,7 +5,7 @@ use Rattle.base.specs.Bits.{has_bit}
 use Rattle.options.specs.declared.Span.{Span}
 use Rattle.node_state.specs.declared.Record.{Record}
 use Rattle.node.specs.declared.Verdict.TheVariants.{Answer}
-use Rattle.node.specs.declared.Reply.TheVariants.{Given}
+use Rattle.std.specs.Prelude.{Ok}
 use Rattle.node.specs.declared.role.Spread.{Spread}
 use Rattle.node_state.specs.Record.{clocked, tallied}
 use Rattle.node_state.specs.Table.{cell, freed}
@@ -14,7 +14,7 @@ use Rattle.options.specs.Text.{held}
 use Rattle.cbor.specs.Put.{written}
 use Rattle.writer.specs.Write.{answer_of}
 use Rattle.writer.specs.Lower.{onward}
-use Rattle.node.specs.Call.{Call, After}
+use Rattle.node.specs.Call.{Call, After, verdict_given}
 use Rattle.node_laws.specs.RelayRows.{Free, HasKey, SameRow}
 
 -- RELAY of s, which was read of the message, with the reply's mask and length, and what is after the call
@@ -31,7 +31,7 @@ pub record Relayed (r : Record) (t : List ℕ) (c : Call) (s : Spread) (mask len
   -- its mask has the links up, less the arriving one
   pub links : (j : ℕ) → has_bit mask j ≡ true ↔ ((has_bit r.links j ≡ true) × (j ≢ c.interface))
   -- the copies are the ones in that mask
-  pub node : a.called.node ≡ tallied (clocked r c.clock) (ones mask)
+  pub node : a.node ≡ tallied (clocked r c.clock) (ones mask)
   -- the message with its count one lower is in front of the output
   pub long : len ≡ length (onward c.message s.objective)
   pub output : a.output ≡ written (onward c.message s.objective) c.output
@@ -43,7 +43,7 @@ pub record Answered (r : Record) (t : List ℕ) (c : Call) (session : ℕ) (init
   pub is : bytes ≡ answer_of session (held c.message initiator) r.ttl r.address r.port
   pub output : a.output ≡ written bytes c.output
   -- it goes back by the arriving interface alone, and the Discovery isn't handed up
-  pub reply : a.called.reply ≡ Given Answer false (2 ^ c.interface) (length bytes)
+  pub reply : a.answer ≡ Ok (verdict_given Answer false (2 ^ c.interface) (length bytes))
   -- no row is filled, and nothing is tallied
   pub table : a.table ≡ freed c.clock t
-  pub node : a.called.node ≡ clocked r c.clock
+  pub node : a.node ≡ clocked r c.clock

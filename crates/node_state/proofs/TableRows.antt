@@ -1,11 +1,13 @@
 -- The relay table's rows: what a filled row holds, what freeing leaves, the lowest row that passes a test.
 -- Assumes nothing.
+use Rattle.std.specs.Option.{is_some}
+use Rattle.std.proofs.lemmas.Option.{none-some, same_Some}
 use mathlib.Core.Path.{◌≡◌, refl, sym, ap, ◌∙◌}
 use mathlib.Core.Logic.{◌≢◌, ◌⊎◌, inl, inr}
-use mathlib.Core.Bool.{Bool, true, false, not, ◌&&◌, ◌||◌}
+use mathlib.Core.Bool.{Bool, true, false, cond, not, ◌&&◌, ◌||◌}
 use mathlib.Core.List.{List, [], ◌∷◌}
 use Prim.Native.Nat.{ℕ, zero, suc, ◌+◌, ◌-◌, ◌*◌, ◌/◌, ◌≤◌, ◌<◌, zero-le}
-use native.Mathlib.Nat.{le_refl, le_trans, add-zero}
+use native.Mathlib.Nat.{le_refl, le_trans, add-zero, zero-add}
 use native.Mathlib.Numerals.{add-one}
 use native.Mathlib.Decide.{ℕ_discrete, dec_lt}
 use native.Mathlib.Omega.{arith}
@@ -13,11 +15,14 @@ use lib.Dec.{ltb, leb, eqb}
 use lib.ListN.{length, get_or, set, length-set, get_or-eq_default}
 use lib.Seq.{set_out, get_or-set_same, get_or-set_other}
 use borrow.Author.Tests.{ltb-true, ltb-false, leb-true, eqb-true, lt-ltb, le-ltb, le-leb, lt-leb, eq-eqb, ne_eqb, not-false}
+use Rattle.std.specs.Prelude.{Option, Some, None}
+use Rattle.std.specs.Option.{unwrap_or}
+use Rattle.std.specs.List.{list_any, position_or_len, range_with_len}
 use Rattle.base.specs.Pick.{pick}
 use Rattle.base.proofs.Picks.{pick-case, both}
 use Rattle.base.proofs.Bools.{true_or_false, and_left, and_right, and_true, or_left, or_right, or_true, not_both}
 use Rattle.node_state.specs.declared.key.Key.{Key}
-use Rattle.node_state.specs.Table.{where_sized, cell, put_row, row_free, row_keyed, row_used, row_bad, first_from, some_row, table_bad}
+use Rattle.node_state.specs.Table.{row_told, where_sized, cell, put_row, row_free, row_keyed, row_used, row_bad, first_from, some_row, table_bad}
 use Rattle.node_state.specs.Table.{row_life, row_dead, free_rows, freed, lowest_free, filled, row_matches, is_known}
 use Rattle.node_state.specs.Key.{no_key}
 
@@ -309,34 +314,47 @@ row_admitted now t i e = elim (row_good now t i e) [
 
 -- ---- for the loops
 
--- a search upwards, at its place i of n
-pub scan_here : (p : ℕ → Bool) (n i r : ℕ) → p i ≡ true → first_from p (n - i) i ≡ r → i ≡ r
-unfolding pick first_from
-scan_here p n i r e h = sym (here (n - i)) ∙ h
-  where
-    here : (m : ℕ) → first_from p m i ≡ i
-    here zero = refl
-    here (suc m) = rw e refl
+-- a search by the library, over the numbers as a list
+pub any_listed : (p : ℕ → Bool) (n i : ℕ) → list_any p (range_with_len i n) ≡ ltb (first_from p n i) (i + n)
+unfolding first_from pick
+any_listed p zero i = sym (le-ltb i (i + 0) (omega arith))
+any_listed p (suc n) i = elim (true_or_false (p i)) [
+  | inl e ↦ rw e (sym (lt-ltb i (i + suc n) (omega arith)))
+  | inr e ↦
+      let m : i + 1 + n ≡ i + suc n = omega arith in
+      rw e (any_listed p n (i + 1) ∙ ap (λ k. ltb (first_from p n (i + 1)) k) m ∙ ap (λ k. ltb (first_from p n k) (i + suc n)) (add-one i))
+]
 
-pub scan_next : (p : ℕ → Bool) (n i r : ℕ) → i < n → p i ≡ false → first_from p (n - i) i ≡ r → first_from p (n - (i + 1)) (i + 1) ≡ r
-unfolding pick first_from
-scan_next p n i r l e h =
-    let next : first_from p (suc (n - suc i)) i ≡ first_from p (n - suc i) (suc i) = rw e refl in
-    let left : suc (n - suc i) ≡ n - i = omega arith in
-    rw add-one (sym next ∙ ap (λ (m : ℕ). first_from p m i) left ∙ h)
-
-pub scan_end : (p : ℕ → Bool) (n i r : ℕ) → n ≤ i → first_from p (n - i) i ≡ r → i ≡ r
-unfolding first_from
-scan_end p n i r l h = let z : n - i ≡ 0 = omega arith in rw z at h
-
--- a search for some row
-pub some_here : (p : ℕ → Bool) (i : ℕ) → i < 64 → p i ≡ true → first_from p (64 - i) i ≡ first_from p 64 0 → true ≡ some_row p
+pub some_listed : (p : ℕ → Bool) → list_any p (range_with_len 0 64) ≡ some_row p
 unfolding some_row
-some_here p i l e h = sym (lt-ltb (first_from p 64 0) 64 (let q = scan_here p 64 i (first_from p 64 0) e h in omega arith))
+some_listed p = any_listed p 64 0
 
-pub some_end : (p : ℕ → Bool) (i : ℕ) → 64 ≤ i → first_from p (64 - i) i ≡ first_from p 64 0 → false ≡ some_row p
-unfolding some_row
-some_end p i l h = sym (le-ltb (first_from p 64 0) 64 (let q = scan_end p 64 i (first_from p 64 0) l h in omega arith))
+place_listed : (p : ℕ → Bool) (n i : ℕ) → i + position_or_len p (range_with_len i n) ≡ first_from p n i
+unfolding first_from pick
+place_listed p zero i = add-zero i
+place_listed p (suc n) i = elim (true_or_false (p i)) [
+  | inl e ↦ rw e (add-zero i)
+  | inr e ↦
+      let m : i + (1 + position_or_len p (range_with_len (i + 1) n)) ≡ i + 1 + position_or_len p (range_with_len (i + 1) n) = omega arith in
+      rw e (m ∙ place_listed p n (i + 1) ∙ ap (first_from p n) (add-one i))
+]
+
+length_listed : (n i : ℕ) → length (range_with_len i n) ≡ n
+length_listed zero i = refl
+length_listed (suc n) i = ap suc (length_listed n (i + 1))
+
+-- the place that is found among the rows
+pub found_listed : (p : ℕ → Bool) {r : Option ℕ}
+    → r ≡ cond (ltb (position_or_len p (range_with_len 0 64)) (length (range_with_len 0 64))) (Some (position_or_len p (range_with_len 0 64))) None
+    → r ≡ row_told (first_from p 64 0)
+unfolding row_told pick
+found_listed p e =
+    let k = position_or_len p (range_with_len 0 64) in
+    let is : k ≡ first_from p 64 0 = sym (zero-add k) ∙ place_listed p 64 0 in
+    rw (e, length_listed 64 0, ← is) (elim (dec_lt k 64) [
+      | yes l ↦ rw (lt-ltb k 64 l) refl
+      | no l ↦ rw (le-ltb k 64 (omega arith)) refl
+    ])
 
 -- a pass over the rows, at its place i
 pub pass_dead : (now : ℕ) (t u v : List ℕ) (i : ℕ) → u ≡ free_rows now t i → row_dead now u i ≡ true → v ≡ put_row u i no_key 0 → v ≡ free_rows now t (i + 1)
@@ -351,25 +369,51 @@ pass_live now t u i e d =
     let live : row_dead now (free_rows now t i) i ≡ false = rw e at d in
     rw (add-one, live) e
 
-pub pass_length : (now : ℕ) (t u : List ℕ) (i : ℕ) → u ≡ free_rows now t i → length t ≡ 256 → length u ≡ 256
-pass_length now t u i e sized = ap length e ∙ length_free now t i ∙ sized
-
 -- a row that was admitted after the clock lives
 pub later_lives : (first now d : ℕ) → now < d → false ≡ leb (row_life first) (now - d)
 later_lives first now d l = sym (lt-leb (row_life first) (now - d) (omega (arith, life_least first)))
 
--- the lowest free row filled, and where none is free
-module _ (t : List ℕ) (row : ℕ) (k : Key) (clock : ℕ) (sized : length t ≡ 256) (e : row ≡ lowest_free t) where
-  pub fills_none : 64 ≤ row → (row ≡ where_sized t (lowest_free t) 64) × (t ≡ where_sized t (filled t k clock) t)
-  unfolding filled pick
-  fills_none l = (rw (of_sized t (lowest_free t) 64 sized) e, rw (of_sized t (filled t k clock) t sized, ← e, le-ltb row 64 l) refl)
+-- which row is told, and where none is
+pub row_some : (i : ℕ) {row : ℕ} → row_told i ≡ Some row → (row ≡ i) × (i < 64)
+unfolding row_told pick
+row_some i e = elim (dec_lt i 64) [
+  | yes l ↦ (sym (same_Some _ _ (rw (lt-ltb i 64 l) at e)), l)
+  | no l ↦ absurd (none-some _ (rw (le-ltb i 64 (omega arith)) at e))
+]
 
-  pub fills_row : (t' : List ℕ) → t' ≡ put_row t row k clock → (row ≡ where_sized t (lowest_free t) 64) × (t' ≡ where_sized t (filled t k clock) t)
+pub row_none : (i : ℕ) → row_told i ≡ None → 64 ≤ i
+unfolding row_told pick
+row_none i e = elim (dec_lt i 64) [
+  | yes l ↦ absurd (none-some _ (sym (rw (lt-ltb i 64 l) at e)))
+  | no l ↦ omega arith
+]
+
+-- by the test for one
+pub row_gone : (i : ℕ) (r : Option ℕ) → r ≡ row_told i → is_some r ≡ false → 64 ≤ i
+row_gone i None e _ = row_none i (sym e)
+row_gone i (Some row) e h = absurd (let z : true ≡ false = h in cc)
+
+pub row_there : (i : ℕ) (r : Option ℕ) → r ≡ row_told i → is_some r ≡ true → i < 64
+row_there i None e h = absurd (let z : false ≡ true = h in cc)
+row_there i (Some row) e _ = (row_some i (sym e)).1
+
+-- the lowest free row filled, and where none is free
+module _ (t : List ℕ) (k : Key) (clock : ℕ) (sized : length t ≡ 256) where
+  pub fills_none : row_told (lowest_free t) ≡ None → (None ≡ row_told (where_sized t (lowest_free t) 64)) × (t ≡ where_sized t (filled t k clock) t)
   unfolding filled pick
-  fills_row t' h = elim (dec_lt row 64) [
-    | yes l ↦ (rw (of_sized t (lowest_free t) 64 sized) e, rw (of_sized t (filled t k clock) t sized, ← e, lt-ltb row 64 l) h)
-    | no l ↦ let (found, left) = fills_none (omega arith) in (found, h ∙ put_out t row k clock (omega arith) ∙ left)
-  ]
+  fills_none e = (
+    rw (of_sized t (lowest_free t) 64 sized) (sym e),
+    rw (of_sized t (filled t k clock) t sized, le-ltb (lowest_free t) 64 (row_none (lowest_free t) e)) refl,
+  )
+
+  pub fills_row : {row : ℕ} {t' : List ℕ} → row_told (lowest_free t) ≡ Some row → t' ≡ put_row t row k clock
+      → (Some row ≡ row_told (where_sized t (lowest_free t) 64)) × (t' ≡ where_sized t (filled t k clock) t)
+  unfolding filled pick
+  fills_row e h =
+      let (same, l) = row_some (lowest_free t) e in (
+        rw (of_sized t (lowest_free t) 64 sized) (sym e),
+        rw (of_sized t (filled t k clock) t sized, lt-ltb (lowest_free t) 64 l, ← same) h,
+      )
 
 -- the code's index of a row's first number
 pub cell_first : (t : List ℕ) (i : ℕ) → cell t i 0 ≡ get_or t (4 * i) 0

@@ -1,9 +1,11 @@
 -- The node's record (rules 6), and masks of links, whose bit i is set when interface i is up.
-use Rattle.std.specs.Prelude.{ℕ, ◌+◌, ◌-◌, ◌^◌, Bool, not, ◌||◌, List, replicate, ltb, leb, eqb}
+use Rattle.std.specs.Prelude.{ℕ, ◌+◌, ◌-◌, ◌^◌, Bool, not, ◌||◌, List, replicate, ltb, leb, eqb, Result, Ok, Err}
 use Rattle.base.specs.Pick.{pick}
 use Rattle.base.specs.Bits.{has_bit}
+use Rattle.base.specs.declared.refusal.Refusal.{Refusal}
+use Rattle.std.specs.Result.{result_unwrap_or}
+use Rattle.base.specs.declared.refusal.Refusal.TheVariants.{BadRecord, BadLink}
 use Rattle.node_state.specs.declared.Record.{Record}
-use Rattle.node_state.specs.declared.RecordAnswer.{RecordAnswer}
 
 -- house limit (rules 6.2): how many interfaces a node has at most
 abbrev pub most_interfaces : ℕ
@@ -21,10 +23,6 @@ links_bad interfaces mask = eqb interfaces 0 || ltb most_interfaces interfaces |
 unfoldable pub record_bad : Record → Bool
 record_bad r = links_bad r.interfaces r.links || ltb most_tally r.tally
 
--- the number of a refusal beside a record
-abbrev pub keeps : ℕ → Record → RecordAnswer
-keeps n r = record { refusal = n; node = r }
-
 -- a record at clock 0 with no copies tallied
 abbrev pub begun : List ℕ → ℕ → ℕ → ℕ → ℕ → Record
 begun address port ttl interfaces mask =
@@ -34,10 +32,14 @@ begun address port ttl interfaces mask =
 abbrev pub blank : Record
 blank = begun (replicate 16 0) 0 0 0 0
 
--- asking for a fresh record (rules 6.3): 12, with a blank one for the record, or the record with refusal 0
-unfoldable pub fresh : List ℕ → ℕ → ℕ → ℕ → ℕ → RecordAnswer
+-- asking for a fresh record (rules 6.3): 12, or the record
+unfoldable pub fresh : List ℕ → ℕ → ℕ → ℕ → ℕ → Result Record Refusal
 fresh address port ttl interfaces mask =
-    pick (links_bad interfaces mask) (keeps 12 blank) (keeps 0 (begun address port ttl interfaces mask))
+    pick (links_bad interfaces mask) (Err BadRecord) (Ok (begun address port ttl interfaces mask))
+
+-- the record that asking for a fresh one gives: a blank one where it is refused
+abbrev pub fresh_or_blank : List ℕ → ℕ → ℕ → ℕ → ℕ → Record
+fresh_or_blank address port ttl interfaces mask = result_unwrap_or (fresh address port ttl interfaces mask) blank
 
 -- the record with another mask
 unfoldable pub linked : Record → ℕ → Record
@@ -53,9 +55,13 @@ linked r mask =
     }
 
 -- setting links: 12, then 13
-unfoldable pub set_links : Record → ℕ → RecordAnswer
+unfoldable pub set_links : Record → ℕ → Result Record Refusal
 set_links r mask =
-    pick (record_bad r) (keeps 12 r) (pick (leb (2 ^ r.interfaces) mask) (keeps 13 r) (keeps 0 (linked r mask)))
+    pick (record_bad r) (Err BadRecord) (pick (leb (2 ^ r.interfaces) mask) (Err BadLink) (Ok (linked r mask)))
+
+-- the record after a setting of links: a refusal leaves it as it was
+abbrev pub links_set : Record → ℕ → Record
+links_set r mask = result_unwrap_or (set_links r mask) r
 
 -- 13 of the node call: the arriving interface isn't below the count, or isn't in the mask of links: its link is down
 unfoldable pub arrival_bad : Record → ℕ → Bool

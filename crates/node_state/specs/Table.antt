@@ -1,6 +1,6 @@
 -- The relay table (rules 7): 64 rows of four numbers, one after the other.
 use Rattle.std.specs.Prelude.{ℕ, zero, suc, ◌+◌, ◌-◌, ◌*◌, ◌/◌, ◌%◌, ◌^◌, Bool, true, not, ◌&&◌, ◌||◌}
-use Rattle.std.specs.Prelude.{List, length, get_or, set, replicate, ltb, leb, eqb}
+use Rattle.std.specs.Prelude.{List, Option, Some, None, length, get_or, set, replicate, ltb, leb, eqb}
 use Rattle.base.specs.Pick.{pick}
 use Rattle.node_state.specs.declared.key.Key.{Key}
 use Rattle.node_state.specs.Key.{no_key}
@@ -97,6 +97,10 @@ freed now t = free_rows now t most_rows
 -- the lowest free row, 64 where none is free
 unfoldable pub lowest_free : List ℕ → ℕ
 lowest_free t = first_from (row_free t) most_rows 0
+
+-- a row of the table, or none
+unfoldable pub row_told : ℕ → Option ℕ
+row_told i = pick (ltb i most_rows) (Some i) None
 
 -- the table with its lowest free row filled, if there is one
 unfoldable pub filled : List ℕ → Key → ℕ → List ℕ

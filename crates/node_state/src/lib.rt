@@ -3,7 +3,9 @@
 #![tactic(auto)]
 
 ghost use Rattle.std.specs.Prelude.{◌≡◌};
-ghost use Rattle.node_state.specs.Record.{record_bad, fresh, set_links};
+ghost use Rattle.node_state.specs.Record.{record_bad, blank, fresh, fresh_or_blank, set_links};
+
+use base::refusal::Refusal;
 
 pub mod key;
 mod links;
@@ -23,13 +25,6 @@ pub struct Record {
     pub tally: u64,
 }
 
-// The number of the refusal, 0 for none, and the record.
-#[derive(Clone, Copy)]
-pub struct RecordAnswer {
-    pub refusal: u8,
-    pub node: Record,
-}
-
 impl Record {
     // House limit (rules 7.1): how many rows the relay table has.
     pub const ROWS: usize = 64;
@@ -42,61 +37,77 @@ impl Record {
     // House limit (rules 6.2): the greatest tally of a record that is not refused.
     pub const MOST_TALLY: u64 = 9_223_372_036_854_775_808;
 
-    // A fresh record: 12 where the interfaces aren't 1 to 8 or a link bit is at or above their number, with all zeros
-    // for the record.
-    pub fn fresh(address: [u8; 16], port: u16, ttl: u32, interfaces: u64, mask: u64) -> RecordAnswer
+    // All zeros, for want of a record: every node call refuses it as a bad one.
+    pub fn blank() -> Record
+        ensures { result ≡ blank }
+    {
+        Record {
+            address: [0; 16],
+            port: 0,
+            ttl: 0,
+            interfaces: 0,
+            links: 0,
+            clock: 0,
+            tally: 0,
+        }
+    }
+
+    // A fresh record: refused as a bad one where the interfaces aren't 1 to 8 or a link bit is at or above their
+    // number.
+    pub fn fresh(
+        address: [u8; 16],
+        port: u16,
+        ttl: u32,
+        interfaces: u64,
+        mask: u64,
+    ) -> Result<Record, Refusal>
         ensures { result ≡ fresh address port ttl interfaces mask }
     {
         if links::are_bad(interfaces, mask) {
-            return RecordAnswer {
-                refusal: 12,
-                node: Record {
-                    address: [0; 16],
-                    port: 0,
-                    ttl: 0,
-                    interfaces: 0,
-                    links: 0,
-                    clock: 0,
-                    tally: 0,
-                },
-            };
+            return Err(Refusal::BadRecord);
         }
-        RecordAnswer {
-            refusal: 0,
-            node: Record {
-                address,
-                port,
-                ttl,
-                interfaces: interfaces as u8,
-                links: mask as u8,
-                clock: 0,
-                tally: 0,
-            },
-        }
+        Ok(Record {
+            address,
+            port,
+            ttl,
+            interfaces: interfaces as u8,
+            links: mask as u8,
+            clock: 0,
+            tally: 0,
+        })
     }
 
-    // The record with other links: 12 where the record is bad, 13 where the mask has a bit at or above the count.
-    pub fn set_links(self, mask: u64) -> RecordAnswer
+    // A fresh record, or the blank one where it is refused.
+    pub fn fresh_or_blank(
+        address: [u8; 16],
+        port: u16,
+        ttl: u32,
+        interfaces: u64,
+        mask: u64,
+    ) -> Record
+        ensures { result ≡ fresh_or_blank address port ttl interfaces mask }
+    {
+        Record::fresh(address, port, ttl, interfaces, mask).unwrap_or(Record::blank())
+    }
+
+    // The record with other links: refused where it is bad, or where the mask has a bit at or above the count. A
+    // refusal leaves the caller's own record.
+    pub fn set_links(self, mask: u64) -> Result<Record, Refusal>
         ensures { result ≡ set_links self mask }
     {
         if self.is_bad() {
-            return RecordAnswer {
-                refusal: 12,
-                node: self,
-            };
+            return Err(Refusal::BadRecord);
         }
         if links::are_bad(self.interfaces as u64, mask) {
-            return RecordAnswer {
-                refusal: 13,
-                node: self,
-            };
+            return Err(Refusal::BadLink);
         }
-        let mut node = self;
-        node.links = mask as u8;
-        RecordAnswer { refusal: 0, node }
+        Ok(Record {
+            links: mask as u8,
+            ..self
+        })
     }
 
-    // 12
+    // The links are bad, or the tally is above its limit.
     pub fn is_bad(self) -> bool
         ensures { result ≡ record_bad self }
     {

@@ -2,7 +2,7 @@
 ghost use Rattle.std.specs.Prelude.{◌≡◌, false, ◌<◌, length};
 ghost use Rattle.node_state.specs.Table.{most_rows, table_numbers, where_sized, put_row, row_free};
 ghost use Rattle.node_state.specs.Table.{row_keyed, tag_in, row_bad, row_life, row_dead, row_matches};
-ghost use Rattle.node_state.specs.Table.{table_bad, freed, lowest_free, filled, is_known};
+ghost use Rattle.node_state.specs.Table.{table_bad, freed, row_told, lowest_free, filled, is_known};
 
 use crate::Record;
 use crate::key::Key;
@@ -17,14 +17,7 @@ pub fn is_bad(table: &[u64], clock: u64) -> bool
     if table.len() != 4 * Record::ROWS {
         return true;
     }
-    let mut i = 0;
-    while i < Record::ROWS {
-        if is_bad_row(table, i, clock) {
-            return true;
-        }
-        i += 1;
-    }
-    false
+    (0..Record::ROWS).any(|i| is_bad_row(table, i, clock))
 }
 
 // A row that is neither free nor used.
@@ -43,22 +36,14 @@ fn is_bad_row(table: &[u64], i: usize, clock: u64) -> bool
 }
 
 // A free row is four zeros.
+#[tactic(auto, unfolding(crate::specs::Table::row_free, crate::specs::Table::cell))]
 fn is_free(table: &[u64], i: usize) -> bool
     requires small { i < most_rows }
     requires sized { length table.now ≡ table_numbers }
     ensures { result ≡ row_free table.now i }
 {
     let at = 4 * i;
-    if table[at] != 0 {
-        return false;
-    }
-    if table[at + 1] != 0 {
-        return false;
-    }
-    if table[at + 2] != 0 {
-        return false;
-    }
-    table[at + 3] == 0
+    table[at] == 0 && table[at + 1] == 0 && table[at + 2] == 0 && table[at + 3] == 0
 }
 
 // A tag of 1 to 4, and under 1 and 3, which go with 4 bytes of initiator, no more than these.
@@ -137,70 +122,45 @@ pub fn free_dead(table: &mut [u64], clock: u64)
     if table.len() != 4 * Record::ROWS {
         return;
     }
-    let mut i = 0;
-    while i < Record::ROWS {
+    for i in 0..Record::ROWS {
         if is_dead(table, i, clock) {
-            put_row(
-                table,
-                i,
-                Key {
-                    first: 0,
-                    second: 0,
-                    third: 0,
-                },
-                0,
-            );
+            put_row(table, i, Key::NONE, 0);
         }
-        i += 1;
     }
 }
 
-// Fills the lowest free row, and says which it is: 64 where none is free, or where the table has another length; then
+// Fills the lowest free row, and says which it is: none where none is free, or where the table has another length; then
 // it stays as it is.
-pub fn fill_lowest(table: &mut [u64], key: Key, clock: u64) -> usize
-    ensures value { result ≡ where_sized table.old (lowest_free table.old) most_rows }
+pub fn fill_lowest(table: &mut [u64], key: Key, clock: u64) -> Option<usize>
+    ensures value { result ≡ row_told (where_sized table.old (lowest_free table.old) most_rows) }
     ensures table_after { table.new ≡ where_sized table.old (filled table.old key clock)
         table.old }
 {
     if table.len() != 4 * Record::ROWS {
-        return Record::ROWS;
+        return None;
     }
-    let row = lowest_free(table);
-    if row < Record::ROWS {
-        put_row(table, row, key, clock);
-    }
-    row
+    let row = lowest_free(table)?;
+    put_row(table, row, key, clock);
+    Some(row)
 }
 
-// The lowest free row, 64 where none is free.
-fn lowest_free(table: &[u64]) -> usize
+// The lowest free row, if one is free.
+fn lowest_free(table: &[u64]) -> Option<usize>
     requires { length table.now ≡ table_numbers }
-    ensures { result ≡ lowest_free table.now }
+    ensures { result ≡ row_told (lowest_free table.now) }
 {
-    let mut i = 0;
-    while i < Record::ROWS {
-        if is_free(table, i) {
-            return i;
-        }
-        i += 1;
-    }
-    i
+    (0..Record::ROWS).position(|i| is_free(table, i))
 }
 
 // A row has this key.
+#[tactic(auto, unfolding(crate::specs::Table::row_matches, crate::specs::Table::cell))]
 fn has_key(table: &[u64], i: usize, key: Key) -> bool
     requires small { i < most_rows }
     requires sized { length table.now ≡ table_numbers }
     ensures { result ≡ row_matches key table.now i }
 {
     let at = 4 * i;
-    if table[at] != key.first {
-        return false;
-    }
-    if table[at + 1] != key.second {
-        return false;
-    }
-    table[at + 2] == key.third
+    table[at] == key.first && table[at + 1] == key.second && table[at + 2] == key.third
 }
 
 // Some row has this key. No row of a table of another length has.
@@ -210,12 +170,5 @@ pub fn knows(table: &[u64], key: Key) -> bool
     if table.len() != 4 * Record::ROWS {
         return false;
     }
-    let mut i = 0;
-    while i < Record::ROWS {
-        if has_key(table, i, key) {
-            return true;
-        }
-        i += 1;
-    }
-    false
+    (0..Record::ROWS).any(|i| has_key(table, i, key))
 }

@@ -8,33 +8,18 @@ const FACTOR: u64 = 16_777_619;
 
 // The address's bytes, then the halves of the record's other numbers and of the table's.
 pub(crate) fn digest_of(node: Record, table: &[u64]) -> u32 {
-    let address = node.address;
-    let mut d = with_address(1, &address);
+    let mut d = 1;
+    for b in node.address {
+        d = with_half(d, b as u32);
+    }
     d = with_number(d, node.port as u64);
     d = with_number(d, node.ttl as u64);
     d = with_number(d, node.interfaces as u64);
     d = with_number(d, node.links as u64);
     d = with_number(d, node.clock);
     d = with_number(d, node.tally);
-    with_numbers(d, table)
-}
-
-fn with_address(d: u32, address: &[u8; 16]) -> u32 {
-    let mut d = d;
-    for i in 0..16 {
-        d = with_byte(d, address[i]);
-    }
-    d
-}
-
-fn with_byte(d: u32, b: u8) -> u32 {
-    with_half(d, b as u32)
-}
-
-fn with_numbers(d: u32, table: &[u64]) -> u32 {
-    let mut d = d;
-    for i in 0..table.len() {
-        d = with_number(d, table[i]);
+    for n in table {
+        d = with_number(d, *n);
     }
     d
 }

@@ -4,11 +4,11 @@
 #![tactic(auto)]
 
 mod digest;
-mod input;
 mod line;
 
 use node_state::Record;
 use std::io::{self, Read, Write};
+use streams::{read_array, read_full};
 
 // The most numbers of a table that is lent: 80 rows.
 const MOST_NUMBERS: usize = 320;
@@ -29,31 +29,17 @@ fn main(rt: HostRuntime) -> io::Result<()> {
 
 fn run_all(from: &mut impl Read, to: &mut impl Write, table: &mut [u64]) -> io::Result<()> {
     let mut state = State {
-        node: blank(),
+        node: Record::blank(),
         length: 256,
     };
     for _ in 0..MOST_OPERATIONS {
         let mut operation = [0u8; 1];
-        let got = streams::read_full(from, &mut operation)?;
-        if got < 1 {
+        if read_full(from, &mut operation)? < 1 {
             return Ok(());
         }
         state = run(from, to, state, table, operation[0])?;
     }
     Ok(())
-}
-
-// All zeros.
-fn blank() -> Record {
-    Record {
-        address: [0; 16],
-        port: 0,
-        ttl: 0,
-        interfaces: 0,
-        links: 0,
-        clock: 0,
-        tally: 0,
-    }
 }
 
 // The state after an operation.
@@ -64,47 +50,34 @@ fn run(
     table: &mut [u64],
     operation: u8,
 ) -> io::Result<State> {
-    if operation == 1 {
-        return run_fresh(from, to, table);
+    match operation {
+        1 => run_fresh(from, to, table),
+        2 => run_call(from, to, state, table),
+        3 => run_links(from, to, state, table),
+        4 => put_record(from, state),
+        5 => {
+            put_row(from, table)?;
+            Ok(state)
+        }
+        6 => put_length(from, state),
+        _ => Ok(state),
     }
-    if operation == 2 {
-        return run_call(from, to, state, table);
-    }
-    if operation == 3 {
-        return run_links(from, to, state, table);
-    }
-    if operation == 4 {
-        return put_record(from, state);
-    }
-    if operation == 5 {
-        put_row(from, table)?;
-        return Ok(state);
-    }
-    if operation == 6 {
-        return put_length(from, state);
-    }
-    Ok(state)
 }
 
 fn run_fresh(from: &mut impl Read, to: &mut impl Write, table: &mut [u64]) -> io::Result<State> {
-    let mut address = [0u8; 16];
-    streams::read_full(from, &mut address)?;
-    let port = input::next_two(from)?;
-    let ttl = input::next_four(from)?;
-    let interfaces = input::next_eight(from)?;
-    let mask = input::next_eight(from)?;
-    clear(table);
+    let address = read_array(from)?;
+    let port = u16::from_be_bytes(read_array(from)?);
+    let ttl = u32::from_be_bytes(read_array(from)?);
+    let interfaces = next_number(from)?;
+    let mask = next_number(from)?;
+    table.fill(0);
     let kept = Record::fresh(address, port, ttl, interfaces, mask);
-    let node = kept.node;
-    let state = State { node, length: 256 };
-    line::print_kept(to, kept.refusal, state, table)?;
+    let state = State {
+        node: kept.unwrap_or(Record::blank()),
+        length: 256,
+    };
+    line::print_kept(to, kept, state, table)?;
     Ok(state)
-}
-
-fn clear(table: &mut [u64]) {
-    for i in 0..table.len() {
-        table[i] = 0;
-    }
 }
 
 fn run_links(
@@ -113,15 +86,13 @@ fn run_links(
     state: State,
     table: &[u64],
 ) -> io::Result<State> {
-    let mask = input::next_eight(from)?;
-    let before = state.node;
-    let kept = before.set_links(mask);
-    let node = kept.node;
+    let mask = next_number(from)?;
+    let kept = state.node.set_links(mask);
     let after = State {
-        node,
-        length: state.length,
+        node: kept.unwrap_or(state.node),
+        ..state
     };
-    line::print_kept(to, kept.refusal, after, table)?;
+    line::print_kept(to, kept, after, table)?;
     Ok(after)
 }
 
@@ -131,101 +102,43 @@ fn run_call(
     state: State,
     table: &mut [u64],
 ) -> io::Result<State> {
-    let clock = input::next_eight(from)?;
-    let interface = input::next_eight(from)?;
+    let clock = next_number(from)?;
+    let interface = next_number(from)?;
     let mut names = [0u8; 4_096];
+    let Some(names) = names.get_mut(..next_length(from)?) else {
+        return Ok(state);
+    };
+    read_full(from, names)?;
     let mut message = [0u8; 4_096];
+    let Some(message) = message.get_mut(..next_length(from)?) else {
+        return Ok(state);
+    };
+    read_full(from, message)?;
     let mut out = [0xaau8; 2_100];
-    call_in(
-        from,
-        to,
-        state,
-        table,
-        clock,
-        interface,
-        &mut names,
-        &mut message,
-        &mut out,
-    )
-}
-
-fn call_in(
-    from: &mut impl Read,
-    to: &mut impl Write,
-    state: State,
-    table: &mut [u64],
-    clock: u64,
-    interface: u64,
-    names: &mut [u8],
-    message: &mut [u8],
-    out: &mut [u8],
-) -> io::Result<State> {
-    let named = input::next_two(from)? as usize;
-    if names.len() < named {
+    let Some(out) = out.get_mut(..next_length(from)?) else {
         return Ok(state);
-    }
-    streams::read_full(from, &mut names[..named])?;
-    let len = input::next_two(from)? as usize;
-    if message.len() < len {
+    };
+    let Some(lent) = table.get_mut(..state.length) else {
         return Ok(state);
-    }
-    streams::read_full(from, &mut message[..len])?;
-    let size = input::next_two(from)? as usize;
-    if out.len() < size {
-        return Ok(state);
-    }
-    call(
-        to,
-        state,
-        table,
-        clock,
-        interface,
-        &names[..named],
-        &message[..len],
-        &mut out[..size],
-    )
-}
-
-fn call(
-    to: &mut impl Write,
-    state: State,
-    table: &mut [u64],
-    clock: u64,
-    interface: u64,
-    names: &[u8],
-    message: &[u8],
-    out: &mut [u8],
-) -> io::Result<State> {
-    let length = state.length;
-    if table.len() < length {
-        return Ok(state);
-    }
-    let before = state.node;
-    let called = node::call::node_call(
-        before,
-        &mut table[..length],
-        clock,
-        interface,
-        names,
-        message,
-        out,
-    );
-    let node = called.node;
-    let reply = called.reply;
-    let after = State { node, length };
-    line::print_called(to, reply, after, table, out)?;
+    };
+    let called = node::call::node_call(state.node, lent, clock, interface, names, message, out);
+    let node = match called {
+        Ok(answer) => answer.node,
+        Err(_) => state.node,
+    };
+    let after = State { node, ..state };
+    line::print_called(to, called, after, table, out)?;
     Ok(after)
 }
 
 fn put_record(from: &mut impl Read, state: State) -> io::Result<State> {
-    let mut address = [0u8; 16];
-    streams::read_full(from, &mut address)?;
-    let port = input::next_two(from)?;
-    let ttl = input::next_four(from)?;
-    let interfaces = input::next_byte(from)?;
-    let links = input::next_byte(from)?;
-    let clock = input::next_eight(from)?;
-    let tally = input::next_eight(from)?;
+    let address = read_array(from)?;
+    let port = u16::from_be_bytes(read_array(from)?);
+    let ttl = u32::from_be_bytes(read_array(from)?);
+    let interfaces = u8::from_be_bytes(read_array(from)?);
+    let links = u8::from_be_bytes(read_array(from)?);
+    let clock = next_number(from)?;
+    let tally = next_number(from)?;
     Ok(State {
         node: Record {
             address,
@@ -242,17 +155,24 @@ fn put_record(from: &mut impl Read, state: State) -> io::Result<State> {
 
 // A row's number, then its four numbers.
 fn put_row(from: &mut impl Read, table: &mut [u64]) -> io::Result<()> {
-    let row = input::next_byte(from)? as usize;
-    let at = 4 * row;
-    let end = at + 4;
-    if table.len() < end {
-        return Ok(());
+    let at = 4 * u8::from_be_bytes(read_array(from)?) as usize;
+    if let Some(row) = table.get_mut(at..at + 4) {
+        for n in row.iter_mut() {
+            *n = next_number(from)?;
+        }
     }
-    input::next_numbers(from, &mut table[at..end])
+    Ok(())
 }
 
 fn put_length(from: &mut impl Read, state: State) -> io::Result<State> {
-    let node = state.node;
-    let length = input::next_two(from)? as usize;
-    Ok(State { node, length })
+    let length = next_length(from)?;
+    Ok(State { length, ..state })
+}
+
+fn next_length(from: &mut impl Read) -> io::Result<usize> {
+    Ok(u16::from_be_bytes(read_array(from)?) as usize)
+}
+
+fn next_number(from: &mut impl Read) -> io::Result<u64> {
+    Ok(u64::from_be_bytes(read_array(from)?))
 }

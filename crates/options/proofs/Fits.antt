@@ -10,6 +10,8 @@ use native.Mathlib.Omega.{arith}
 use lib.ListN.{length, take, drop, length-drop}
 use lib.Dec.{ltb, leb, eqb}
 use borrow.Author.Tests.{ltb-false, eqb-true, eqb-false, ne_eqb}
+use Rattle.options.specs.Text.{Noted}
+use Rattle.std.specs.Prelude.{Option, Some, None, Ok, Err}
 use Rattle.base.specs.Pick.{pick}
 use Rattle.base.proofs.Bools.{and_left, and_right}
 use Rattle.base.proofs.Picks.{pick-case, both}
@@ -20,13 +22,14 @@ use Rattle.cbor.specs.Head.{head_at}
 use Rattle.cbor.specs.Item.{left_under}
 use Rattle.cbor.proofs.Tokens.{token_end, token_has, is_array, is_number, size_le}
 use Rattle.cbor.proofs.Passes.{Passes, passes_none, passes_then, passes_within, Leaf, leaf_there, leaf_passes, array_passes, size_passes}
-use Rattle.options.specs.declared.locator.LocatorRead.{LocatorRead}
+use Rattle.options.specs.declared.locator.Locator.{Locator}
 use Rattle.options.specs.declared.objective.Objective.{Objective}
-use Rattle.options.specs.declared.objective.ObjectiveRead.{ObjectiveRead}
-use Rattle.options.specs.declared.pair.PairRead.{PairRead}
-use Rattle.options.specs.Locator.{is_null, address_fits, no_protocol, no_port, protocol_of, port_of, locator_in, locator_reached}
+use Rattle.options.specs.declared.outcome.Outcome.{Outcome}
+use Rattle.options.specs.declared.pair.Pair.{Pair}
+use Rattle.options.specs.Part.{Read, departs}
+use Rattle.options.proofs.Needed.{needed_case}
+use Rattle.options.specs.Locator.{is_null, address_fits, protocol_of, port_of, locator_in, locator_reached}
 use Rattle.options.specs.Objective.{objective_from, objective_in, objective_named}
-use Rattle.options.specs.declared.outcome.OutcomeRead.{OutcomeRead}
 use Rattle.options.specs.Outcome.{reason_in, outcome_in}
 use Rattle.options.specs.Pair.{is_empty, pair_levels, pair_tagged, pair_tail, pair_led, pair_in}
 
@@ -48,23 +51,27 @@ address_leaf kind t =
     P b = b ≡ true → Leaf t
 
 -- what is read as a protocol or a port is a leaf: a number, or null where the kind may have it
-number_leaf : (kind none null read : ℕ) (t : Token) → (pick (eqb t.major 0) read (pick (eqb kind 106) (pick (is_null t) null none) none) ≡ none → ⊥) → Leaf t
-number_leaf kind none null read t =
+number_leaf : (kind n : ℕ) (null read : Option ℕ) (t : Token) → pick (eqb t.major 0) read (pick (eqb kind 106) (pick (is_null t) null None) None) ≡ Some n
+    → Leaf t
+number_leaf kind n null read t =
     pick-case P (eqb t.major 0) (λ e _. inl (omega (arith, eqb-true t.major 0 e)))
-    (λ _. both P (eqb kind 106) (pick-case P (is_null t) (λ e _. null_leaf t e) (λ _ n. absurd (n refl))) (λ n. absurd (n refl)))
+    (λ _. both P (eqb kind 106) (pick-case P (is_null t) (λ e _. null_leaf t e) (λ _. nothing)) nothing)
   where
-    P : ℕ → Type 0
-    P p = (p ≡ none → ⊥) → Leaf t
+    P : Option ℕ → Type 0
+    P p = p ≡ Some n → Leaf t
+
+    nothing : P None
+    nothing q = absurd (cc)
 
 -- a locator has six bytes at least, and lies within so many
-abbrev pub LocatorOk : ℕ → LocatorRead → Type 0
-LocatorOk room (LocatorRead.Bad place) = Unit {0}
-LocatorOk room (LocatorRead.Got l size bad) = (6 ≤ size) × (size ≤ room)
+abbrev pub LocatorOk : ℕ → Read Locator → Type 0
+LocatorOk room (Err e) = Unit {0}
+LocatorOk room (Ok l) = (6 ≤ l.size) × (l.size ≤ room)
 
 -- the walk passes over a locator, of one level
-abbrev pub LocatorWalked : List ℕ → LocatorRead → Type 0
-LocatorWalked s (LocatorRead.Bad place) = Unit {0}
-LocatorWalked s (LocatorRead.Got l size bad) = (left : ℕ) → Passes (suc left) 1 s 0 size
+abbrev pub LocatorWalked : List ℕ → Read Locator → Type 0
+LocatorWalked s (Err e) = Unit {0}
+LocatorWalked s (Ok l) = (left : ℕ) → Passes (suc left) 1 s 0 l.size
 
 -- both: two bytes are its kind's, and one its own head's, its address's, its protocol's and its port's
 locator_told : (base : ℕ) (s : List ℕ) → LocatorOk (length s) (locator_in base s) × LocatorWalked s (locator_in base s)
@@ -81,15 +88,15 @@ locator_told base s =
     (λ t₂. pick-case P (ltb 106 kind) (λ _. (tt, tt))
     (λ t₃. pick-case P (eqb a.arg 4)
     (λ t₄. pick-case P (address_fits kind b)
-    (λ t₅. pick-case P (eqb (protocol_of kind p) no_protocol) (λ _. (tt, tt))
-    (λ t₆. pick-case P (eqb (port_of kind q) no_port) (λ _. (tt, tt))
-    (λ t₇.
+    (λ t₅. needed_case P (protocol_of kind p) (tt, tt)
+    (λ pn t₆. needed_case P (port_of kind q) (tt, tt)
+    (λ qn t₇.
     let four : a.major ≡ 4 = is_array a (eqb-false (items_in a) 0 t₁) in
     let (number, same) = is_number 106 k (ltb-false 106 kind t₃) in
     let high : 103 ≤ kind = ltb-false kind 103 t₂ in
     let address = address_leaf kind b t₅ in
-    let protocol = number_leaf kind no_protocol _ _ p (eqb-false (protocol_of kind p) no_protocol t₆) in
-    let port = number_leaf kind no_port _ _ q (eqb-false (port_of kind q) no_port t₇) in
+    let protocol = number_leaf kind pn _ _ p t₆ in
+    let port = number_leaf kind qn _ _ q t₇ in
     let a₁ : 0 + 1 ≤ a.next = (token_has s 0).some (omega arith) in
     let k₁ : a.next + 2 ≤ k.next = (token_has s a.next).wide (omega arith) in
     let b₁ : k.next + 1 ≤ b.next = (token_has s k.next).some (leaf_there b address) in
@@ -104,7 +111,7 @@ locator_told base s =
     (λ _. (tt, tt)))
     (λ _. (tt, tt)))))
   where
-    P : LocatorRead → Type 0
+    P : Read Locator → Type 0
     P r = LocatorOk (length s) r × LocatorWalked s r
 
 -- so it is passed
@@ -113,14 +120,14 @@ locator_walked base s = (locator_told base s).1
 
 -- ---- accept and decline
 -- it lies within so many bytes
-abbrev pub OutcomeOk : ℕ → OutcomeRead → Type 0
-OutcomeOk room (OutcomeRead.Bad place) = Unit {0}
-OutcomeOk room (OutcomeRead.Got o size bad) = size ≤ room
+abbrev pub OutcomeOk : ℕ → Read Outcome → Type 0
+OutcomeOk room (Err e) = Unit {0}
+OutcomeOk room (Ok o) = o.size ≤ room
 
 -- the walk passes over it, of one level
-abbrev pub OutcomeWalked : List ℕ → OutcomeRead → Type 0
-OutcomeWalked s (OutcomeRead.Bad place) = Unit {0}
-OutcomeWalked s (OutcomeRead.Got o size bad) = (left : ℕ) → Passes (suc left) 1 s 0 size
+abbrev pub OutcomeWalked : List ℕ → Read Outcome → Type 0
+OutcomeWalked s (Err e) = Unit {0}
+OutcomeWalked s (Ok o) = (left : ℕ) → Passes (suc left) 1 s 0 o.size
 
 -- both
 outcome_told : (base : ℕ) (s : List ℕ) → OutcomeOk (length s) (outcome_in base s) × OutcomeWalked s (outcome_in base s)
@@ -152,7 +159,7 @@ outcome_told base s =
     (λ _. (tt, tt)))
     (λ _. (tt, tt)))))))
   where
-    P : OutcomeRead → Type 0
+    P : Read Outcome → Type 0
     P r = OutcomeOk (length s) r × OutcomeWalked s r
 
 -- so it is passed
@@ -169,14 +176,14 @@ pub record ObjectiveParts (end : ℕ) (o : Objective) : Type 0 where
   pub counted : o.value.at ≤ end
 
 -- it has four bytes at least, lies within so many, and begins before its count
-abbrev pub ObjectiveOk : ℕ → ℕ → ObjectiveRead → Type 0
-ObjectiveOk base room (ObjectiveRead.Bad place) = Unit {0}
-ObjectiveOk base room (ObjectiveRead.Got o size bad long) = ObjectiveParts (base + room) o × (4 ≤ size) × (size ≤ room) × (base ≤ o.count_at)
+abbrev pub ObjectiveOk : ℕ → ℕ → Read Objective → Type 0
+ObjectiveOk base room (Err e) = Unit {0}
+ObjectiveOk base room (Ok o) = ObjectiveParts (base + room) o.value × (4 ≤ o.size) × (o.size ≤ room) × (base ≤ o.value.count_at)
 
 -- the walk passes over an objective, of its own level and those of its value
-abbrev pub ObjectiveWalked : ℕ → List ℕ → ObjectiveRead → Type 0
-ObjectiveWalked levels s (ObjectiveRead.Bad place) = Unit {0}
-ObjectiveWalked levels s (ObjectiveRead.Got o size bad long) = Passes (suc (left_under levels)) 1 s 0 size
+abbrev pub ObjectiveWalked : ℕ → List ℕ → Read Objective → Type 0
+ObjectiveWalked levels s (Err e) = Unit {0}
+ObjectiveWalked levels s (Ok o) = Passes (suc (left_under levels)) 1 s 0 o.size
 
 -- a head that another is read after has some bytes
 some_first : (s : List ℕ) (next : ℕ) → (token_at s 0).next ≡ next → (token_at s next).major < 8 → 1 ≤ next
@@ -222,7 +229,7 @@ objective_told levels base s =
     len : ℕ
     len = size_at levels s c.next
 
-    P : ObjectiveRead → Type 0
+    P : Read Objective → Type 0
     P r = ObjectiveOk base (length s) r × ObjectiveWalked levels s r
 
     got : n.major ≡ 3 → up_to 15 f ≤ 15 → up_to 255 c ≤ 255 → (len : ℕ)
@@ -256,38 +263,39 @@ objective_walked levels base s = (objective_told levels base s).1
 
 -- ---- pairs
 -- a pair has six bytes at least, lies within so many, and begins before its objective's count
-abbrev pub PairOk : ℕ → ℕ → PairRead → Type 0
-PairOk base room (PairRead.Bad place) = Unit {0}
-PairOk base room (PairRead.Got o t size bad long) = ObjectiveParts (base + room) o × (6 ≤ size) × (size ≤ room) × (base ≤ o.count_at)
+abbrev pub PairOk : ℕ → ℕ → Read Pair → Type 0
+PairOk base room (Err e) = Unit {0}
+PairOk base room (Ok p) = ObjectiveParts (base + room) p.value.objective × (6 ≤ p.size) × (p.size ≤ room) × (base ≤ p.value.objective.count_at)
 
 -- at a place
-pub locator_within : (s : List ℕ) (base at : ℕ) (r x : LocatorRead) → r ≡ locator_in base (drop at s) → r ≡ x → LocatorOk (length s - at) x
+pub locator_within : (s : List ℕ) (base at : ℕ) (r x : Read Locator) → r ≡ locator_in base (drop at s) → r ≡ x → LocatorOk (length s - at) x
 locator_within s base at r x e q = rw (length-drop at s) at (subst (LocatorOk (length (drop at s))) (sym e ∙ q) (locator_told base (drop at s)).0)
 
-pub outcome_within : (s : List ℕ) (base at : ℕ) (r x : OutcomeRead) → r ≡ outcome_in base (drop at s) → r ≡ x → OutcomeOk (length s - at) x
+pub outcome_within : (s : List ℕ) (base at : ℕ) (r x : Read Outcome) → r ≡ outcome_in base (drop at s) → r ≡ x → OutcomeOk (length s - at) x
 outcome_within s base at r x e q = rw (length-drop at s) at (subst (OutcomeOk (length (drop at s))) (sym e ∙ q) (outcome_told base (drop at s)).0)
 
-pub objective_within : (levels : ℕ) (s : List ℕ) (base at : ℕ) (r x : ObjectiveRead) → r ≡ objective_in levels base (drop at s) → r ≡ x
+pub objective_within : (levels : ℕ) (s : List ℕ) (base at : ℕ) (r x : Read Objective) → r ≡ objective_in levels base (drop at s) → r ≡ x
     → ObjectiveOk base (length s - at) x
 objective_within levels s base at r x e q =
     rw (length-drop at s) at (subst (ObjectiveOk base (length (drop at s))) (sym e ∙ q) (objective_told levels base (drop at s)).0)
 
 -- at a part
-pub locator_fits : (s : List ℕ) (base at : ℕ) (r x : LocatorRead) → r ≡ locator_in base (take (length s - at) (drop at s)) → r ≡ x → LocatorOk (length s - at) x
+pub locator_fits : (s : List ℕ) (base at : ℕ) (r x : Read Locator) → r ≡ locator_in base (take (length s - at) (drop at s)) → r ≡ x
+    → LocatorOk (length s - at) x
 locator_fits s base at r x e q = locator_within s base at r x (e ∙ ap (locator_in base) (rest_is at s)) q
 
-pub objective_fits : (levels : ℕ) (s : List ℕ) (base at : ℕ) (r x : ObjectiveRead) → r ≡ objective_in levels base (take (length s - at) (drop at s)) → r ≡ x
+pub objective_fits : (levels : ℕ) (s : List ℕ) (base at : ℕ) (r x : Read Objective) → r ≡ objective_in levels base (take (length s - at) (drop at s)) → r ≡ x
     → ObjectiveOk base (length s - at) x
 objective_fits levels s base at r x e q = objective_within levels s base at r x (e ∙ ap (objective_in levels base) (rest_is at s)) q
 
 -- what a `match` has found
-pub tail_found : (base : ℕ) (s : List ℕ) (at : ℕ) (o : Objective) (bad long : ℕ) (t : Token) (b : Bool) (r x : LocatorRead)
+pub tail_found : (base : ℕ) (s : List ℕ) (at : ℕ) (o : Objective) (bad long : Noted) (t : Token) (b : Bool) (r x : Read Locator)
     → t ≡ token_at s at → b ≡ is_empty t → b ≡ false → r ≡ locator_in (base + at) (take (length s - at) (drop at s)) → r ≡ x
     → pair_tagged at o bad long x ≡ pair_tail base s at o bad long
 unfolding pair_tail pick
 tail_found base s at o bad long t b r x e f g h q = rw (← e, ← f, g, ← rest_is at s, ← h, q)
 
-pub pair_found : (base : ℕ) (s : List ℕ) (a : Token) (n : ℕ) (r x : ObjectiveRead)
+pub pair_found : (base : ℕ) (s : List ℕ) (a : Token) (n : ℕ) (r x : Read Objective)
     → a ≡ token_at s 0 → n ≡ items_in a → (n ≡ 0 → ⊥) → r ≡ objective_in 3 (base + a.next) (take (length s - a.next) (drop a.next s)) → r ≡ x
     → pair_led base s a.arg a.next x ≡ pair_in base s
 unfolding pair_in pick
@@ -300,13 +308,13 @@ empty_is t q =
     (eqb-true t.major 4 (and_left (eqb t.major 4) (eqb t.arg 0) q), eqb-true t.arg 0 (and_right (eqb t.major 4) (eqb t.arg 0) q))
 
 -- the walk passes over a pair, of its own level and those of its objective
-abbrev pub PairWalked : List ℕ → PairRead → Type 0
-PairWalked s (PairRead.Bad place) = Unit {0}
-PairWalked s (PairRead.Got o t size bad long) = Passes (suc (suc (left_under pair_levels))) 1 s 0 size
+abbrev pub PairWalked : List ℕ → Read Pair → Type 0
+PairWalked s (Err e) = Unit {0}
+PairWalked s (Ok p) = Passes (suc (suc (left_under pair_levels))) 1 s 0 p.size
 
 module _ (base : ℕ) (s : List ℕ) where
   -- both
-  abbrev Told : PairRead → Type 0
+  abbrev Told : Read Pair → Type 0
   Told r = PairOk base (length s) r × PairWalked s r
 
   -- a pair whose second item is passed is passed
@@ -314,20 +322,24 @@ module _ (base : ℕ) (s : List ℕ) where
   Second at = (e : ℕ) → Passes (suc (left_under pair_levels)) 1 s at e → Passes (suc (suc (left_under pair_levels))) 1 s 0 e
 
   -- a pair with its tag
-  tagged_told : (at : ℕ) (o : Objective) (bad long : ℕ) (x : LocatorRead) → ObjectiveParts (base + length s) o → base ≤ o.count_at
+  tagged_told : (at : ℕ) (o : Objective) (bad long : Noted) (x : Read Locator) → ObjectiveParts (base + length s) o → base ≤ o.count_at
       → LocatorOk (length s - at) x → LocatorWalked (drop at s) x → Second at
       → Told (pair_tagged at o bad long x)
   unfolding pair_tagged
-  tagged_told at o bad long (LocatorRead.Bad place) parts later h walked close = (tt, tt)
-  tagged_told at o bad long (LocatorRead.Got l size b) parts later h walked close =
-      ((parts, omega arith, omega arith, later), close (at + size) (passes_within (walked (left_under pair_levels))))
+  tagged_told at o bad long (Err e) parts later h walked close = (tt, tt)
+  tagged_told at o bad long (Ok l) parts later h walked close =
+      ((parts, omega arith, omega arith, later), close (at + l.size) (passes_within (walked (left_under pair_levels))))
 
   -- a pair from its objective on
-  led_told : (x : ObjectiveRead) → (token_at s 0).major ≡ 4 → ObjectiveOk (base + (token_at s 0).next) (length s - (token_at s 0).next) x
+  led_told : (x : Read Objective) → (token_at s 0).major ≡ 4 → ObjectiveOk (base + (token_at s 0).next) (length s - (token_at s 0).next) x
       → ObjectiveWalked pair_levels (drop (token_at s 0).next s) x → Told (pair_led base s (token_at s 0).arg (token_at s 0).next x)
   unfolding pair_led pair_tail is_empty
-  led_told (ObjectiveRead.Bad place) array h walked = (tt, tt)
-  led_told (ObjectiveRead.Got o size bad long) array h walked =
+  led_told (Err e) array h walked = (tt, tt)
+  led_told (Ok p) array h walked =
+      let o = p.value in
+      let size = p.size in
+      let bad = p.bad in
+      let long = p.long in
       let n = (token_at s 0).arg in
       let at = (token_at s 0).next in
       let t = token_at s (at + size) in
@@ -361,25 +373,25 @@ module _ (base : ℕ) (s : List ℕ) where
   pub pair_walked : PairWalked s (pair_in base s)
   pair_walked = pair_told.1
 
-pub pair_within : (s : List ℕ) (base at : ℕ) (r x : PairRead) → r ≡ pair_in base (drop at s) → r ≡ x → PairOk base (length s - at) x
+pub pair_within : (s : List ℕ) (base at : ℕ) (r x : Read Pair) → r ≡ pair_in base (drop at s) → r ≡ x → PairOk base (length s - at) x
 pair_within s base at r x e q = rw (length-drop at s) at (subst (PairOk base (length (drop at s))) (sym e ∙ q) (pair_told base (drop at s)).0)
 
 -- no part is left past the message's end
 pub none_past : (P : List ℕ → Type 0) (s : List ℕ) (at : ℕ) → length s ≤ at → P [] → P (drop at s)
 none_past P s at h p = subst P (sym (drop_past s at h)) p
 
-pub locator_past : (s : List ℕ) (at : ℕ) → length s ≤ at → LocatorRead.Bad at ≡ locator_in at (drop at s)
+pub locator_past : (s : List ℕ) (at : ℕ) → length s ≤ at → departs at ≡ locator_in at (drop at s)
 unfolding locator_in locator_reached items_in token_at token_from nothing_at head_at pick
-locator_past s at h = none_past (λ (l : List ℕ). LocatorRead.Bad at ≡ locator_in at l) s at h refl
+locator_past s at h = none_past (λ (l : List ℕ). departs at ≡ locator_in at l) s at h refl
 
-pub outcome_past : (s : List ℕ) (at : ℕ) → length s ≤ at → OutcomeRead.Bad at ≡ outcome_in at (drop at s)
+pub outcome_past : (s : List ℕ) (at : ℕ) → length s ≤ at → departs at ≡ outcome_in at (drop at s)
 unfolding outcome_in reason_in items_in token_at token_from nothing_at head_at pick
-outcome_past s at h = none_past (λ (l : List ℕ). OutcomeRead.Bad at ≡ outcome_in at l) s at h refl
+outcome_past s at h = none_past (λ (l : List ℕ). departs at ≡ outcome_in at l) s at h refl
 
-pub objective_past : (levels : ℕ) (s : List ℕ) (at : ℕ) → length s ≤ at → ObjectiveRead.Bad at ≡ objective_in levels at (drop at s)
+pub objective_past : (levels : ℕ) (s : List ℕ) (at : ℕ) → length s ≤ at → departs at ≡ objective_in levels at (drop at s)
 unfolding objective_in objective_named items_in token_at token_from nothing_at head_at pick
-objective_past levels s at h = none_past (λ (l : List ℕ). ObjectiveRead.Bad at ≡ objective_in levels at l) s at h refl
+objective_past levels s at h = none_past (λ (l : List ℕ). departs at ≡ objective_in levels at l) s at h refl
 
-pub pair_past : (s : List ℕ) (at : ℕ) → length s ≤ at → PairRead.Bad at ≡ pair_in at (drop at s)
+pub pair_past : (s : List ℕ) (at : ℕ) → length s ≤ at → departs at ≡ pair_in at (drop at s)
 unfolding pair_in items_in token_at token_from nothing_at head_at pick
-pair_past s at h = none_past (λ (l : List ℕ). PairRead.Bad at ≡ pair_in at l) s at h refl
+pair_past s at h = none_past (λ (l : List ℕ). departs at ≡ pair_in at l) s at h refl

@@ -1,5 +1,7 @@
--- What the readers answer: `Text`, named texts; `Locator`, `Locators`, `Divert`, `Outcome`, `Objective`, `Pair`.
+-- What the readers answer: `Text`, named texts; `Part`, a part that was read; `Locator`, `Locators`, `Divert`,
+-- `Outcome`, `Objective`, `Pair`.
 pub mod Text
+pub mod Part
 pub mod Locator
 pub mod Locators
 pub mod Divert

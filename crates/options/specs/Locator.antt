@@ -1,15 +1,15 @@
 -- Locator options (RFC 8990, section 2.9.5): what is read of the bytes s that begin at the own head and stand at `base`
 -- of the message. An array is judged by its first item, then by its number of items, then by its other items from left
--- to right; `Bad` has the place of the first departure.
-use Rattle.std.specs.Prelude.{ℕ, ◌+◌, ◌-◌, List, [], ◌∷◌, Bool, ◌&&◌, drop, ltb, leb, eqb}
+-- to right.
+use Rattle.std.specs.Prelude.{ℕ, ◌+◌, ◌-◌, List, [], ◌∷◌, Bool, ◌&&◌, Option, Some, None, drop, ltb, leb}
+use Rattle.std.specs.Prelude.{eqb}
 use Rattle.base.specs.Pick.{pick, unless}
 use Rattle.cbor.specs.declared.token.Token.{Token}
 use Rattle.cbor.specs.Token.{token_at, items_in, up_to}
 use Rattle.options.specs.declared.locator.Locator.{Locator}
 use Rattle.options.specs.declared.locator.Locator.TheVariants as L
-use Rattle.options.specs.declared.locator.LocatorRead.{LocatorRead}
-use Rattle.options.specs.declared.locator.LocatorRead.TheVariants as LR
-use Rattle.options.specs.Text.{span_of, content_in, bad_text}
+use Rattle.options.specs.Text.{Noted, span_of, content_in, bad_text}
+use Rattle.options.specs.Part.{Read, departs, part, needed}
 
 -- null: simple value 22, which has a head of one byte (a float has a longer one)
 unfoldable pub is_null : Token → Bool
@@ -24,10 +24,6 @@ address_fits kind t =
 abbrev pub null_protocol : ℕ
 null_protocol = 0
 
--- what is read of anything else that is no protocol
-abbrev pub no_protocol : ℕ
-no_protocol = 255
-
 -- the greatest port
 abbrev pub most_port : ℕ
 most_port = 65535
@@ -36,23 +32,19 @@ most_port = 65535
 abbrev pub null_port : ℕ
 null_port = 65536
 
--- what is read of anything else that is no port
-abbrev pub no_port : ℕ
-no_port = 65537
-
 -- 6 or 17, and null, which 106 may have
-unfoldable pub protocol_of : ℕ → Token → ℕ
+unfoldable pub protocol_of : ℕ → Token → Option ℕ
 protocol_of kind t =
     pick (eqb t.major 0)
-    (pick (eqb t.arg 6) 6 (pick (eqb t.arg 17) 17 no_protocol))
-    (pick (eqb kind 106) (pick (is_null t) null_protocol no_protocol) no_protocol)
+    (pick (eqb t.arg 6) (Some 6) (pick (eqb t.arg 17) (Some 17) None))
+    (pick (eqb kind 106) (pick (is_null t) (Some null_protocol) None) None)
 
 -- up to 65,535, and null, which 106 may have
-unfoldable pub port_of : ℕ → Token → ℕ
+unfoldable pub port_of : ℕ → Token → Option ℕ
 port_of kind t =
     pick (eqb t.major 0)
-    (pick (leb t.arg most_port) t.arg no_port)
-    (pick (eqb kind 106) (pick (is_null t) null_port no_port) no_port)
+    (pick (leb t.arg most_port) (Some t.arg) None)
+    (pick (eqb kind 106) (pick (is_null t) (Some null_port) None) None)
 
 -- the locator of a kind, by where its address or text stands
 unfoldable pub locator_of : ℕ → ℕ → ℕ → ℕ → ℕ → Locator
@@ -62,36 +54,36 @@ locator_of kind at len protocol port =
     (pick (eqb kind 105) (L.Domain (span_of at len) protocol port)
     (L.Uri (span_of at len) protocol port)))
 
--- where the text of a domain name or a URI is bad, else 0
-unfoldable pub text_of : ℕ → List ℕ → ℕ → ℕ
-text_of kind text place = pick (ltb kind 105) 0 (bad_text text place)
+-- where the text of a domain name or a URI is bad
+unfoldable pub text_of : ℕ → List ℕ → ℕ → Noted
+text_of kind text place = pick (ltb kind 105) None (bad_text text place)
 
 -- what a locator of this kind reaches, from `at` on: address, protocol and port
-unfoldable pub locator_reached : ℕ → List ℕ → ℕ → ℕ → LocatorRead
+unfoldable pub locator_reached : ℕ → List ℕ → ℕ → ℕ → Read Locator
 locator_reached base s kind at =
     let b = token_at s at in
     let p = token_at s b.next in
     let q = token_at s p.next in
-    unless (address_fits kind b) (LR.Bad (base + b.at))
-    (pick (eqb (protocol_of kind p) no_protocol) (LR.Bad (base + p.at))
-    (pick (eqb (port_of kind q) no_port) (LR.Bad (base + q.at))
-    (LR.Got (locator_of kind (base + b.body) (b.next - b.body) (protocol_of kind p) (port_of kind q)) q.next
-    (text_of kind (content_in s b) (base + b.at)))))
+    unless (address_fits kind b) (departs (base + b.at))
+    (needed (protocol_of kind p) (base + p.at)
+    (λ protocol. needed (port_of kind q) (base + q.at)
+    (λ port. part (locator_of kind (base + b.body) (b.next - b.body) protocol port) q.next
+    (text_of kind (content_in s b) (base + b.at)) None)))
 
 -- a locator: an array of four items, the first a kind
-unfoldable pub locator_in : ℕ → List ℕ → LocatorRead
+unfoldable pub locator_in : ℕ → List ℕ → Read Locator
 locator_in base s =
     let a = token_at s 0 in
     let k = token_at s a.next in
     let kind = up_to 106 k in
-    pick (eqb (items_in a) 0) (LR.Bad base)
-    (pick (ltb kind 103) (LR.Bad (base + k.at))
-    (pick (ltb 106 kind) (LR.Bad (base + k.at))
-    (unless (eqb a.arg 4) (LR.Bad base)
+    pick (eqb (items_in a) 0) (departs base)
+    (pick (ltb kind 103) (departs (base + k.at))
+    (pick (ltb 106 kind) (departs (base + k.at))
+    (unless (eqb a.arg 4) (departs base)
     (locator_reached base s kind k.next))))
 
 -- the locator at a place of the message s
-abbrev pub locator_at : List ℕ → ℕ → LocatorRead
+abbrev pub locator_at : List ℕ → ℕ → Read Locator
 locator_at s at = locator_in at (drop at s)
 
 -- a locator's five numbers

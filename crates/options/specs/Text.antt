@@ -1,6 +1,7 @@
--- Named texts, and places.
-use Rattle.std.specs.Prelude.{ℕ, ◌-◌, List, take, drop, eqb}
+-- Named texts, and places that are noted.
+use Rattle.std.specs.Prelude.{ℕ, ◌-◌, List, Option, Some, None, take, drop}
 use Rattle.base.specs.Pick.{pick}
+use Rattle.std.specs.Option.{option_or}
 use Rattle.cbor.specs.declared.token.Token.{Token}
 use Rattle.utf8.specs.Utf8.{is_utf8}
 use Rattle.options.specs.declared.Span.{Span}
@@ -21,10 +22,14 @@ content_of t = span_of t.body (t.next - t.body)
 abbrev pub content_in : List ℕ → Token → List ℕ
 content_in s t = held s (content_of t)
 
--- `place` where a text isn't UTF-8, else 0
-unfoldable pub bad_text : List ℕ → ℕ → ℕ
-bad_text text place = pick (is_utf8 text) 0 place
+-- a place that is noted, or none
+abbrev pub Noted : Type 0
+Noted = Option ℕ
 
--- the first of two places, where 0 is none
-unfoldable pub first_of : ℕ → ℕ → ℕ
-first_of a b = pick (eqb a 0) b a
+-- `place` where a text isn't UTF-8
+unfoldable pub bad_text : List ℕ → ℕ → Noted
+bad_text text place = pick (is_utf8 text) None (Some place)
+
+-- the first of two
+abbrev pub first_of : Noted → Noted → Noted
+first_of a b = option_or a b

@@ -5,7 +5,10 @@
 #![tactic(auto)]
 
 ghost use Rattle.std.specs.Prelude.{◌≡◌};
-ghost use Rattle.options.specs.Text.{bad_text, first_of};
+ghost use Rattle.options.specs.Text.{bad_text};
+ghost use Rattle.options.specs.Part.{misshapen};
+
+use base::refusal::{Refusal, Refused};
 
 pub mod divert;
 pub mod locator;
@@ -21,22 +24,41 @@ pub struct Span {
     pub len: usize,
 }
 
-// `place` where a text isn't UTF-8, else 0.
-pub fn bad_text(text: &[u8], place: usize) -> usize
+// The place of the first departure from a shape.
+#[derive(Clone, Copy, Debug, PartialEq, Eq)]
+pub struct Departure {
+    pub place: usize,
+}
+
+// A departure from a shape is a refusal of its own.
+impl From<Departure> for Refused {
+    ghost from_gives = { λ departure refused. refused ≡ misshapen departure };
+
+    fn from(departure: Departure) -> Refused {
+        Refused {
+            refusal: Refusal::BadShape,
+            place: departure.place,
+        }
+    }
+}
+
+// A part that was read: how many bytes it has, and the places of its first text that isn't UTF-8 and of its first name
+// over 64 bytes.
+#[derive(Clone, Copy)]
+pub struct Part<T> {
+    pub value: T,
+    pub size: usize,
+    pub bad: Option<usize>,
+    pub long: Option<usize>,
+}
+
+// `place` where a text isn't UTF-8.
+#[tactic(auto, unfolding(crate::specs::Text::bad_text, base::specs::Pick::pick))]
+pub fn bad_text(text: &[u8], place: usize) -> Option<usize>
     ensures { result ≡ bad_text text.now place }
 {
     if utf8::is_utf8(text) {
-        return 0;
+        return None;
     }
-    place
-}
-
-// The first of two places, where 0 is none.
-pub fn first_of(a: usize, b: usize) -> usize
-    ensures { result ≡ first_of a b }
-{
-    if a == 0 {
-        return b;
-    }
-    a
+    Some(place)
 }

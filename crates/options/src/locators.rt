@@ -2,46 +2,40 @@
 ghost use Rattle.std.specs.Prelude.{◌≡◌, ◌+◌, ◌≤◌, ◌<◌, ◌^◌, length};
 ghost use Rattle.options.specs.Locators.{text_led, locators_from, locators_in, locators_at};
 
-use crate::locator;
-use crate::locator::{Locator, LocatorRead};
+use crate::locator::Locator;
+use crate::{Departure, locator};
 use cbor::token;
 
-// The place of the first departure; or the first of them, where they end in their part, how many items are left, and
-// the place of the first text that isn't UTF-8, else 0.
+// The first of them, where they end in their part, how many items are left, and the place of the first text that isn't
+// UTF-8.
 #[derive(Clone, Copy)]
-pub enum LocatorsRead {
-    Bad(usize),
-    Ran {
-        first: Locator,
-        end: usize,
-        left: u64,
-        bad: usize,
-    },
+pub struct Locators {
+    pub first: Locator,
+    pub end: usize,
+    pub left: u64,
+    pub bad: Option<usize>,
 }
 
 // The locator at `at` of the message s, and those after it, `more` at most, up to an array that a text leads.
-pub fn read_at(s: &[u8], at: usize, more: u64) -> LocatorsRead
+#[tactic(auto, using(crate::proofs::Series::locators_past, base::proofs::Parts::rest_is))]
+pub fn read_at(s: &[u8], at: usize, more: u64) -> Result<Locators, Departure>
     ensures { result ≡ locators_at s.now at more }
 {
     if s.len() < at {
-        return LocatorsRead::Bad(at);
+        return Err(Departure { place: at });
     }
     read_in(&s[at..], at, 0, more)
 }
 
 // The same at `from` of the part s, which stands at `base` of the message.
-pub(crate) fn read_in(s: &[u8], base: usize, from: usize, more: u64) -> LocatorsRead
+#[tactic(auto, unfolding(crate::specs::Locators::locators_in, crate::specs::Locators::locators_led))]
+pub(crate) fn read_in(s: &[u8], base: usize, from: usize, more: u64) -> Result<Locators, Departure>
     requires fits { base + length s.now < 2 ^ 63 }
     requires within { from ≤ length s.now }
     ensures { result ≡ locators_in base s.now from more }
 {
-    let read = locator::read_in(&s[from..], base + from);
-    match read {
-        LocatorRead::Bad(place) => LocatorsRead::Bad(place),
-        LocatorRead::Got { locator, size, bad } => {
-            read_more(s, base, locator, more, from + size, bad)
-        }
-    }
+    let l = locator::read_in(&s[from..], base + from)?;
+    read_more(s, base, l.value, more, from + l.size, l.bad)
 }
 
 // Those after the first, n at most, from `from` on.
@@ -51,50 +45,44 @@ fn read_more(
     first: Locator,
     n: u64,
     from: usize,
-    first_bad: usize,
-) -> LocatorsRead
+    first_bad: Option<usize>,
+) -> Result<Locators, Departure>
     requires fits { base + length s.now < 2 ^ 63 }
     requires within { from ≤ length s.now }
     ensures { result ≡ locators_from base s.now first n from first_bad }
 {
-    let mut left = n;
     let mut at = from;
     let mut bad = first_bad;
-    while 0 < left {
-        let read = locator::read_in(&s[at..], base + at);
-        match read {
-            LocatorRead::Bad(place) => {
+    for i in 0..n {
+        match locator::read_in(&s[at..], base + at) {
+            Ok(l) => {
+                at = at + l.size;
+                bad = bad.or(l.bad);
+            }
+            Err(departure) => {
                 // No locator is led by a text, so that this is asked only where none was found.
                 if text_led(&s[at..]) {
-                    return LocatorsRead::Ran {
+                    return Ok(Locators {
                         first,
                         end: at,
-                        left,
+                        left: n - i,
                         bad,
-                    };
+                    });
                 }
-                return LocatorsRead::Bad(place);
-            }
-            LocatorRead::Got {
-                size,
-                bad: bad2,
-                ..
-            } => {
-                at = at + size;
-                bad = crate::first_of(bad, bad2);
-                left = left - 1;
+                return Err(departure);
             }
         }
     }
-    LocatorsRead::Ran {
+    Ok(Locators {
         first,
         end: at,
         left: 0,
         bad,
-    }
+    })
 }
 
 // An array that a text leads, at the start of s.
+#[tactic(auto, unfolding(crate::specs::Locators::text_led, base::specs::Pick::pick))]
 fn text_led(s: &[u8]) -> bool
     ensures { result ≡ text_led s.now }
 {

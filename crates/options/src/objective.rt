@@ -2,7 +2,7 @@
 ghost use Rattle.std.specs.Prelude.{◌≡◌, ◌+◌, ◌≤◌, ◌<◌, ◌^◌, length};
 ghost use Rattle.options.specs.Objective.{long_name, objective_from, objective_named, objective_in, objective_at};
 
-use crate::Span;
+use crate::{Departure, Part, Span};
 use cbor::token;
 use cbor::token::Token;
 
@@ -19,53 +19,49 @@ pub struct Objective {
     pub value: Span,
 }
 
-// The place of the first departure from the shape; or an objective of `size` bytes, with the place `bad` of its name
-// where that isn't UTF-8, and `long` where it has over 64 bytes, else 0.
-#[derive(Clone, Copy)]
-pub enum ObjectiveRead {
-    Bad(usize),
-    Got {
-        objective: Objective,
-        size: usize,
-        bad: usize,
-        long: usize,
-    },
-}
-
 // The objective at `at` of the message s; so many levels are open around its value, its own among them.
-pub fn read_at(levels: usize, s: &[u8], at: usize) -> ObjectiveRead
+#[tactic(auto, using(crate::proofs::Fits::objective_past, base::proofs::Parts::rest_is))]
+pub fn read_at(levels: usize, s: &[u8], at: usize) -> Result<Part<Objective>, Departure>
     ensures { result ≡ objective_at levels s.now at }
 {
     if s.len() < at {
-        return ObjectiveRead::Bad(at);
+        return Err(Departure { place: at });
     }
     read_in(levels, &s[at..], at)
 }
 
 // The objective at the start of s, which stands at `base` of the message.
-pub(crate) fn read_in(levels: usize, s: &[u8], base: usize) -> ObjectiveRead
+#[tactic(auto, unfolding(crate::specs::Objective::objective_in, base::specs::Pick::pick))]
+pub(crate) fn read_in(levels: usize, s: &[u8], base: usize) -> Result<Part<Objective>, Departure>
     requires { base + length s.now < 2 ^ 63 }
     ensures { result ≡ objective_in levels base s.now }
 {
     let a = token::array_at(s, 0);
     if token::items_in(a) == 0 {
-        return ObjectiveRead::Bad(base);
+        return Err(Departure { place: base });
     }
     let n = token::string_at(s, a.next);
     if n.major != 3 {
-        return ObjectiveRead::Bad(base + n.at);
+        return Err(Departure { place: base + n.at });
     }
     if a.arg < 3 {
-        return ObjectiveRead::Bad(base);
+        return Err(Departure { place: base });
     }
     if 4 < a.arg {
-        return ObjectiveRead::Bad(base);
+        return Err(Departure { place: base });
     }
     read_named(levels, s, base, a.arg, n)
 }
 
 // An objective of so many items, 3 or 4, from its name on: flags, count and, in four items, a value.
-fn read_named(levels: usize, s: &[u8], base: usize, items: u64, n: Token) -> ObjectiveRead
+#[tactic(auto, unfolding(crate::specs::Objective::objective_named, base::specs::Pick::pick))]
+fn read_named(
+    levels: usize,
+    s: &[u8],
+    base: usize,
+    items: u64,
+    n: Token,
+) -> Result<Part<Objective>, Departure>
     requires fits { base + length s.now < 2 ^ 63 }
     requires within { (n.at ≤ length s.now) × (n.body ≤ n.next) × (n.next ≤ length s.now) }
     ensures { result ≡ objective_named levels base s.now items n }
@@ -73,12 +69,12 @@ fn read_named(levels: usize, s: &[u8], base: usize, items: u64, n: Token) -> Obj
     let f = token::number_at(s, n.next);
     let flags = token::up_to(15, f);
     if 15 < flags {
-        return ObjectiveRead::Bad(base + f.at);
+        return Err(Departure { place: base + f.at });
     }
     let c = token::number_at(s, f.next);
     let count = token::up_to(255, c);
     if 255 < count {
-        return ObjectiveRead::Bad(base + c.at);
+        return Err(Departure { place: base + c.at });
     }
     let from = n.body;
     let to = n.next;
@@ -87,27 +83,28 @@ fn read_named(levels: usize, s: &[u8], base: usize, items: u64, n: Token) -> Obj
     let end = c.next;
     if items == 3 {
         let objective = objective_of(base, n, flags as u8, c, count as u8, 0);
-        return ObjectiveRead::Got {
-            objective,
+        return Ok(Part {
+            value: objective,
             size: end,
             bad,
             long,
-        };
+        });
     }
     let len = token::size_at(levels, s, end);
     if len == 0 {
-        return ObjectiveRead::Bad(base + end);
+        return Err(Departure { place: base + end });
     }
     let objective = objective_of(base, n, flags as u8, c, count as u8, len);
-    ObjectiveRead::Got {
-        objective,
+    Ok(Part {
+        value: objective,
         size: end + len,
         bad,
         long,
-    }
+    })
 }
 
 // The objective whose name and count these tokens head, with a value of so many bytes after the count.
+#[tactic(auto, unfolding(crate::specs::Objective::objective_from))]
 fn objective_of(base: usize, n: Token, flags: u8, c: Token, count: u8, len: usize) -> Objective
     requires { (n.body ≤ n.next) × (base + n.next < 2 ^ 63) × (base + c.at < 2 ^ 63)
         × (base + c.next < 2 ^ 63) }
@@ -129,7 +126,7 @@ fn objective_of(base: usize, n: Token, flags: u8, c: Token, count: u8, len: usiz
 }
 
 // The same objective, field by field: so the compiler carries its numbers in registers, where it would copy a whole one
-// from place to place.
+// from place to place. It stands for the speed of reading, and derives give no such copy.
 pub fn copied(o: Objective) -> Objective
     ensures { result ≡ o }
 {
@@ -148,12 +145,13 @@ pub fn copied(o: Objective) -> Objective
     }
 }
 
-// `place` where a name has over 64 bytes, else 0.
-fn long_name(t: Token, place: usize) -> usize
+// `place` where a name has over 64 bytes.
+#[tactic(auto, unfolding(crate::specs::Objective::long_name, base::specs::Pick::pick))]
+fn long_name(t: Token, place: usize) -> Option<usize>
     ensures { result ≡ long_name t place }
 {
     if MOST_NAME < t.arg {
-        return place;
+        return Some(place);
     }
-    0
+    None
 }

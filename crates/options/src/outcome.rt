@@ -2,7 +2,7 @@
 ghost use Rattle.std.specs.Prelude.{◌≡◌, ◌+◌, ◌≤◌, ◌<◌, ◌^◌, length};
 ghost use Rattle.options.specs.Outcome.{reason_in, outcome_in, outcome_at};
 
-use crate::Span;
+use crate::{Departure, Part, Span};
 use cbor::token;
 
 // Accepted, declined, or declined with a reason.
@@ -13,88 +13,82 @@ pub enum Outcome {
     Reason(Span),
 }
 
-// The place of the first departure from the shape; or an outcome of `size` bytes, with the place `bad` of its reason
-// where that isn't UTF-8, else 0.
-#[derive(Clone, Copy)]
-pub enum OutcomeRead {
-    Bad(usize),
-    Got {
-        outcome: Outcome,
-        size: usize,
-        bad: usize,
-    },
-}
-
 // The accept or decline at `at` of the message s.
-pub fn read_at(s: &[u8], at: usize) -> OutcomeRead
+#[tactic(auto, using(crate::proofs::Fits::outcome_past, base::proofs::Parts::rest_is))]
+pub fn read_at(s: &[u8], at: usize) -> Result<Part<Outcome>, Departure>
     ensures { result ≡ outcome_at s.now at }
 {
     if s.len() < at {
-        return OutcomeRead::Bad(at);
+        return Err(Departure { place: at });
     }
     read_in(&s[at..], at)
 }
 
 // The accept or decline at the start of s, which stands at `base` of the message: by its first item, its number of
 // items, and its reason.
-pub(crate) fn read_in(s: &[u8], base: usize) -> OutcomeRead
+#[tactic(auto, unfolding(crate::specs::Outcome::outcome_in, base::specs::Pick::pick))]
+pub(crate) fn read_in(s: &[u8], base: usize) -> Result<Part<Outcome>, Departure>
     requires { base + length s.now < 2 ^ 63 }
     ensures { result ≡ outcome_in base s.now }
 {
     let a = token::array_at(s, 0);
     if token::items_in(a) == 0 {
-        return OutcomeRead::Bad(base);
+        return Err(Departure { place: base });
     }
     let k = token::number_at(s, a.next);
     let lead = token::up_to(102, k);
     if lead < 101 {
-        return OutcomeRead::Bad(base + k.at);
+        return Err(Departure { place: base + k.at });
     }
     if 102 < lead {
-        return OutcomeRead::Bad(base + k.at);
+        return Err(Departure { place: base + k.at });
     }
     if lead == 101 {
         if a.arg == 1 {
-            return OutcomeRead::Got {
-                outcome: Outcome::Accept,
+            return Ok(Part {
+                value: Outcome::Accept,
                 size: k.next,
-                bad: 0,
-            };
+                bad: None,
+                long: None,
+            });
         }
-        return OutcomeRead::Bad(base);
+        return Err(Departure { place: base });
     }
     if a.arg == 1 {
-        return OutcomeRead::Got {
-            outcome: Outcome::Decline,
+        return Ok(Part {
+            value: Outcome::Decline,
             size: k.next,
-            bad: 0,
-        };
+            bad: None,
+            long: None,
+        });
     }
     if a.arg == 2 {
         return read_reason(s, base, k.next);
     }
-    OutcomeRead::Bad(base)
+    Err(Departure { place: base })
 }
 
 // A decline's reason, at `at` of its part.
-fn read_reason(s: &[u8], base: usize, at: usize) -> OutcomeRead
+#[tactic(auto, unfolding(crate::specs::Outcome::reason_in, base::specs::Pick::pick))]
+fn read_reason(s: &[u8], base: usize, at: usize) -> Result<Part<Outcome>, Departure>
     requires fits { base + length s.now < 2 ^ 63 }
     requires within { at ≤ length s.now }
     ensures { result ≡ reason_in base s.now at }
 {
     let t = token::string_at(s, at);
     if t.major != 3 {
-        return OutcomeRead::Bad(base + t.at);
+        return Err(Departure { place: base + t.at });
     }
     let from = t.body;
     let to = t.next;
     let bad = crate::bad_text(&s[from..to], base + t.at);
-    OutcomeRead::Got {
-        outcome: Outcome::Reason(Span {
+    Ok(Part {
+        value: Outcome::Reason(Span {
             at: base + from,
             len: to - from,
         }),
         size: to,
         bad,
-    }
+        long: None,
+    })
 }

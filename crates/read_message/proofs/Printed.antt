@@ -1,6 +1,10 @@
 -- The line that the program makes, held against the rules: a message's kind, or the refusal that is due. For readers: each
 -- statement at the end stands alone.
 -- Assumes nothing.
+use Rattle.std.specs.Prelude.{Ok, Err}
+use Rattle.reader.specs.Read.{Reading}
+use Rattle.base.specs.declared.refusal.Refusal.{Refusal}
+use Rattle.base.specs.Refusal.{number_of}
 use mathlib.Core.Path.{◌≡◌, refl, sym, ap, ◌∙◌, subst}
 use mathlib.Core.Logic.{◌↔◌}
 use mathlib.Core.List.{List, [], ◌∷◌, ◌++◌}
@@ -19,7 +23,6 @@ use Rattle.message.specs.declared.Message.{Message}
 use Rattle.message.specs.declared.Message.TheVariants as M
 use Rattle.message.specs.Fields.{kind_of}
 use Rattle.text.specs.Line.{decimal, numbered, padded, kind_word, kind_line, refused_word, refused_line}
-use Rattle.reader.specs.declared.Reading.{Reading}
 use Rattle.reader.specs.Read.{read_of}
 use Rattle.reader.proofs.Exact.{accepted_exactly}
 use Rattle.reader.proofs.Refused.{refused_exactly}
@@ -103,14 +106,14 @@ led_once LedBy.led LedBy.led = refl
 
 module _ (s : List ℕ) (n : ℕ) where
   -- what is shown of a message
-  read_shown : (m : Message) → read_of s ≡ Reading.Read m → shown (line_of s) ≡ kind_word ++ numbered (kind_of m)
+  read_shown : (m : Message) → read_of s ≡ Ok m → shown (line_of s) ≡ kind_word ++ numbered (kind_of m)
   unfolding line_of line_from
   read_shown m q = rw q (kind_shown (kind_of m))
 
   -- and of a refusal
-  number_shown : {k : ℕ} → read_of s ≡ Reading.Refused k → shown (line_of s) ≡ refused_word ++ numbered k
+  number_shown : {refusal : Refusal} → read_of s ≡ Err refusal → shown (line_of s) ≡ refused_word ++ numbered (number_of refusal)
   unfolding line_of line_from
-  number_shown {k} q = rw q (refused_shown k)
+  number_shown {refusal} q = rw q (refused_shown (number_of refusal))
 
 -- for readers
 
@@ -126,19 +129,24 @@ kind_printed s n b h = (
 )
   where
     to : (r : Reading) → read_of s ≡ r → shown (line_of s) ≡ kind_word ++ numbered n → (a : Accepted s) × LedBy n a.message.one.item
-    to (Reading.Refused k) q e = absurd (words_apart (numbered n) (numbered k) (sym e ∙ number_shown s n q))
-    to (Reading.Read m) q e =
+    to (Err refusal) q e = absurd (words_apart (numbered n) (numbered (number_of refusal)) (sym e ∙ number_shown s n q))
+    to (Ok m) q e =
         let a = (accepted_exactly s b).0 (m, q) in
         let same = kind_once (kind_of m) n (kind_small m) h (sym (read_shown s n m q) ∙ e) in
         (a, subst (λ (k : ℕ). LedBy k a.message.one.item) same (read_kind s m q a))
 
 -- It is `refused ` and such a number exactly if that refusal is due.
 pub refused_printed : (s : List ℕ) (n : ℕ) → Bytes s → n < 1000 → shown (line_of s) ≡ refused_word ++ numbered n ↔ Row s n
-refused_printed s n b h = (to (read_of s) refl, λ row. number_shown s n ((refused_exactly s n b).1 row))
+refused_printed s n b h = (
+  to (read_of s) refl,
+  λ row.
+      let (refusal, q, is) = (refused_exactly s n b).1 row in
+      number_shown s n q ∙ ap (λ (k : ℕ). refused_word ++ numbered k) is,
+)
   where
     to : (r : Reading) → read_of s ≡ r → shown (line_of s) ≡ refused_word ++ numbered n → Row s n
-    to (Reading.Refused k) q e =
-        let small : k ≤ 11 = read_number s q in
-        let same : k ≡ n = refused_once k n (omega arith) h (sym (number_shown s n q) ∙ e) in
-        (refused_exactly s n b).0 (q ∙ ap Reading.Refused same)
-    to (Reading.Read m) q e = absurd (words_apart (numbered (kind_of m)) (numbered n) (sym (read_shown s n m q) ∙ e))
+    to (Err refusal) q e =
+        let small : number_of refusal ≤ 11 = read_number s q in
+        let same : number_of refusal ≡ n = refused_once (number_of refusal) n (omega arith) h (sym (number_shown s n q) ∙ e) in
+        (refused_exactly s n b).0 (refusal, q, same)
+    to (Ok m) q e = absurd (words_apart (numbered (kind_of m)) (numbered n) (sym (read_shown s n m q) ∙ e))

@@ -1,15 +1,15 @@
 -- What the program prints of the bytes that it reads: one line.
-use Rattle.std.specs.Prelude.{ℕ, List, take}
+use Rattle.std.specs.Prelude.{ℕ, List, Ok, Err, take}
+use Rattle.base.specs.Refusal.{number_of}
 use Rattle.text.specs.declared.line.Line.{Line}
 use Rattle.text.specs.Line.{kind_line, refused_line}
 use Rattle.message.specs.Fields.{kind_of}
-use Rattle.reader.specs.declared.Reading.{Reading}
-use Rattle.reader.specs.Read.{read_of}
+use Rattle.reader.specs.Read.{Reading, read_of}
 
 -- by what was read
 unfoldable pub line_from : Reading → Line
-line_from (Reading.Refused number) = refused_line number
-line_from (Reading.Read m) = kind_line (kind_of m)
+line_from (Err refusal) = refused_line (number_of refusal)
+line_from (Ok m) = kind_line (kind_of m)
 
 -- the line for the bytes s
 unfoldable pub line_of : List ℕ → Line

@@ -14,14 +14,9 @@ fn main(rt: HostRuntime) -> io::Result<()> {
 }
 
 fn print(to: &mut impl Write, line: Line) -> io::Result<()> {
-    let bytes = line.bytes;
-    let len = line.len;
-    print_front(to, &bytes, len)
-}
-
-fn print_front(to: &mut impl Write, bytes: &[u8], len: usize) -> io::Result<()> {
-    if len <= bytes.len() {
-        to.write_all(&bytes[..len])?;
+    let Line { bytes, len } = line;
+    match bytes.get(..len) {
+        Some(front) => to.write_all(front),
+        None => Ok(()),
     }
-    Ok(())
 }

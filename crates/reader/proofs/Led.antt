@@ -1,6 +1,7 @@
 -- A message that was read is an array led by the number of its kind. For readers: the statement at the end stands
 -- alone.
 -- Assumes nothing.
+use Rattle.std.specs.Prelude.{Ok}
 use mathlib.Core.Path.{◌≡◌}
 use mathlib.Core.List.{List}
 use Prim.Native.Nat.{ℕ}
@@ -12,7 +13,6 @@ use Rattle.rfc8990.specs.Refusals.{LedBy}
 use Rattle.message.specs.declared.Message.{Message}
 use Rattle.message.specs.Fields.{kind_of}
 use Rattle.message_laws.specs.Describes.{Describes}
-use Rattle.reader.specs.declared.Reading.{Reading}
 use Rattle.reader.specs.Read.{read_of}
 use Rattle.reader.proofs.Exact.{accepted_described}
 
@@ -33,5 +33,5 @@ kind_leads (Describes.invalid _ _ _ _) (MessageItem.invalid_with _) = LedBy.led
 -- for readers
 
 -- What is read as m is one array whose first item is the number of m's kind.
-pub read_kind : (s : List ℕ) (m : Message) → read_of s ≡ Reading.Read m → (a : Accepted s) → LedBy (kind_of m) a.message.one.item
+pub read_kind : (s : List ℕ) (m : Message) → read_of s ≡ Ok m → (a : Accepted s) → LedBy (kind_of m) a.message.one.item
 read_kind s m q a = kind_leads (accepted_described s m q a) a.message.is

@@ -1,56 +1,46 @@
-// Reading GRASP messages (RFC 8990): the message that bytes are, or the number of the refusal.
+// Reading GRASP messages (RFC 8990): the message that bytes are, or the refusal.
 #![tactic(auto)]
 
 ghost use Rattle.std.specs.Prelude.{◌≡◌};
 ghost use Rattle.reader.specs.Read.{read_of};
 ghost use Rattle.reader.specs.Walk.{walked_first};
 
+use base::refusal::Refusal;
 use cbor::item;
-use cbor::item::ItemRead;
-use message::{Examined, MOST_BYTES, Message};
-
-// A message, or the number of the refusal.
-#[derive(Clone, Copy)]
-pub enum Reading {
-    Refused(u8),
-    Read(Message),
-}
+use message::{MOST_BYTES, Message};
 
 // 1; the walk's 2 to 6; 7; then 8, 9, 11 and 10 by the message's parts. Bytes that begin with a message's parts begin
 // with one item where these end: so a message is read once, and the walk is left for what is refused.
-pub fn read(s: &[u8]) -> Reading
+pub fn read(s: &[u8]) -> Result<Message, Refusal>
     ensures { result ≡ read_of s.now }
 {
     if s.len() == 0 {
-        return Reading::Refused(1);
+        return Err(Refusal::BadSize);
     }
     if MOST_BYTES < s.len() {
-        return Reading::Refused(1);
+        return Err(Refusal::BadSize);
     }
-    let answer = message::examine(s);
-    match answer {
-        Examined::Accepted { message, end } => {
-            if end == s.len() {
-                return Reading::Read(message);
+    match message::examine(s) {
+        Ok(m) => {
+            if m.end == s.len() {
+                return Ok(m.message);
             }
-            return Reading::Refused(7);
+            Err(Refusal::BytesAfter)
         }
-        Examined::Refused { number, .. } => {
-            return Reading::Refused(walk(s, number));
-        }
+        Err(why) => Err(walk(s, why.refusal)),
     }
 }
 
-// 2 to 6 for the first head at fault, 7 for bytes after the item, or `later` where s is one whole item.
-fn walk(s: &[u8], later: u8) -> u8
+// The refusal of the first head at fault, or of bytes after the item, or `later` where s is one whole item.
+#[tactic(auto, unfolding(crate::specs::Walk::walked_first, crate::specs::Walk::walked_by, base::specs::Pick::pick), using(base::proofs::Tests::tests))]
+fn walk(s: &[u8], later: Refusal) -> Refusal
     ensures { result ≡ walked_first later s.now }
 {
-    let whole = item::first(0, s);
-    match whole {
-        ItemRead::Refused { number, .. } => number,
-        ItemRead::Ends(end) => {
+    match item::first(0, s) {
+        Err(why) => why.refusal,
+        Ok(end) => {
             if end != s.len() {
-                return 7;
+                return Refusal::BytesAfter;
             }
             later
         }

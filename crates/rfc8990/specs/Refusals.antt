@@ -1,6 +1,8 @@
 -- The rows of the table of refusals (rules 3.1), in the order of the tests (rules 3.2), said of the bytes alone: which
 -- refusal is due.
 use Rattle.std.specs.Prelude.{ℕ, ◌<◌, ◌≤◌, List, ◌⊎◌, ◌≢◌, ◌≡◌, length}
+use Rattle.base.specs.declared.refusal.Refusal.{Refusal}
+use Rattle.base.specs.Refusal.{number_of}
 use Rattle.cbor.specs.Item.{most_levels}
 use Rattle.cbor.specs.Tree.{Item, Items, ItemIs}
 use Rattle.cbor.specs.Fault.{FirstFault}
@@ -28,7 +30,7 @@ pub data Row (s : List ℕ) : ℕ → Type 0 where
   -- 0 bytes, or too many
   size : (length s ≡ 0) ⊎ (most_bytes < length s) → Row s 1
   -- 2 to 6: the first head at fault (`Fault` of `cbor` says what is wrong for which number)
-  head : {number place : ℕ} → Fits s → FirstFault most_levels s number place → Row s number
+  head : {refusal : Refusal} {place : ℕ} → Fits s → FirstFault most_levels s refusal place → Row s (number_of refusal)
   -- bytes after the item
   more : {e : ℕ} → length s ≤ most_bytes → ItemIs most_levels s e → e < length s → Row s 7
   -- one item of no known kind

@@ -1,7 +1,7 @@
 // Reading of a stream by pieces of a known length.
 #![tactic(auto)]
 
-ghost use Rattle.std.specs.Prelude.{◌≤◌, ◌<◌, ℕ, List, length, take, IfOk, IfErr};
+ghost use Rattle.std.specs.Prelude.{◌≡◌, ◌≤◌, ◌<◌, ◌-◌, ℕ, List, length, take, drop, replicate, IfOk, IfErr};
 ghost use Rattle.std.specs.Io.KnownBytes.{Consumes, IsAtEnd};
 
 use std::io;
@@ -16,6 +16,7 @@ pub fn read_full<R: Read>(input: &mut R, buf: &mut [u8]) -> io::Result<usize>
     ensures end { IfOk result (λ n. n < length buf.new → IsAtEnd (R.remaining input.new)) }
     ensures lost { IfErr result (λ e. (bs : List ℕ) × Consumes (R.remaining input.old) (R.remaining input.new) bs) }
 {
+    // By hand: of an input that ends early, `read_exact` doesn't say how many bytes came, as `count` and `bytes` do.
     let mut done = 0;
     while done < buf.len() {
         let n = input.read(&mut buf[done..])?;
@@ -25,4 +26,19 @@ pub fn read_full<R: Read>(input: &mut R, buf: &mut [u8]) -> io::Result<usize>
         done += n;
     }
     Ok(done)
+}
+
+// The next bytes of the input, as many as the array has room for. Zeros stand for those that the input ends before.
+pub fn read_array<R: Read, const N: usize>(input: &mut R) -> io::Result<[u8; N]>
+    ensures bytes { IfOk result (λ bs. (n : ℕ) × (n ≤ N)
+        × Consumes (R.remaining input.old) (R.remaining input.new) (take n bs)
+        × (n < N → IsAtEnd (R.remaining input.new))
+        × (drop n bs ≡ replicate (N - n) 0)) }
+    ensures lost { IfErr result (λ e. (bs : List ℕ) × Consumes (R.remaining input.old) (R.remaining input.new) bs) }
+{
+    let mut bytes = [0u8; N];
+    let all = &mut bytes[..];
+    let n = read_full(input, all)?;
+    all[n..].fill(0);
+    Ok(bytes)
 }

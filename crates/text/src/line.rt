@@ -1,9 +1,9 @@
 // Lines of text: a word and a number.
 ghost use Rattle.std.specs.Prelude.{◌≡◌, ◌≤◌};
 ghost use Rattle.text.specs.Line.{numbered, with_text, kind_line, refused_line};
-ghost use Rattle.text.specs.Line.{};
 
-// A line of `len` bytes, its line feed included; the bytes after it are 0.
+// A line of `len` bytes, its line feed included; the bytes after it are 0. It is made byte by byte and kept so, since
+// `read_message Printed.kind_printed` and `refused_printed` say each byte, which a format's contract doesn't.
 #[derive(Clone, Copy)]
 pub struct Line {
     pub bytes: [u8; 12],

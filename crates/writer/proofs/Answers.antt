@@ -3,7 +3,7 @@
 use Prim.Native.Nat.{ℕ, ◌≤◌, ◌<◌}
 use mathlib.Core.Path.{◌≡◌, refl, sym, ◌∙◌}
 use mathlib.Core.Bool.{Bool, true, false}
-use mathlib.Core.Logic.{◌⊎◌, inl, inr, ◌≢◌}
+use mathlib.Core.Logic.{◌⊎◌, inl, inr}
 use mathlib.Core.List.{List, ◌++◌}
 use native.Mathlib.Omega.{arith}
 use lib.Dec.{ltb, leb}
@@ -14,40 +14,41 @@ use Rattle.base.proofs.Bools.{true_or_false}
 use Rattle.base.proofs.Picks.{both}
 use Rattle.rfc8990.specs.Limits.{most_bytes}
 use Rattle.description.specs.declared.Description.{Description}
-use Rattle.writer.specs.declared.Written.{Written}
+use Rattle.std.specs.Prelude.{Result, Ok, Err, ⊤}
+use Rattle.base.specs.declared.refusal.Refusal.{Refusal}
+use Rattle.base.specs.declared.refusal.Refusal.TheVariants.{NoSuchMessage, WriteOutput}
 use Rattle.encode.specs.Put.{Wrote}
 use Rattle.description.specs.Judge.{ok_described}
-use Rattle.writer.specs.Write.{accepts, hand_answer, hand_out, passes, pass_answer, pass_out, draft_of, write_answer, write_out}
+use Rattle.writer.specs.Write.{fitting, accepts, hand_answer, hand_out, passes, pass_answer, pass_out, draft_of, write_answer, write_out}
 use Rattle.encode.proofs.Puts.{finished, drafted, long}
 
 -- ---- bytes that a test lets pass, judged before they are put
--- what `refusal` answers, by its two tests
-abbrev number_by : (good short : Bool) → ℕ
-number_by good short = pick good (pick short 19 0) 18
-
-module _ (test : Bool) (bs out : List ℕ) {good : Bool} {len number : ℕ} (g : good ≡ passes test bs) (l : len ≡ length bs)
-    (e : number ≡ number_by good (ltb (length out) len)) where
-  pub pass_not : number ≢ 0 → (Written.Refused number ≡ pass_answer test bs out) × (out ≡ pass_out test bs out)
-  unfolding pass_answer pass_out hand_answer hand_out pick
-  pass_not h = rw (e, ← g, ← l) (go good (ltb (length out) len) (λ z. h (e ∙ z)))
+module _ (test : Bool) (bs out : List ℕ) {good : Bool} {len : ℕ} {answer : Result ⊤ Refusal} (g : good ≡ passes test bs) (l : len ≡ length bs)
+    (e : answer ≡ fitting good len (length out)) where
+  pub pass_not : {refusal : Refusal} {a : Result ℕ Refusal} → answer ≡ Err refusal → a ≡ Err refusal
+      → (a ≡ pass_answer test bs out) × (out ≡ pass_out test bs out)
+  unfolding fitting pass_answer pass_out hand_answer hand_out pick
+  pass_not {refusal} h same = rw (same, ← g, ← l) (go good (ltb (length out) len) (sym e ∙ h))
     where
-      go : (x y : Bool) → number_by x y ≢ 0
-          → (Written.Refused (number_by x y) ≡ pick x (pick y (Written.Refused 19) (Written.Length len)) (Written.Refused 18))
+      go : (x y : Bool) → ◌≡◌ {A = Result ⊤ Refusal} (pick x (pick y (Err WriteOutput) (Ok tt)) (Err NoSuchMessage)) (Err refusal)
+          → (Err refusal ≡ pick x (pick y (Err WriteOutput) (Ok len)) (Err NoSuchMessage))
           × (out ≡ pick x (pick y out (bs ++ drop len out)) out)
-      go true true m = (refl, refl)
-      go true false m = absurd (m refl)
-      go false y m = (refl, refl)
+      go true true m = (cc, refl)
+      go true false m = absurd cc
+      go false y m = (cc, refl)
 
-  pub pass_put : {r : ℕ} {out' : List ℕ} → number ≡ 0 → Wrote out out' 0 bs r → (Written.Length len ≡ pass_answer test bs out) × (out' ≡ pass_out test bs out)
-  unfolding pass_answer pass_out hand_answer hand_out pick
-  pass_put {r} {out'} z w = rw (← g, ← l) (go good (ltb (length out) len) refl (sym e ∙ z))
+  pub pass_put : {r : ℕ} {out' : List ℕ} {u : ⊤} → answer ≡ Ok u → Wrote out out' 0 bs r
+      → (Ok len ≡ pass_answer test bs out) × (out' ≡ pass_out test bs out)
+  unfolding fitting pass_answer pass_out hand_answer hand_out pick
+  pass_put {r} {out'} {u} z w = rw (← g, ← l) (go good (ltb (length out) len) refl (sym e ∙ z))
     where
-      go : (x y : Bool) → ltb (length out) len ≡ y → number_by x y ≡ 0
-          → (Written.Length len ≡ pick x (pick y (Written.Refused 19) (Written.Length len)) (Written.Refused 18))
+      go : (x y : Bool) → ltb (length out) len ≡ y
+          → ◌≡◌ {A = Result ⊤ Refusal} (pick x (pick y (Err WriteOutput) (Ok tt)) (Err NoSuchMessage)) (Ok u)
+          → (Ok len ≡ pick x (pick y (Err WriteOutput) (Ok len)) (Err NoSuchMessage))
           × (out' ≡ pick x (pick y out (bs ++ drop len out)) out)
-      go true true q m = absurd (let z : ◌≡◌ {A = ℕ} 19 0 = m in omega arith)
+      go true true q m = absurd cc
       go true false q m = (refl, rw l (finished w (omega (arith, ltb-false (length out) len q))).1)
-      go false y q m = absurd (let z : ◌≡◌ {A = ℕ} 18 0 = m in omega arith)
+      go false y q m = absurd cc
 
 -- no more than 2,048 bytes
 pub few : (n : ℕ) (l : List ℕ) → n ≤ most_bytes → length (take n l) ≤ most_bytes
@@ -66,23 +67,23 @@ by_length bs n t e = rw (← e, t) (go (true_or_false (ltb most_bytes n)))
     go (inr q) = rw (q, le-leb n most_bytes (ltb-false most_bytes n q))
 
 -- bytes that the test doesn't let pass
-pub not_passed : {test : Bool} (bs out : List ℕ) → test ≡ false → (Written.Refused 18 ≡ pass_answer test bs out) × (out ≡ pass_out test bs out)
-unfolding passes pick
-not_passed bs out e = pass_not _ bs out {good = false} (sym (both (λ t. t ≡ false) (ltb most_bytes (length bs)) refl e)) refl refl (λ z. omega arith)
+pub not_passed : {test : Bool} (bs out : List ℕ) → test ≡ false → (Err NoSuchMessage ≡ pass_answer test bs out) × (out ≡ pass_out test bs out)
+unfolding pass_answer pass_out passes pick
+not_passed bs out e = rw (both (λ t. t ≡ false) (ltb most_bytes (length bs)) refl e) (refl, refl)
 
 -- ---- a draft that ends in time
 module _ {l l' bs : List ℕ} {r : ℕ} (w : Wrote l l' 0 bs r) (h : r ≤ length l) where
   draft_is : take r l' ≡ bs
   draft_is = (drafted w h).0
 
-  pub passed : (out : List ℕ) {out' : List ℕ} {x : Bool} {a : Written} → x ≡ accepts (take r l') → a ≡ pass_answer x (take r l') out
+  pub passed : (out : List ℕ) {out' : List ℕ} {x : Bool} {a : Result ℕ Refusal} → x ≡ accepts (take r l') → a ≡ pass_answer x (take r l') out
       → out' ≡ pass_out x (take r l') out
       → (a ≡ pass_answer (accepts bs) bs out) × (out' ≡ pass_out (accepts bs) bs out)
   passed out e p q = rw (← draft_is, ← e) (p, q)
 
 -- one that doesn't
 pub pass_long : {l l' bs : List ℕ} {r : ℕ} → Wrote l l' 0 bs r → length l ≡ most_bytes → (test : Bool) (out : List ℕ) → most_bytes < r
-    → (Written.Refused 18 ≡ pass_answer test bs out) × (out ≡ pass_out test bs out)
+    → (Err NoSuchMessage ≡ pass_answer test bs out) × (out ≡ pass_out test bs out)
 unfolding pass_answer pass_out passes pick
 pass_long {l} {l'} {bs} {r} w g test out h =
     let k : length l < r = omega arith in
@@ -91,11 +92,11 @@ pass_long {l} {l'} {bs} {r} w g test out h =
 
 -- ---- the description by itself
 module _ (source list : List ℕ) (m : Description) (out : List ℕ) (b : Bool) (e : b ≡ ok_described source list m) where
-  pub not_described : b ≡ false → (Written.Refused 18 ≡ write_answer source list m out) × (out ≡ write_out source list m out)
+  pub not_described : b ≡ false → (Err NoSuchMessage ≡ write_answer source list m out) × (out ≡ write_out source list m out)
   unfolding write_answer write_out pick
   not_described h = rw (← e, h) (refl, refl)
 
-  pub described : {out' : List ℕ} {a : Written} → b ≡ true
+  pub described : {out' : List ℕ} {a : Result ℕ Refusal} → b ≡ true
       → (a ≡ pass_answer (accepts (draft_of source list m)) (draft_of source list m) out)
       × (out' ≡ pass_out (accepts (draft_of source list m)) (draft_of source list m) out)
       → (a ≡ write_answer source list m out) × (out' ≡ write_out source list m out)

@@ -14,54 +14,55 @@ use Rattle.base.specs.Pick.{pick}
 use Rattle.base.proofs.Picks.{pick-case}
 use Rattle.cbor.specs.Put.{written}
 use Rattle.rfc8990.specs.Limits.{most_bytes}
-use Rattle.writer.specs.declared.Written.{Written}
+use Rattle.std.specs.Prelude.{Result, Ok, Err}
+use Rattle.base.specs.declared.refusal.Refusal.{Refusal}
+use Rattle.base.specs.declared.refusal.Refusal.TheVariants.{NoSuchMessage, WriteOutput}
 use Rattle.writer.specs.Write.{hand_answer, hand_out, passes, pass_answer, pass_out}
 
 -- they are never refused with 18
-pub hand_not_18 : (bs out : List ℕ) → hand_answer bs out ≡ Written.Refused 18 → ⊥
+pub hand_not_18 : (bs out : List ℕ) → hand_answer bs out ≡ Err NoSuchMessage → ⊥
 unfolding hand_answer
 hand_not_18 bs out =
-    pick-case (λ r. r ≡ Written.Refused 18 → ⊥) (ltb (length out) (length bs))
-    (λ e q. let z : ◌≡◌ {A = ℕ} 19 18 = cc in omega arith)
-    (λ e q. let z : ◌≡◌ {A = ℕ} 0 1 = cc in omega arith)
+    pick-case (λ r. r ≡ Err NoSuchMessage → ⊥) (ltb (length out) (length bs))
+    (λ e q. cc) (λ e q. cc)
 
 -- where they fit, they stand in front
-pub handed : (bs out : List ℕ) → length bs ≤ length out → (hand_answer bs out ≡ Written.Length (length bs)) × (hand_out bs out ≡ written bs out)
+pub handed : (bs out : List ℕ) → length bs ≤ length out → (hand_answer bs out ≡ Ok (length bs)) × (hand_out bs out ≡ written bs out)
 unfolding hand_answer hand_out pick
 handed bs out h = (rw (le-ltb (length out) (length bs) h), rw (le-ltb (length out) (length bs) h))
 
 -- a length is theirs, they fit,
-hand_length : (bs out : List ℕ) (n : ℕ) → hand_answer bs out ≡ Written.Length n → (length bs ≤ length out) × (n ≡ length bs)
+hand_length : (bs out : List ℕ) (n : ℕ) → hand_answer bs out ≡ Ok n → (length bs ≤ length out) × (n ≡ length bs)
 unfolding hand_answer
 hand_length bs out n =
-    pick-case (λ r. r ≡ Written.Length n → (length bs ≤ length out) × (n ≡ length bs)) (ltb (length out) (length bs))
-    (λ e q. absurd (let z : ◌≡◌ {A = ℕ} 0 1 = cc in omega arith))
+    pick-case (λ r. r ≡ Ok n → (length bs ≤ length out) × (n ≡ length bs)) (ltb (length out) (length bs))
+    (λ e q. absurd cc)
     (λ e q. (ltb-false (length out) (length bs) e, cc))
 
 -- and so many bytes of the output are they
-pub hand_front : (bs out : List ℕ) (n : ℕ) → hand_answer bs out ≡ Written.Length n → take n (hand_out bs out) ≡ bs
+pub hand_front : (bs out : List ℕ) (n : ℕ) → hand_answer bs out ≡ Ok n → take n (hand_out bs out) ≡ bs
 hand_front bs out n e =
     let (room, long) = hand_length bs out n e in
     ap (take n) (handed bs out room).1 ∙ take_at bs (drop (length bs) out) n (sym long)
 
 -- 19 where they do not
-pub hand_19 : (bs out : List ℕ) → hand_answer bs out ≡ Written.Refused 19 ↔ (length out < length bs)
+pub hand_19 : (bs out : List ℕ) → hand_answer bs out ≡ Err WriteOutput ↔ (length out < length bs)
 unfolding hand_answer pick
 hand_19 bs out = (
-  pick-case (λ r. r ≡ Written.Refused 19 → length out < length bs) (ltb (length out) (length bs)) (λ e q. ltb-true (length out) (length bs) e)
-      (λ e q. absurd (let z : ◌≡◌ {A = ℕ} 0 1 = cc in omega arith)),
+  pick-case (λ r. r ≡ Err WriteOutput → length out < length bs) (ltb (length out) (length bs)) (λ e q. ltb-true (length out) (length bs) e)
+      (λ e q. absurd cc),
   λ h. rw (lt-ltb (length out) (length bs) h),
 )
 
 -- what holds of the answer and the output, where the bytes pass and where they don't
-pub pass_case : (test : Bool) (bs out : List ℕ) (P : Written → List ℕ → Type 0)
+pub pass_case : (test : Bool) (bs out : List ℕ) (P : Result ℕ Refusal → List ℕ → Type 0)
     → (test ≡ true → length bs ≤ most_bytes → P (hand_answer bs out) (hand_out bs out))
-    → ((test ≡ true → length bs ≤ most_bytes → ⊥) → P (Written.Refused 18) out) → P (pass_answer test bs out) (pass_out test bs out)
+    → ((test ≡ true → length bs ≤ most_bytes → ⊥) → P (Err NoSuchMessage) out) → P (pass_answer test bs out) (pass_out test bs out)
 unfolding pass_answer pass_out passes pick
 pass_case test bs out P f g = go test (ltb most_bytes (length bs)) refl refl
   where
     go : (t u : Bool) → test ≡ t → ltb most_bytes (length bs) ≡ u
-        → P (pick (pick u false t) (hand_answer bs out) (Written.Refused 18)) (pick (pick u false t) (hand_out bs out) out)
+        → P (pick (pick u false t) (hand_answer bs out) (Err NoSuchMessage)) (pick (pick u false t) (hand_out bs out) out)
     go true false e e' = f e (ltb-false most_bytes (length bs) e')
     go true true e e' = g (λ _ few. omega (arith, ltb-true most_bytes (length bs) e'))
     go false true e e' = g (λ q _. false≢true (sym e ∙ q))

@@ -8,6 +8,7 @@ use native.Mathlib.Omega.{arith}
 use lib.ListN.{length, take, length-append, length-drop}
 use borrow.Author.Tests.{ne_eqb, le-ltb}
 use lib.Seq.{length-take-le}
+use Rattle.std.specs.Prelude.{Some}
 use Rattle.base.specs.Pick.{pick}
 use Rattle.cbor.specs.Put.{head, written}
 use Rattle.cbor.specs.Tree.{shortest}
@@ -15,15 +16,13 @@ use Rattle.cbor.proofs.HeadExact.{length_head, shortest_case}
 use Rattle.options.specs.declared.objective.Objective.{Objective}
 use Rattle.options.proofs.Fits.{ObjectiveParts}
 use Rattle.rfc8990.specs.Limits.{most_bytes}
-use Rattle.message.specs.declared.Extra.{Extra}
 use Rattle.message.specs.declared.Message.{Message}
 use Rattle.message.specs.declared.Message.TheVariants as M
 use Rattle.message.specs.Fields.{kind_of, objective_of}
 use Rattle.message.proofs.Parts.{MessageParts}
-use Rattle.reader.specs.declared.Reading.{Reading}
 use Rattle.reader.specs.Read.{read_of}
 use Rattle.reader.proofs.ReadParts.{read_parts}
-use Rattle.writer.specs.declared.Written.{Written}
+use Rattle.std.specs.Prelude.{Ok}
 use Rattle.writer.specs.Write.{lowered, passes, pass_answer, pass_out, ok_lower, lower_answer, lower_out}
 use Rattle.writer.specs.Lower.{Lowers, onward}
 use Rattle.writer.proofs.HandedOver.{handed}
@@ -52,7 +51,7 @@ neither (inr e) f g = g e
 -- for readers
 
 -- The objective whose count a relay lowers, by the fields of what was read.
-pub lowers_by : (m : Message) (o : Objective) → (kind_of m ≡ 1) ⊎ (kind_of m ≡ 9) → objective_of m ≡ Extra.With o → Lowers m o
+pub lowers_by : (m : Message) (o : Objective) → (kind_of m ≡ 1) ⊎ (kind_of m ≡ 9) → objective_of m ≡ Some o → Lowers m o
 unfolding objective_of
 lowers_by (M.Discovery session i o') o k e = let same : o' ≡ o = cc in subst (Lowers (M.Discovery session i o')) same Lowers.discovery
 lowers_by (M.Flood session i ttl first series) o k e = let same : first.objective ≡ o = cc in
@@ -68,13 +67,13 @@ lowers_by (M.Synch session objective) o k e = absurd (neither k (λ e. omega ari
 lowers_by (M.Invalid session item) o k e = absurd (neither k (λ e. omega arith) (λ e. omega arith))
 
 -- A Discovery or a Flood with its count's head replaced by the shortest of one less isn't longer.
-pub lowered_shorter : (s : List ℕ) (m : Message) (o : Objective) → read_of s ≡ Reading.Read m → Lowers m o → length (onward s o) ≤ length s
+pub lowered_shorter : (s : List ℕ) (m : Message) (o : Objective) → read_of s ≡ Ok m → Lowers m o → length (onward s o) ≤ length s
 lowered_shorter s m o q low = shorter s o (lowers_parts s low (read_parts s m q).1)
 
 -- So `lower` gives it, where the count is above 0 and the output has room for it.
-pub lowered_given : (s : List ℕ) (m : Message) (o : Objective) (out : List ℕ) → read_of s ≡ Reading.Read m → Lowers m o → 1 ≤ o.count
+pub lowered_given : (s : List ℕ) (m : Message) (o : Objective) (out : List ℕ) → read_of s ≡ Ok m → Lowers m o → 1 ≤ o.count
     → length (onward s o) ≤ length out
-    → (lower_answer s o.count_at o.value.at o.count out ≡ Written.Length (length (onward s o)))
+    → (lower_answer s o.count_at o.value.at o.count out ≡ Ok (length (onward s o)))
     × (lower_out s o.count_at o.value.at o.count out ≡ written (onward s o) out)
 unfolding lower_answer lower_out ok_lower pass_answer pass_out passes pick
 lowered_given s m o out q low some room =

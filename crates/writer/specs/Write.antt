@@ -1,27 +1,28 @@
 -- What the writer answers (rules 5): 18, then 19, then the encoding at the front of the output; the bytes after it, and
 -- on a refusal all of them, are as they were.
+use Rattle.reader.specs.Read.{Reading}
 use Rattle.std.specs.Prelude.{ℕ, ◌-◌, Bool, true, false, List, [], ◌∷◌, ◌++◌, length, take, drop, ltb, eqb}
+use Rattle.std.specs.Prelude.{Result, Ok, Err, ⊤}
 use Rattle.std.proofs.Math.Option.{none}
 use Rattle.base.specs.Pick.{pick}
 use Rattle.cbor.specs.Put.{head, written}
-use Rattle.reader.specs.declared.Reading.{Reading}
 use Rattle.rfc8990.specs.Limits.{most_bytes}
 use Rattle.reader.specs.Read.{read_of}
 use Rattle.description.specs.declared.Description.{Description}
-use Rattle.writer.specs.declared.Written.{Written}
+use Rattle.base.specs.declared.refusal.Refusal.{Refusal}
+use Rattle.base.specs.declared.refusal.Refusal.TheVariants.{NoSuchMessage, WriteOutput}
 use Rattle.rfc8990.specs.Message.{Loc, Tgts, Msg}
 use Rattle.rfc8990.specs.Encoding.{encode_msg}
 use Rattle.description.specs.Meaning.{msg_of}
 use Rattle.description.specs.Judge.{ok_described}
 
--- how many bytes were written: none by a refusal
-abbrev pub written_length : Written → ℕ
-written_length (Written.Refused number) = 0
-written_length (Written.Length n) = n
+-- a message of so many bytes in so much room: 18 where it isn't good, then 19 where the room is less
+unfoldable pub fitting : Bool → ℕ → ℕ → Result ⊤ Refusal
+fitting good len room = pick good (pick (ltb room len) (Err WriteOutput) (Ok tt)) (Err NoSuchMessage)
 
 -- bytes handed over: 19 where the output is shorter than they are
-unfoldable pub hand_answer : List ℕ → List ℕ → Written
-hand_answer bs out = pick (ltb (length out) (length bs)) (Written.Refused 19) (Written.Length (length bs))
+unfoldable pub hand_answer : List ℕ → List ℕ → Result ℕ Refusal
+hand_answer bs out = pick (ltb (length out) (length bs)) (Err WriteOutput) (Ok (length bs))
 
 -- the output that is left
 unfoldable pub hand_out : List ℕ → List ℕ → List ℕ
@@ -32,8 +33,8 @@ unfoldable pub passes : Bool → List ℕ → Bool
 passes test bs = pick (ltb most_bytes (length bs)) false test
 
 -- 18 for what doesn't pass; what passes is handed over
-unfoldable pub pass_answer : Bool → List ℕ → List ℕ → Written
-pass_answer test bs out = pick (passes test bs) (hand_answer bs out) (Written.Refused 18)
+unfoldable pub pass_answer : Bool → List ℕ → List ℕ → Result ℕ Refusal
+pass_answer test bs out = pick (passes test bs) (hand_answer bs out) (Err NoSuchMessage)
 
 -- the output that is left
 unfoldable pub pass_out : Bool → List ℕ → List ℕ → List ℕ
@@ -41,8 +42,8 @@ pass_out test bs out = pick (passes test bs) (hand_out bs out) out
 
 -- what was read is a message
 abbrev pub accepted : Reading → Bool
-accepted (Reading.Refused number) = false
-accepted (Reading.Read m) = true
+accepted (Err refusal) = false
+accepted (Ok m) = true
 
 -- the reader accepts the bytes
 unfoldable pub accepts : List ℕ → Bool
@@ -54,10 +55,10 @@ unfoldable pub draft_of : List ℕ → List ℕ → Description → List ℕ
 draft_of source list m = encode_msg (msg_of source list m)
 
 -- what `write` answers
-unfoldable pub write_answer : List ℕ → List ℕ → Description → List ℕ → Written
+unfoldable pub write_answer : List ℕ → List ℕ → Description → List ℕ → Result ℕ Refusal
 write_answer source list m out =
     pick (ok_described source list m) (pass_answer (accepts (draft_of source list m)) (draft_of source list m) out)
-    (Written.Refused 18)
+    (Err NoSuchMessage)
 
 -- the output that it leaves
 unfoldable pub write_out : List ℕ → List ℕ → Description → List ℕ → List ℕ
@@ -75,9 +76,9 @@ ok_lower message at end count =
     pick (eqb count 0) false (pick (ltb end at) false (pick (ltb (length message) end) false true))
 
 -- what `lower` answers
-unfoldable pub lower_answer : List ℕ → ℕ → ℕ → ℕ → List ℕ → Written
+unfoldable pub lower_answer : List ℕ → ℕ → ℕ → ℕ → List ℕ → Result ℕ Refusal
 lower_answer message at end count out =
-    pick (ok_lower message at end count) (pass_answer true (lowered message at end count) out) (Written.Refused 18)
+    pick (ok_lower message at end count) (pass_answer true (lowered message at end count) out) (Err NoSuchMessage)
 
 -- the output that it leaves
 unfoldable pub lower_out : List ℕ → ℕ → ℕ → ℕ → List ℕ → List ℕ
@@ -98,7 +99,7 @@ unfoldable pub ok_initiator : List ℕ → Bool
 ok_initiator initiator = pick (eqb (length initiator) 4) true (eqb (length initiator) 16)
 
 -- what `answer` answers
-unfoldable pub answer_answer : ℕ → List ℕ → ℕ → List ℕ → ℕ → List ℕ → Written
+unfoldable pub answer_answer : ℕ → List ℕ → ℕ → List ℕ → ℕ → List ℕ → Result ℕ Refusal
 answer_answer session initiator ttl address port out =
     pass_answer (ok_initiator initiator) (answer_of session initiator ttl address port) out
 

@@ -4,12 +4,12 @@ ghost use Rattle.encode.specs.Put.{Wrote};
 ghost use Rattle.rfc8990.specs.Encoding.{string, fixed};
 ghost use Rattle.writer.specs.Write.{ok_initiator, answer_of, answer_answer, answer_out};
 
-use crate::Written;
+use base::refusal::Refusal;
 use cbor::put;
 use message::MOST_BYTES;
 
-// A Response with one locator of kind 103 and protocol 6, as a node answers: 18 if the initiator has neither 4 nor 16
-// bytes.
+// A Response with one locator of kind 103 and protocol 6, as a node answers, and its length: refused if the initiator
+// has neither 4 nor 16 bytes.
 pub fn answer(
     session: u32,
     initiator: &[u8],
@@ -17,21 +17,18 @@ pub fn answer(
     address: &[u8; 16],
     port: u16,
     out: &mut [u8],
-) -> Written
+) -> Result<usize, Refusal>
     ensures value { result ≡ answer_answer session initiator.now ttl address.now port out.old }
     ensures out_after { out.new ≡ answer_out session initiator.now ttl address.now port
         out.old }
 {
     if !ok_initiator(initiator) {
-        return Written::Refused(18);
+        return Err(Refusal::NoSuchMessage);
     }
     let len = answer_len(session, initiator, ttl, address, port);
-    let number = crate::refusal(len <= MOST_BYTES, len, out.len());
-    if number != 0 {
-        return Written::Refused(number);
-    }
+    crate::fitting(len <= MOST_BYTES, len, out.len())?;
     put_answer(out, session, initiator, ttl, &address[..], port);
-    Written::Length(len)
+    Ok(len)
 }
 
 // Whether an initiator has 4 or 16 bytes.

@@ -3,32 +3,35 @@ ghost use Rattle.std.specs.Prelude.{◌≡◌, ◌<◌, ◌≤◌, length};
 ghost use Rattle.encode.specs.Put.{Wrote};
 ghost use Rattle.writer.specs.Write.{lowered, lower_answer, lower_out};
 
-use crate::Written;
+use base::refusal::Refusal;
 use cbor::put;
 use message::MOST_BYTES;
 
 // The message with its bytes from `at` to `end`, the head of its loop count, replaced by the shortest head of one less.
-pub fn lower(message: &[u8], at: usize, end: usize, count: u8, out: &mut [u8]) -> Written
+pub fn lower(
+    message: &[u8],
+    at: usize,
+    end: usize,
+    count: u8,
+    out: &mut [u8],
+) -> Result<usize, Refusal>
     ensures value { result ≡ lower_answer message.now at end count out.old }
     ensures out_after { out.new ≡ lower_out message.now at end count out.old }
 {
     if count == 0 {
-        return Written::Refused(18);
+        return Err(Refusal::NoSuchMessage);
     }
     if end < at {
-        return Written::Refused(18);
+        return Err(Refusal::NoSuchMessage);
     }
     if message.len() < end {
-        return Written::Refused(18);
+        return Err(Refusal::NoSuchMessage);
     }
     let kept = at + (message.len() - end);
     let len = kept + put::head_len((count - 1) as u64);
-    let number = crate::refusal(len <= MOST_BYTES, len, out.len());
-    if number != 0 {
-        return Written::Refused(number);
-    }
+    crate::fitting(len <= MOST_BYTES, len, out.len())?;
     put_lowered(out, message, at, end, count);
-    Written::Length(len)
+    Ok(len)
 }
 
 fn put_lowered(out: &mut [u8], message: &[u8], at: usize, end: usize, count: u8) -> usize

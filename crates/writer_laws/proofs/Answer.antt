@@ -19,7 +19,8 @@ use Rattle.rfc8990.specs.Limits.{most_bytes}
 use Rattle.rfc8990.specs.Accepted.{Accepted}
 use Rattle.message_laws.specs.Describes.{Describes}
 use Rattle.reader.proofs.Exact.{accepted_exactly, accepted_bytes, accepted_described, message_once}
-use Rattle.writer.specs.declared.Written.{Written}
+use Rattle.std.specs.Prelude.{Ok, Err}
+use Rattle.base.specs.declared.refusal.Refusal.TheVariants.{NoSuchMessage, WriteOutput}
 use Rattle.writer.specs.Write.{answer_msg, answer_of, ok_initiator, answer_answer, answer_out}
 use Rattle.writer.proofs.Lengths.{initiator_sized, sized_few, answer_few}
 use Rattle.writer_laws.specs.Plain.{plain}
@@ -137,37 +138,37 @@ module _ (session : ℕ) (initiator : List ℕ) (ttl : ℕ) (address : List ℕ)
         }
 
     -- So what `answer` puts in front of the output is read back.
-    pub answered_reads : (out : List ℕ) (n : ℕ) → answer_answer session initiator ttl address port out ≡ Written.Length n
+    pub answered_reads : (out : List ℕ) (n : ℕ) → answer_answer session initiator ttl address port out ≡ Ok n
         → ReadAs (take n (answer_out session initiator ttl address port out)) (answer_msg session initiator ttl address port)
     unfolding answer_answer answer_out
     answered_reads out n =
-        pass_case (ok_initiator initiator) encoded out (λ r o. r ≡ Written.Length n → ReadAs (take n o) response)
+        pass_case (ok_initiator initiator) encoded out (λ r o. r ≡ Ok n → ReadAs (take n o) response)
         (λ ok _ e. subst (λ (bs : List ℕ). ReadAs bs response) (sym (hand_front encoded out n e)) (answer_reads ((initiator_sized initiator).0 ok)))
-        (λ _ e. absurd (let z : ◌≡◌ {A = ℕ} 0 1 = cc in omega arith))
+        (λ _ e. absurd cc)
 
     -- 18 is answered exactly if there are no accepted bytes that are that Response.
-    pub answer_18 : (out : List ℕ) → answer_answer session initiator ttl address port out ≡ Written.Refused 18
+    pub answer_18 : (out : List ℕ) → answer_answer session initiator ttl address port out ≡ Err NoSuchMessage
         ↔ (((s : List ℕ) × (a : Accepted s) × (a.message.msg ≡ answer_msg session initiator ttl address port)) → ⊥)
     unfolding answer_answer
     answer_18 out = (
-      pass_case (ok_initiator initiator) encoded out (λ r o. r ≡ Written.Refused 18 → ((s : List ℕ) × (a : Accepted s) × (a.message.msg ≡ response)) → ⊥)
+      pass_case (ok_initiator initiator) encoded out (λ r o. r ≡ Err NoSuchMessage → ((s : List ℕ) × (a : Accepted s) × (a.message.msg ≡ response)) → ⊥)
           (λ _ _ q _. hand_not_18 encoded out q)
           (λ not q (s, a, e). let (_, ok, few) = response_is s a e in not ok few),
-      λ none. pass_case (ok_initiator initiator) encoded out (λ r o. r ≡ Written.Refused 18)
+      λ none. pass_case (ok_initiator initiator) encoded out (λ r o. r ≡ Err NoSuchMessage)
           (λ ok _. let (a, is) = response_accepted ((initiator_sized initiator).0 ok) in absurd (none (encoded, a, is)))
           (λ _. refl),
     )
 
     -- 19 is answered exactly if there are such bytes, and the output has no room for them.
-    pub answer_19 : (out : List ℕ) → answer_answer session initiator ttl address port out ≡ Written.Refused 19
+    pub answer_19 : (out : List ℕ) → answer_answer session initiator ttl address port out ≡ Err WriteOutput
         ↔ ((s : List ℕ) × (a : Accepted s) × (a.message.msg ≡ answer_msg session initiator ttl address port) × (length out < length s))
     unfolding answer_answer
     answer_19 out = (
       pass_case (ok_initiator initiator) encoded out
-          (λ r o. r ≡ Written.Refused 19 → (s : List ℕ) × (a : Accepted s) × (a.message.msg ≡ response) × (length out < length s))
+          (λ r o. r ≡ Err WriteOutput → (s : List ℕ) × (a : Accepted s) × (a.message.msg ≡ response) × (length out < length s))
           (λ ok _ q. let (a, is) = response_accepted ((initiator_sized initiator).0 ok) in (encoded, a, is, (hand_19 encoded out).0 q))
-          (λ _ q. absurd (let z : ◌≡◌ {A = ℕ} 18 19 = cc in omega arith)),
+          (λ _ q. absurd cc),
       λ (s, a, e, room). let (same, ok, few) = response_is s a e in
-          pass_case (ok_initiator initiator) encoded out (λ r o. r ≡ Written.Refused 19) (λ _ _. (hand_19 encoded out).1 (rw same room))
+          pass_case (ok_initiator initiator) encoded out (λ r o. r ≡ Err WriteOutput) (λ _ _. (hand_19 encoded out).1 (rw same room))
           (λ not. absurd (not ok few)),
     )

@@ -15,7 +15,7 @@ use Rattle.rfc8990.specs.Cddl.{uint, text, array, LocatorItems, Value, PairItems
 use Rattle.message_laws.proofs.Levels.{pairs_deep}
 use Rattle.message.specs.declared.Series.{Series}
 use Rattle.message.specs.declared.Targets.{Targets}
-use Rattle.message.specs.declared.Extra.{Extra}
+use Rattle.message.specs.Fields.{Extra}
 use Rattle.options.specs.declared.outcome.Outcome.{Outcome}
 use Rattle.message.specs.declared.Message.{Message}
 use Rattle.message_laws.specs.Describes.{SeriesIs, TargetsIs, ExtraIs, OutcomeIs, Describes}

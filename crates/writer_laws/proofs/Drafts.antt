@@ -17,8 +17,9 @@ use Rattle.options.specs.declared.Span.{Span}
 use Rattle.rfc8990.specs.Message.{or_null}
 use Rattle.description.specs.declared.rows.ObjectiveRow.{ObjectiveRow}
 use Rattle.description.specs.declared.rows.LocatorRow.{LocatorRow}
-use Rattle.description.specs.declared.GivenExtra.{GivenExtra}
-use Rattle.description.specs.declared.GivenExtra.TheVariants as X
+use Rattle.std.specs.declared.option.Option as S
+use Rattle.std.specs.declared.option.Option.TheVariants.{Some, None}
+use Rattle.description.specs.declared.GivenObjective.{GivenObjective}
 use Rattle.options.specs.declared.outcome.Outcome.{Outcome}
 use Rattle.options.specs.declared.outcome.Outcome.TheVariants as E
 use Rattle.description.specs.declared.Description.{Description}
@@ -129,10 +130,10 @@ module _ (source : List ℕ) (b : Bytes source) where
       then (then (array_bytes 2) (objective_bytes (objective_row_at list (pair_row * i)))) (tag_bytes (locator_row_at list (pair_row * i + objective_row)))
 
   -- an objective that may be left out
-  extra_bytes : (o : GivenExtra) → AllBytes (maybe_obj (extra_of source o))
+  extra_bytes : (o : S.Option GivenObjective) → AllBytes (maybe_obj (extra_of source o))
   unfolding extra_of maybe_obj
-  extra_bytes X.Without = no_bytes
-  extra_bytes (X.With o) = objective_bytes (objective_row_of o)
+  extra_bytes None = no_bytes
+  extra_bytes (Some o) = objective_bytes (objective_row_of o)
 
   -- kinds 3, 4, 5 and 8
   exchange_bytes : (kind session : ℕ) (o : ObjectiveRow) → AllBytes (exchange kind session (obj_of source o))

@@ -1,6 +1,8 @@
 -- The judge of descriptions, held against what they say: it passes those that say something, with values that are
 -- items.
 -- Assumes nothing.
+use Rattle.std.specs.Prelude.{Ok, Err}
+use Rattle.cbor.specs.Item.{ItemRead}
 use mathlib.Core.Path.{◌≡◌, refl, sym, ap, ◌∙◌, subst}
 use mathlib.Core.Logic.{◌↔◌, ◌⊎◌, inl, inr}
 use mathlib.Core.Bool.{Bool, true, false, false≢true}
@@ -20,7 +22,6 @@ use Rattle.base.specs.Lists.{Every}
 use Rattle.base.proofs.Lists.{every_append}
 use Rattle.base.proofs.Parts.{bytes_drop, bytes_take}
 use Rattle.base.proofs.Picks.{pick-case, both, pick_same}
-use Rattle.cbor.specs.declared.item.ItemRead.{ItemRead}
 use Rattle.cbor.specs.Item.{first_item}
 use Rattle.cbor.specs.Tree.{encode}
 use Rattle.cbor.proofs.Accepts.{item_accepts}
@@ -28,8 +29,8 @@ use Rattle.cbor.proofs.Exact.{item_exact}
 use Rattle.options.specs.declared.Span.{Span}
 use Rattle.description.specs.declared.rows.ObjectiveRow.{ObjectiveRow}
 use Rattle.description.specs.declared.rows.LocatorRow.{LocatorRow}
-use Rattle.description.specs.declared.GivenExtra.{GivenExtra}
-use Rattle.description.specs.declared.GivenExtra.TheVariants as X
+use Rattle.std.specs.Prelude.{Option, Some, None}
+use Rattle.description.specs.declared.GivenObjective.{GivenObjective}
 use Rattle.options.specs.declared.outcome.Outcome.{Outcome}
 use Rattle.options.specs.declared.outcome.Outcome.TheVariants as E
 use Rattle.description.specs.declared.Description.{Description}
@@ -98,22 +99,22 @@ whole_is : (bs : List ℕ) → Bytes bs → whole bs ≡ true → Valued bs
 unfolding whole alone
 whole_is bs b = go (first_item 0 bs) refl
   where
-    found : (e : ℕ) → first_item 0 bs ≡ ItemRead.Ends e → e ≡ length bs → Valued bs
+    found : (e : ℕ) → first_item 0 bs ≡ Ok e → e ≡ length bs → Valued bs
     found e q same =
         let i = item_exact 0 bs e b q in
         let all : bs ≡ encode i.item = sym (take-length bs) ∙ ap (λ (k : ℕ). take k bs) (sym same) ∙ i.bytes in
         subst Valued (sym all) (Valued.one i.item i.good i.shallow)
 
     go : (r : ItemRead) → first_item 0 bs ≡ r → alone (length bs) r ≡ true → Valued bs
-    go (ItemRead.Refused number place) q h = absurd (false≢true h)
-    go (ItemRead.Ends e) q h = found e q (eqb-true e (length bs) (sym (pick_same _) ∙ h))
+    go (Err why) q h = absurd (false≢true h)
+    go (Ok e) q h = found e q (eqb-true e (length bs) (sym (pick_same _) ∙ h))
 
 -- and an item is
 value_ok : (bs : List ℕ) → Valued bs → ok_value bs ≡ true
 unfolding ok_value pick whole alone
 value_ok _ Valued.none = refl
 value_ok _ (Valued.one x g d) =
-    let ends : first_item 0 (encode x) ≡ ItemRead.Ends (length (encode x)) = ap (first_item 0) (sym (append-nil (encode x))) ∙ item_accepts 0 x [] g d in
+    let ends : first_item 0 (encode x) ≡ Ok (length (encode x)) = ap (first_item 0) (sym (append-nil (encode x))) ∙ item_accepts 0 x [] g d in
     both (λ r. r ≡ true) (eqb (length (encode x)) 0) refl (rw (ends, eq-eqb (length (encode x)) (length (encode x)) refl) refl)
 
 -- a value: none, or an item
@@ -255,10 +256,10 @@ module _ (source : List ℕ) where
       record { whole = h.0.whole; each = λ i l. (h.0.each i l, (up_to_exactly ValuedPair (row_pair source list) (length list / pair_row)).0 h.1 i l) })
 
   -- an objective that may be left out
-  extra_exactly : (o : GivenExtra) → Judges (ok_extra source o) (ExtraSays source o × Each ValuedObj (extra_of source o))
+  extra_exactly : (o : Option GivenObjective) → Judges (ok_extra source o) (ExtraSays source o × Each ValuedObj (extra_of source o))
   unfolding ok_extra extra_of obj_of
-  extra_exactly X.Without = (λ b h. (tt, tt), λ h. refl)
-  extra_exactly (X.With o) = objective_row_exactly (objective_row_of o)
+  extra_exactly None = (λ b h. (tt, tt), λ h. refl)
+  extra_exactly (Some o) = objective_row_exactly (objective_row_of o)
 
   -- how a negotiation ends
   outcome_exactly : {G : Type 0} (e : Outcome) → Tells G (ok_outcome source e ≡ true) (OutcomeSays source e)

@@ -8,11 +8,13 @@ use native.Mathlib.Omega.{arith}
 use lib.Dec.{lit≤}
 use lib.ListN.{length}
 use lib.Seq.{sets, get_or-append-add}
+use Rattle.options.specs.Text.{Noted}
+use Rattle.std.specs.Prelude.{None}
+use Rattle.options.specs.Part.{part}
 use Rattle.base.specs.Pick.{pick}
 use Rattle.cbor.specs.Tree.{Item, Items}
 use Rattle.options.specs.declared.locator.Locator.{Locator}
 use Rattle.options.specs.declared.locator.Locator.TheVariants as L
-use Rattle.options.specs.declared.locator.LocatorRead.{LocatorRead}
 use Rattle.options.specs.Locator.{locator_at, locator_numbers}
 use Rattle.options.proofs.Fits.{locator_within}
 use Rattle.rfc8990.specs.Message.{Loc}
@@ -66,15 +68,15 @@ module _ (s : List ℕ) where
   Locators = Chain locator_row (locator_next s) (locator_stored s) (LocatorTold s)
 
   -- one row
-  locator_row_lem : (p : ℕ) {l : Locator} {size bad : ℕ} (i : ℕ) (list : List ℕ) → locator_at s p ≡ LocatorRead.Got l size bad
+  locator_row_lem : (p : ℕ) {l : Locator} {size : ℕ} {bad : Noted} (i : ℕ) (list : List ℕ) → locator_at s p ≡ part l size bad None
       → locator_stored s p i list ≡ sets list (locator_row * i) (locator_numbers l)
   unfolding locator_stored locator_stored_from
   locator_row_lem p i list e = ap (locator_stored_from i list) e
 
   -- and what comes after it
-  locator_next_lem : (p : ℕ) {e : ℕ} {l : Locator} {bad : ℕ} → locator_at s p ≡ LocatorRead.Got l (e - p) bad → locator_next s p ≡ e
+  locator_next_lem : (p : ℕ) {e : ℕ} {l : Locator} {bad : Noted} → locator_at s p ≡ part l (e - p) bad None → locator_next s p ≡ e
   unfolding locator_next locator_next_from
-  locator_next_lem p {e} {l} {bad} q = ap (locator_next_from p) q ∙ omega (arith, (locator_within s p p _ (LocatorRead.Got l (e - p) bad) refl q).0)
+  locator_next_lem p {e} {l} {bad} q = ap (locator_next_from p) q ∙ omega (arith, (locator_within s p p _ (part l (e - p) bad None) refl q).0)
 
   -- the locators that stand in a message
   pub locators_rows : {p e : ℕ} {xs : Items} {ls : List Loc} → StandAll s p e xs → LocatorItems xs ls → (rows : List (List ℕ)) × Locators p rows ls

@@ -8,6 +8,15 @@ use native.Mathlib.Omega.{arith}
 use lib.Dec.{ltb, eqb}
 use lib.ListN.{length, drop, length-drop}
 use borrow.Author.Tests.{ltb-false, eqb-true, eqb-false, le-ltb}
+use Rattle.options.specs.Text.{Noted}
+use Rattle.std.specs.Prelude.{None}
+use Rattle.std.specs.Prelude.{Result, Ok, Err}
+use Rattle.options.proofs.Same.{part_same}
+use Rattle.options.specs.Part.{Read, departs, part}
+use Rattle.message.specs.Opening.{Before}
+use Rattle.options.specs.Pair.{paired}
+use Rattle.message.specs.Sequence.{PairsRead}
+use Rattle.message.specs.Sequence.{ran}
 use Rattle.base.specs.Pick.{pick}
 use Rattle.base.proofs.Picks.{pick-case, both}
 use Rattle.cbor.specs.declared.token.Token.{Token}
@@ -16,10 +25,8 @@ use Rattle.cbor.specs.Token.{token_at, items_in, up_to}
 use Rattle.cbor.proofs.Tokens.{token_is, token_has, is_array, is_number}
 use Rattle.options.specs.declared.Span.{Span}
 use Rattle.options.specs.declared.objective.Objective.{Objective}
-use Rattle.options.specs.declared.objective.ObjectiveRead.{ObjectiveRead}
-use Rattle.options.specs.declared.pair.Tag.{Tag}
+use Rattle.options.specs.Pair.{Tag}
 use Rattle.options.specs.declared.pair.Pair.{Pair}
-use Rattle.options.specs.declared.pair.PairRead.{PairRead}
 use Rattle.options.specs.Text.{held, content_of}
 use Rattle.options.specs.Objective.{objective_at}
 use Rattle.options.specs.Pair.{pair_at}
@@ -27,17 +34,15 @@ use Rattle.message.specs.declared.Series.{Series}
 use Rattle.message.specs.declared.Message.{Message}
 use Rattle.message.specs.declared.Message.TheVariants as M
 use Rattle.message.specs.declared.opening.Opening.{Opening}
-use Rattle.message.specs.declared.opening.OpeningRead.{OpeningRead}
-use Rattle.message.specs.declared.sequence.PairsRead.{PairsRead}
-use Rattle.message.specs.declared.shape.Shape.{Shape}
-use Rattle.message.specs.declared.shape.Shape.TheVariants as S
 use Rattle.message.specs.declared.Examined.{Examined}
-use Rattle.message.specs.declared.Examined.TheVariants as E
+use Rattle.base.specs.declared.refusal.Refused.{Refused}
+use Rattle.message.proofs.Clear.{clear_told}
+use Rattle.message.proofs.Fits.{accepted_same}
 use Rattle.message.specs.Opening.{most_number, objective_levels, is_initiator, opening_at}
 use Rattle.message.specs.Shape.{discovered, discovery_at}
 use Rattle.message.specs.Sequence.{pairs_from}
 use Rattle.message.specs.Flood.{flooded_by, flooded_of, flooded_at, flood_by, flood_at}
-use Rattle.message.specs.Examined.{by_kind, judged_shape, examined}
+use Rattle.message.specs.Examined.{accepted, by_kind, clear, judged_shape, examined}
 use Rattle.message.proofs.Parts.{MessageParts, OfKind, ShapeParts, initiated, kind_parts}
 use Rattle.message.specs.Fields.{session_of, initiator_of}
 use Rattle.writer.specs.Lower.{Lowers, Relays}
@@ -45,35 +50,34 @@ use Rattle.writer_laws.proofs.Moved.{PairsMove, none_before, pairs_move}
 use Rattle.writer_laws.proofs.Recounted.{held_kept, CountAt, Recounted, further, rest_kept, front_token, objective_beyond, pair_beyond}
 
 -- a departure is no shape
-no_shape : {place : ℕ} {m : Message} {end : ℕ} → S.Bad place ≡ S.Good m end 0 0 → ⊥
+no_shape : {place : ℕ} {m : Message} {end : ℕ} → departs place ≡ part m end None None → ⊥
 no_shape q = let z : ◌≡◌ {A = ℕ} 0 1 = cc in omega arith
 
 -- ---- the whole, by its lead
 -- a shape that is accepted has no fault
-judged_good : (x : Shape) {m : Message} {end : ℕ} → judged_shape x ≡ E.Accepted m end → x ≡ S.Good m end 0 0
+judged_good : (x : Read Message) {m : Message} {end : ℕ} → judged_shape x ≡ accepted m end → x ≡ part m end None None
 unfolding judged_shape
-judged_good (S.Bad place) = λ q. cc
-judged_good (S.Good m' end' bad long) {m} {end} =
-    pick-case P (eqb bad 0)
-    (λ e. pick-case P (eqb long 0)
+judged_good (Err e) = λ q. cc
+judged_good (Ok got) {m} {end} =
+    clear_told P got.bad
+    (λ e. clear_told P got.long
     (λ f q.
-    let same : m' ≡ m = cc in
-    let same' : end' ≡ end = cc in
-    rw (same, same', eqb-true bad 0 e, eqb-true long 0 f))
-    (λ _ q. cc))
-    (λ _ q. cc)
+    let (same, same') = accepted_same q in
+    rw (same, same', e, f))
+    (λ _ _ q. cc))
+    (λ _ _ q. cc)
   where
-    P : Examined → Type 0
-    P r = r ≡ E.Accepted m end → S.Good m' end' bad long ≡ S.Good m end 0 0
+    P : Result Examined Refused → Type 0
+    P r = r ≡ accepted m end → part got.value got.size got.bad got.long ≡ part m end None None
 
 -- an array with items, led by a number, whose shape by that number has no fault
 record Led (s : List ℕ) (m : Message) (end : ℕ) : Type 0 where
   filled : eqb (items_in (token_at s 0)) 0 ≡ false
   number : eqb (token_at s (token_at s 0).next).major 0 ≡ true
-  shape : by_kind s (token_at s (token_at s 0).next).arg (token_at s 0).arg (token_at s (token_at s 0).next).next ≡ S.Good m end 0 0
+  shape : by_kind s (token_at s (token_at s 0).next).arg (token_at s 0).arg (token_at s (token_at s 0).next).next ≡ part m end None None
 
 -- a message that its parts make up is so led
-led : (s : List ℕ) {m : Message} {end : ℕ} → examined s ≡ E.Accepted m end → Led s m end
+led : (s : List ℕ) {m : Message} {end : ℕ} → examined s ≡ accepted m end → Led s m end
 unfolding examined
 led s {m} {end} =
     pick-case P _ (λ _ q. absurd (never q))
@@ -85,10 +89,10 @@ led s {m} {end} =
     k : Token
     k = token_at s a.next
 
-    P : Examined → Type 0
-    P x = x ≡ E.Accepted m end → Led s m end
+    P : Result Examined Refused → Type 0
+    P x = x ≡ accepted m end → Led s m end
 
-    never : {number place : ℕ} → E.Refused number place ≡ E.Accepted m end → ⊥
+    never : {e : Refused} → Err e ≡ accepted m end → ⊥
     never q = let z : ◌≡◌ {A = ℕ} 0 1 = cc in omega arith
 
     read : eqb (items_in a) 0 ≡ false → eqb k.major 0 ≡ true → P (judged_shape (by_kind s k.arg a.arg k.next))
@@ -104,13 +108,13 @@ module _ (u h r : List ℕ) (n : ℕ) where
 
   -- ---- the two kinds
   -- a shape with an initiator, its session at `at`, is read with the new count; both stand before it
-  pub record ShapeRecounted (at : ℕ) (i : Span) (read : Shape) (make : Objective → Message) (end : ℕ) : Type 0 where
+  pub record ShapeRecounted (at : ℕ) (i : Span) (read : Read Message) (make : Objective → Message) (end : ℕ) : Type 0 where
     pub start : at ≤ length u
     pub within : i.at + i.len ≤ length u
-    pub shape : Recounted u h n read (λ o e. S.Good (make o) e 0 0) end
+    pub shape : Recounted u h n read (λ o e. part (make o) e None None) end
 
   discovery_recounted : n ≤ 255 → (m at session : ℕ) (i : Span) (o : Objective) (end : ℕ) → CountAt u h 0 o
-      → discovery_at old m at ≡ S.Good (M.Discovery session i o) end 0 0
+      → discovery_at old m at ≡ part (M.Discovery session i o) end None None
       → ShapeRecounted at i (discovery_at new m at) (M.Discovery session i) end
   unfolding discovery_at discovered pick
   discovery_recounted few m at session i o end place =
@@ -125,12 +129,12 @@ module _ (u h r : List ℕ) (n : ℕ) where
       j : Token
       j = token_at old k.next
 
-      P : Shape → Type 0
-      P x = x ≡ S.Good (M.Discovery session i o) end 0 0 → ShapeRecounted at i (discovery_at new m at) (M.Discovery session i) end
+      P : Read Message → Type 0
+      P x = x ≡ part (M.Discovery session i o) end None None → ShapeRecounted at i (discovery_at new m at) (M.Discovery session i) end
 
       made : eqb m 4 ≡ true → ltb most_number (up_to most_number k) ≡ false → is_initiator j ≡ true → {size : ℕ} → j.next + size ≡ end
           → up_to most_number k ≡ session → content_of j ≡ i
-          → (j.next ≤ length u) × Recounted (drop j.next u) h n (objective_at objective_levels new j.next) (λ o e. ObjectiveRead.Got o e 0 0) size
+          → (j.next ≤ length u) × Recounted (drop j.next u) h n (objective_at objective_levels new j.next) (λ o e. part o e None None) size
           → ShapeRecounted at i (discovery_at new m at) (M.Discovery session i) end
       made t₁ t₂ t₃ all same same' (low, x) =
           let (number, _) = is_number most_number k (ltb-false most_number (up_to most_number k) t₂) in
@@ -142,27 +146,26 @@ module _ (u h r : List ℕ) (n : ℕ) where
             within = omega (arith, (token_is old k.next j refl).start, ap (λ (v : Span). v.at) same', ap (λ (v : Span). v.len) same');
             shape =
                 rw all at
-                (further j.next (discovery_at new m at) (λ o e. S.Good (M.Discovery session i o) e 0 0)
+                (further j.next (discovery_at new m at) (λ o e. part (M.Discovery session i o) e None None)
                 (λ o e got.
                 rw (front_token h r n u at (omega arith) (omega arith), front_token h r n u k.next (omega arith) low, t₁, t₂, t₃, got, ← same, ← same'))
                 x);
           }
 
-      by : eqb m 4 ≡ true → ltb most_number (up_to most_number k) ≡ false → is_initiator j ≡ true → (x : ObjectiveRead)
+      by : eqb m 4 ≡ true → ltb most_number (up_to most_number k) ≡ false → is_initiator j ≡ true → (x : Read Objective)
           → objective_at objective_levels old j.next ≡ x
           → P (discovered (up_to most_number k) (content_of j) j.next x)
-      by t₁ t₂ t₃ (ObjectiveRead.Bad place) e = λ q. absurd (no_shape q)
-      by t₁ t₂ t₃ (ObjectiveRead.Got o₁ size bad long) e =
+      by t₁ t₂ t₃ (Err d) e = λ q. absurd (no_shape q)
+      by t₁ t₂ t₃ (Ok got) e =
           λ q.
-          let same : o₁ ≡ o = cc in
-          let fine : bad ≡ 0 = cc in
-          let short : long ≡ 0 = cc in
+          let (message, end, fine, short) = part_same q in
+          let same : got.value ≡ o = cc in
           made t₁ t₂ t₃ (cc) (cc) (cc)
-          (objective_beyond h r n few u objective_levels 0 j.next j.next o size (omega arith) place (rw (same, fine, short) at e))
+          (objective_beyond h r n few u objective_levels 0 j.next j.next o got.size (omega arith) place (rw (same, fine, short) at e))
 
   -- what stands before the pairs of a Flood
-  opening_kept : (at : ℕ) (o : Opening) (next : ℕ) → next ≤ length u → opening_at old at ≡ OpeningRead.Got o next
-      → (at ≤ length u) × (o.initiator.at + o.initiator.len ≤ length u) × (opening_at new at ≡ OpeningRead.Got o next)
+  opening_kept : (at : ℕ) (o : Opening) (next : ℕ) → next ≤ length u → opening_at old at ≡ Ok (o, next)
+      → (at ≤ length u) × (o.initiator.at + o.initiator.len ≤ length u) × (opening_at new at ≡ Ok (o, next))
   unfolding opening_at pick
   opening_kept at o next low =
       pick-case P (ltb most_number (up_to most_number k)) (λ _ q. absurd (never q))
@@ -175,7 +178,7 @@ module _ (u h r : List ℕ) (n : ℕ) where
       let k₁ : at + 1 ≤ k.next = (token_has old at).some (omega arith) in
       let j₁ : k.next + 1 ≤ j.next = (token_has old k.next).some (omega arith) in
       let t₄ : j.next + 1 ≤ t.next = (token_has old j.next).some (omega arith) in
-      let all : t.next ≡ next = cc in
+      let all : t.next ≡ next = ap next_in q in
       let is : content_of j ≡ o.initiator = ap initiator_in q in (
         omega arith,
         omega (arith, (token_is old k.next j refl).start, ap (λ (v : Span). v.at) is, ap (λ (v : Span). v.len) is),
@@ -199,19 +202,23 @@ module _ (u h r : List ℕ) (n : ℕ) where
       t : Token
       t = token_at old j.next
 
-      P : OpeningRead → Type 0
+      P : Before Opening → Type 0
       P x =
-          x ≡ OpeningRead.Got o next → (at ≤ length u) × (o.initiator.at + o.initiator.len ≤ length u) × (opening_at new at ≡ OpeningRead.Got o next)
+          x ≡ Ok (o, next) → (at ≤ length u) × (o.initiator.at + o.initiator.len ≤ length u) × (opening_at new at ≡ Ok (o, next))
 
-      never : {place : ℕ} → OpeningRead.Bad place ≡ OpeningRead.Got o next → ⊥
+      never : {place : ℕ} → ◌≡◌ {A = Before Opening} (departs place) (Ok (o, next)) → ⊥
       never q = let z : ◌≡◌ {A = ℕ} 0 1 = cc in omega arith
 
-      initiator_in : OpeningRead → Span
-      initiator_in (OpeningRead.Bad place) = content_of j
-      initiator_in (OpeningRead.Got opening end) = opening.initiator
+      initiator_in : Before Opening → Span
+      initiator_in (Err e) = content_of j
+      initiator_in (Ok (opening, end)) = opening.initiator
+
+      next_in : Before Opening → ℕ
+      next_in (Err e) = t.next
+      next_in (Ok (opening, end)) = end
 
   flood_recounted : n ≤ 255 → (m at session : ℕ) (i : Span) (ttl : ℕ) (first : Pair) (series : Series) (end : ℕ) → CountAt u h 0 first.objective
-      → flood_at old m at ≡ S.Good (M.Flood session i ttl first series) end 0 0
+      → flood_at old m at ≡ part (M.Flood session i ttl first series) end None None
       → (tag : Tag) × ShapeRecounted at i (flood_at new m at) (λ o. M.Flood session i ttl (record { objective = o; tag = tag }) series) end
   unfolding flood_at flood_by flooded_at flooded_of flooded_by pick
   flood_recounted few m at session i ttl pair series end place = pick-case P (ltb m 5) (λ _ q. absurd (no_shape q)) (λ t. opened t (opening_at old at) refl)
@@ -219,15 +226,15 @@ module _ (u h r : List ℕ) (n : ℕ) where
       Found : Type 0
       Found = (tag : Tag) × ShapeRecounted at i (flood_at new m at) (λ o. M.Flood session i ttl (record { objective = o; tag = tag }) series) end
 
-      P : Shape → Type 0
-      P x = x ≡ S.Good (M.Flood session i ttl pair series) end 0 0 → Found
+      P : Read Message → Type 0
+      P x = x ≡ part (M.Flood session i ttl pair series) end None None → Found
 
       -- with the opening, the first pair and the other pairs of the new bytes
       made : ltb m 5 ≡ false → {opening : Opening} {next : ℕ} {tag : Tag} {size : ℕ}
-          → (at ≤ length u) × (opening.initiator.at + opening.initiator.len ≤ length u) × (opening_at new at ≡ OpeningRead.Got opening next)
-          → (x : Recounted (drop next u) h n (pair_at new next) (λ o e. PairRead.Got o tag e 0 0) size)
+          → (at ≤ length u) × (opening.initiator.at + opening.initiator.len ≤ length u) × (opening_at new at ≡ Ok (opening, next))
+          → (x : Recounted (drop next u) h n (pair_at new next) (λ o e. paired o tag e None None) size)
           → PairsMove (next + size) end (next + (length (drop next u) + length (head 0 n) + x.rest))
-          (pairs_from new (m - 4 - 1) (next + (length (drop next u) + length (head 0 n) + x.rest)) 0 0)
+          (pairs_from new (m - 4 - 1) (next + (length (drop next u) + length (head 0 n) + x.rest)) None None)
           → opening.session ≡ session → opening.initiator ≡ i → opening.ttl ≡ ttl → record { at = next; many = m - 4 } ≡ series → Found
       made t {next = next} {tag} (start, within, first) x (size, ends, run) a b c d =
           let to : next + (length (drop next u) + length (head 0 n) + x.rest) + size ≡ length u + length (head 0 n) + (x.rest + size + (next - length u)) =
@@ -247,11 +254,11 @@ module _ (u h r : List ℕ) (n : ℕ) where
             },
           )
 
-      paired : ltb m 5 ≡ false → {opening : Opening} {next : ℕ} → opening_at old at ≡ OpeningRead.Got opening next → {size : ℕ}
-          → (next ≤ length u) × (tag : Tag) × Recounted (drop next u) h n (pair_at new next) (λ o e. PairRead.Got o tag e 0 0) size
-          → pairs_from old (m - 4 - 1) (next + size) 0 0 ≡ PairsRead.Ran end 0 0
+      relayed : ltb m 5 ≡ false → {opening : Opening} {next : ℕ} → opening_at old at ≡ Ok (opening, next) → {size : ℕ}
+          → (next ≤ length u) × (tag : Tag) × Recounted (drop next u) h n (pair_at new next) (λ o e. paired o tag e None None) size
+          → pairs_from old (m - 4 - 1) (next + size) None None ≡ ran end None None
           → opening.session ≡ session → opening.initiator ≡ i → opening.ttl ≡ ttl → record { at = next; many = m - 4 } ≡ series → Found
-      paired t {opening} {next} e {size} (low, tag, x) run =
+      relayed t {opening} {next} e {size} (low, tag, x) run =
           made t (opening_kept at opening next low e) x
           (pairs_move old new (m - 4 - 1) (next + size) (next + (length (drop next u) + length (head 0 n) + x.rest)) end
           (λ y.
@@ -261,26 +268,28 @@ module _ (u h r : List ℕ) (n : ℕ) where
           rw (from, to) (rest_kept h r n u (x.rest + y)))
           run)
 
-      ran : ltb m 5 ≡ false → {opening : Opening} {next : ℕ} → opening_at old at ≡ OpeningRead.Got opening next → {first : Pair} {size bad long : ℕ}
-          → pair_at old next ≡ PairRead.Got first.objective first.tag size bad long → (x : PairsRead)
+      passed : ltb m 5 ≡ false → {opening : Opening} {next : ℕ} → opening_at old at ≡ Ok (opening, next) → {first : Pair} {size : ℕ} {bad long : Noted}
+          → pair_at old next ≡ paired first.objective first.tag size bad long → (x : PairsRead)
           → pairs_from old (m - 4 - 1) (next + size) bad long ≡ x
           → P (flooded_by opening first (record { at = next; many = m - 4 }) x)
-      ran t e f (PairsRead.Bad place) g = λ q. absurd (no_shape q)
-      ran t {opening} {next} e {first} {size} {bad} {long} f (PairsRead.Ran end₁ bad₁ long₁) g =
+      passed t e f (Err d) g = λ q. absurd (no_shape q)
+      passed t {opening} {next} e {first} {size} {bad} {long} f (Ok got) g =
           λ q.
+          let (message, ends, none, short') = part_same q in
           let same : first ≡ pair = cc in
-          let run : pairs_from old (m - 4 - 1) (next + size) bad long ≡ PairsRead.Ran end 0 0 = cc in
+          let last : ran got.end got.bad got.long ≡ ran end None None = rw (ends, none, short') in
+          let run : pairs_from old (m - 4 - 1) (next + size) bad long ≡ ran end None None = g ∙ last in
           let (fine, short) = none_before old (m - 4 - 1) (next + size) bad long end run in
-          paired t e (pair_beyond h r n few u 0 next next pair.objective pair.tag size (omega arith) place (rw (same, fine, short) at f))
+          relayed t e (pair_beyond h r n few u 0 next next pair.objective pair.tag size (omega arith) place (rw (same, fine, short) at f))
           (rw (fine, short) at run) (cc) (cc) (cc) (cc)
 
-      opened : ltb m 5 ≡ false → (x : OpeningRead) → opening_at old at ≡ x → P (flood_by old m x)
-      opened t (OpeningRead.Bad place) e = λ q. absurd (no_shape q)
-      opened t (OpeningRead.Got opening next) e = by (pair_at old next) refl
+      opened : ltb m 5 ≡ false → (x : Before Opening) → opening_at old at ≡ x → P (flood_by old m x)
+      opened t (Err d) e = λ q. absurd (no_shape q)
+      opened t (Ok (opening, next)) e = by (pair_at old next) refl
         where
-          by : (x : PairRead) → pair_at old next ≡ x → P (flooded_of old opening (m - 4) next x)
-          by (PairRead.Bad place) f = λ q. absurd (no_shape q)
-          by (PairRead.Got o tag size bad long) f = ran t e f (pairs_from old (m - 4 - 1) (next + size) bad long) refl
+          by : (x : Read Pair) → pair_at old next ≡ x → P (flooded_of old opening (m - 4) next x)
+          by (Err e) f = λ q. absurd (no_shape q)
+          by (Ok r) f = passed t e {first = r.value} f (pairs_from old (m - 4 - 1) (next + r.size) r.bad r.long) refl
 
   -- ---- the whole
   abbrev array : Token
@@ -294,14 +303,14 @@ module _ (u h r : List ℕ) (n : ℕ) where
     pub message : Message
     pub rest : ℕ
     pub sized : end ≡ length u + length h + rest
-    pub read : examined new ≡ E.Accepted message (length u + length (head 0 n) + rest)
+    pub read : examined new ≡ accepted message (length u + length (head 0 n) + rest)
     pub relays : Relays old m o new message
 
   -- so it is where its shape is
   whole : (m : Message) (make : Objective → Message) (o : Objective) (end : ℕ) (i : Span) → Led old m end → kind.arg ≤ 9
       → ShapeRecounted kind.next i (by_kind new kind.arg array.arg kind.next) make end
       → ((o' : Objective) → held new i ≡ held old i → o'.count ≡ n → Relays old m o new (make o')) → MessageRecounted m o end
-  unfolding examined judged_shape pick
+  unfolding examined judged_shape clear pick
   whole m make o end i l known c relays =
       let four : array.major ≡ 4 = is_array array (eqb-false (items_in array) 0 l.filled) in
       let none : kind.major ≡ 0 = eqb-true kind.major 0 l.number in
@@ -320,7 +329,7 @@ module _ (u h r : List ℕ) (n : ℕ) where
   of_kind_lem : (m : Message) (end : ℕ) → Led old m end → OfKind kind.arg m × MessageParts old m
   of_kind_lem m end l = subst (ShapeParts old kind.arg) l.shape (kind_parts old kind.arg array.arg kind.next)
 
-  pub message_recounted : {m : Message} {o : Objective} (end : ℕ) → Lowers m o → CountAt u h 0 o → n ≡ o.count - 1 → examined old ≡ E.Accepted m end
+  pub message_recounted : {m : Message} {o : Objective} (end : ℕ) → Lowers m o → CountAt u h 0 o → n ≡ o.count - 1 → examined old ≡ accepted m end
       → MessageRecounted m o end
   unfolding by_kind session_of initiator_of pick
   message_recounted end (Lowers.discovery {session} {i} {o}) place lower q =

@@ -10,13 +10,15 @@ use native.Mathlib.Omega.{arith}
 use borrow.Author.Tests.{ne_eqb}
 use lib.ListN.{length, get_or}
 use lib.Seq.{sets, get_or-append-add}
+use Rattle.options.specs.Text.{Noted}
+use Rattle.std.specs.Prelude.{Some, None}
+use Rattle.options.specs.Pair.{paired}
 use Rattle.base.specs.Pick.{pick}
 use Rattle.cbor.specs.Item.{left_under}
 use Rattle.cbor.specs.Tree.{Items, depth, depths}
 use Rattle.options.specs.declared.locator.Locator.TheVariants as L
 use Rattle.options.specs.declared.objective.Objective.{Objective}
-use Rattle.options.specs.declared.pair.Tag.{Tag}
-use Rattle.options.specs.declared.pair.PairRead.{PairRead}
+use Rattle.options.specs.Pair.{Tag}
 use Rattle.options.specs.Locator.{locator_numbers}
 use Rattle.options.specs.Pair.{pair_at, five, tag_numbers, pair_numbers}
 use Rattle.options.proofs.Fits.{pair_within}
@@ -40,11 +42,11 @@ use Rattle.writer_laws.proofs.Locators.{locator_told}
 -- a tag has five numbers
 tag_five : (tag : Tag) → five (tag_numbers tag) ≡ tag_numbers tag
 unfolding tag_numbers locator_numbers
-tag_five Tag.Empty = refl
-tag_five (Tag.At (L.V6 at protocol port)) = refl
-tag_five (Tag.At (L.V4 at protocol port)) = refl
-tag_five (Tag.At (L.Domain name protocol port)) = refl
-tag_five (Tag.At (L.Uri uri protocol port)) = refl
+tag_five None = refl
+tag_five (Some (L.V6 at protocol port)) = refl
+tag_five (Some (L.V4 at protocol port)) = refl
+tag_five (Some (L.Domain name protocol port)) = refl
+tag_five (Some (L.Uri uri protocol port)) = refl
 
 -- a pair's row has so many numbers
 pub pair_twelve : (o : Objective) (tag : Tag) → length (R.pair_cells o tag) ≡ pair_row
@@ -71,7 +73,7 @@ abbrev TagTold : List ℕ → List ℕ → Option Loc → Type 0
 TagTold s = Tells locator_row_at (loc_or_none s) (λ p. Blank p ⊎ LocatorRowSays s p)
 
 -- none
-tag_empty : (m rest : List ℕ) → TagTold m (tag_numbers Tag.Empty ++ rest) none
+tag_empty : (m rest : List ℕ) → TagTold m (tag_numbers None ++ rest) none
 unfolding tag_numbers locator_row_at loc_or_none pick
 tag_empty m rest = (refl, inl (record { kind = refl; at = refl; len = refl; protocol = refl; port = refl }))
 
@@ -106,15 +108,15 @@ module _ (s : List ℕ) where
   Pairs = Chain pair_row (R.pair_next s) (R.pair_stored s) PairTold
 
   -- one row
-  pair_row_lem : (p : ℕ) {o : Objective} {tag : Tag} {size bad long : ℕ} (i : ℕ) (list : List ℕ) → pair_at s p ≡ PairRead.Got o tag size bad long
+  pair_row_lem : (p : ℕ) {o : Objective} {tag : Tag} {size : ℕ} {bad long : Noted} (i : ℕ) (list : List ℕ) → pair_at s p ≡ paired o tag size bad long
       → R.pair_stored s p i list ≡ sets list (pair_row * i) (R.pair_cells o tag)
   unfolding R.pair_stored R.pair_stored_from
   pair_row_lem p i list e = ap (R.pair_stored_from i list) e
 
   -- and what comes after it
-  pair_next_lem : (p : ℕ) {e : ℕ} {o : Objective} {tag : Tag} {bad long : ℕ} → pair_at s p ≡ PairRead.Got o tag (e - p) bad long → R.pair_next s p ≡ e
+  pair_next_lem : (p : ℕ) {e : ℕ} {o : Objective} {tag : Tag} {bad long : Noted} → pair_at s p ≡ paired o tag (e - p) bad long → R.pair_next s p ≡ e
   unfolding R.pair_next R.pair_next_from
-  pair_next_lem p {e} {o} {tag} {bad} {long} q = ap (R.pair_next_from p) q ∙ omega (arith, (pair_within s p p _ (PairRead.Got o tag (e - p) bad long) refl q).1)
+  pair_next_lem p {e} {o} {tag} {bad} {long} q = ap (R.pair_next_from p) q ∙ omega (arith, (pair_within s p p _ (paired o tag (e - p) bad long) refl q).1)
 
   -- what the numbers of a pair that was read tell
   pair_told : {p : ℕ} {o : Objective} {tag : Tag} {pair : Pair Value} → PairIs s p o tag pair → (rest : List ℕ)

@@ -11,6 +11,13 @@ use lib.Dec.{ltb, eqb, lit<}
 use lib.ListN.{length, take, drop, length-drop}
 use lib.Seq.{drop-append-le, drop-append_seam, drop-append-add, take-append-le}
 use borrow.Author.Tests.{ltb-false, eqb-true, eqb-false, le-leb, le-ltb}
+use Rattle.options.specs.Text.{Noted}
+use Rattle.std.specs.Prelude.{Some, None}
+use Rattle.std.specs.Prelude.{Ok, Err}
+use Rattle.options.proofs.Same.{part_same, paired_same}
+use Rattle.options.specs.Part.{Read, departs, part}
+use Rattle.options.specs.declared.pair.Pair.{Pair}
+use Rattle.options.specs.Pair.{paired}
 use Rattle.base.specs.Pick.{pick}
 use Rattle.base.proofs.Picks.{pick-case, both}
 use Rattle.cbor.specs.declared.token.Token.{Token}
@@ -22,11 +29,8 @@ use Rattle.cbor.proofs.Kept.{token_kept}
 use Rattle.cbor.proofs.Tokens.{token_is, token_has, is_array, is_number, Shifted, token_first}
 use Rattle.options.specs.declared.Span.{Span}
 use Rattle.options.specs.declared.objective.Objective.{Objective}
-use Rattle.options.specs.declared.objective.ObjectiveRead.{ObjectiveRead}
 use Rattle.options.specs.declared.locator.Locator.{Locator}
-use Rattle.options.specs.declared.locator.LocatorRead.{LocatorRead}
-use Rattle.options.specs.declared.pair.Tag.{Tag}
-use Rattle.options.specs.declared.pair.PairRead.{PairRead}
+use Rattle.options.specs.Pair.{Tag}
 use Rattle.options.specs.Text.{first_of, held, content_of, content_in, bad_text}
 use Rattle.options.specs.Objective.{long_name, objective_from, objective_named, objective_in}
 use Rattle.options.specs.Locator.{locator_in}
@@ -82,24 +86,25 @@ further {u = u} {n = n} p read' answer' then x =
     }
 
 -- a departure is no objective, and no pair
-no_objective : {place : ℕ} {o : Objective} {size : ℕ} → ObjectiveRead.Bad place ≡ ObjectiveRead.Got o size 0 0 → ⊥
+no_objective : {place : ℕ} {o : Objective} {size : ℕ} → departs place ≡ part o size None None → ⊥
 no_objective q = let z : ◌≡◌ {A = ℕ} 0 1 = cc in omega arith
 
-no_pair : {place : ℕ} {o : Objective} {t : Tag} {size : ℕ} → PairRead.Bad place ≡ PairRead.Got o t size 0 0 → ⊥
+no_pair : {place : ℕ} {o : Objective} {t : Tag} {size : ℕ} → departs place ≡ paired o t size None None → ⊥
 no_pair q = let z : ◌≡◌ {A = ℕ} 0 1 = cc in omega arith
 
 -- a pair without fault is of an objective without fault
-tail_none : (base : ℕ) (s : List ℕ) (at : ℕ) (o o' : Objective) (bad long : ℕ) {t : Tag} {size : ℕ}
-    → pair_tail base s at o bad long ≡ PairRead.Got o' t size 0 0 → (o ≡ o') × (bad ≡ 0) × (long ≡ 0)
+tail_none : (base : ℕ) (s : List ℕ) (at : ℕ) (o o' : Objective) (bad long : Noted) {t : Tag} {size : ℕ}
+    → pair_tail base s at o bad long ≡ paired o' t size None None → (o ≡ o') × (bad ≡ None) × (long ≡ None)
 unfolding pair_tail pair_tagged
-tail_none base s at o o' bad long {t} {size} = both P (is_empty (token_at s at)) (λ q. (cc, cc, cc)) (by (locator_in (base + at) (drop at s)))
+tail_none base s at o o' bad long {t} {size} = both P (is_empty (token_at s at)) (λ q. let (same, _, _, bad, long) = paired_same q in (same, bad, long)) (by
+    (locator_in (base + at) (drop at s)))
   where
-    P : PairRead → Type 0
-    P x = x ≡ PairRead.Got o' t size 0 0 → (o ≡ o') × (bad ≡ 0) × (long ≡ 0)
+    P : Read Pair → Type 0
+    P x = x ≡ paired o' t size None None → (o ≡ o') × (bad ≡ None) × (long ≡ None)
 
-    by : (x : LocatorRead) → P (pair_tagged at o bad long x)
-    by (LocatorRead.Bad place) q = absurd (no_pair q)
-    by (LocatorRead.Got l size' bad') q = (cc, (none_first bad bad' (cc)).0, cc)
+    by : (x : Read Locator) → P (pair_tagged at o bad long x)
+    by (Err e) q = absurd (no_pair q)
+    by (Ok l) q = let (same, _, _, none, long) = paired_same q in (same, (none_first bad l.bad none).0, long)
 
 -- the head of the count and what follows it, and another count
 module _ (h r : List ℕ) (n : ℕ) where
@@ -124,16 +129,16 @@ module _ (h r : List ℕ) (n : ℕ) where
 
   -- the second item of a pair, after an objective
   tail_recounted : (u : List ℕ) (base : ℕ) (o o' : Objective) (rest : ℕ) {t : Tag} {size : ℕ}
-      → pair_tail base (old u) (length u + length h + rest) o 0 0 ≡ PairRead.Got o t size 0 0
+      → pair_tail base (old u) (length u + length h + rest) o None None ≡ paired o t size None None
       → (t' : Tag) × (rest' : ℕ) × (size ≡ length u + length h + rest')
-      × (pair_tail base (new u) (length u + length (head 0 n) + rest) o' 0 0 ≡ PairRead.Got o' t' (length u + length (head 0 n) + rest') 0 0)
-  unfolding pair_tail pair_tagged is_empty first_of pick
+      × (pair_tail base (new u) (length u + length (head 0 n) + rest) o' None None ≡ paired o' t' (length u + length (head 0 n) + rest') None None)
+  unfolding pair_tail pair_tagged is_empty pick
   tail_recounted u base o o' rest {t} {size} =
       pick-case P (is_empty w)
       (λ e q.
       let there : first.major ≡ 8 → ⊥ = λ none. omega (arith, here.major, (empty_is w e).0) in
-      let all : w.next ≡ size = cc in (
-        Tag.Empty,
+      let all : w.next ≡ size = (paired_same q).2 in (
+        None,
         rest + first.next,
         omega (arith, here.next there),
         rw (same ∙ e, moved.next there, add_assoc (length u + length (head 0 n)) rest first.next),
@@ -164,21 +169,22 @@ module _ (h r : List ℕ) (n : ℕ) where
       Found : Type 0
       Found =
           (t' : Tag) × (rest' : ℕ) × (size ≡ length u + length h + rest')
-          × (pair_tail base (new u) at' o' 0 0 ≡ PairRead.Got o' t' (length u + length (head 0 n) + rest') 0 0)
+          × (pair_tail base (new u) at' o' None None ≡ paired o' t' (length u + length (head 0 n) + rest') None None)
 
-      P : PairRead → Type 0
-      P x = x ≡ PairRead.Got o t size 0 0 → Found
+      P : Read Pair → Type 0
+      P x = x ≡ paired o t size None None → Found
 
-      found : is_empty w ≡ false → (l : Locator) (size₁ : ℕ) → at + size₁ ≡ size → locator_in (base + at') (drop at (old u)) ≡ LocatorRead.Got l size₁ 0 → Found
-      found e l size₁ all g = (Tag.At l, rest + size₁, omega arith, rw (same ∙ e, rest_kept u rest, g, add_assoc (length u + length (head 0 n)) rest size₁))
+      found : is_empty w ≡ false → (l : Locator) (size₁ : ℕ) → at + size₁ ≡ size → locator_in (base + at') (drop at (old u)) ≡ part l size₁ None None → Found
+      found e l size₁ all g = (Some l, rest + size₁, omega arith, rw (same ∙ e, rest_kept u rest, g, add_assoc (length u + length (head 0 n)) rest size₁))
 
-      by : is_empty w ≡ false → (x : LocatorRead) → locator_in (base + at) (drop at (old u)) ≡ x → P (pair_tagged at o 0 0 x)
-      by e (LocatorRead.Bad place) f = λ q. absurd (no_pair q)
-      by e (LocatorRead.Got l size₁ bad) f =
+      by : is_empty w ≡ false → (x : Read Locator) → locator_in (base + at) (drop at (old u)) ≡ x → P (pair_tagged at o None None x)
+      by e (Err d) f = λ q. absurd (no_pair q)
+      by e (Ok l) f =
           λ q.
-          let (l', g) = subst (λ (x : LocatorRead). LocatorMoves x (locator_in (base + at') (drop at (old u)))) f
-          (locator_moves (base + at) (base + at') (drop at (old u))) (cc) in
-          found e l' size₁ (cc) g
+          let (_, _, all, none, _) = paired_same q in
+          let (l', g) = subst (λ (x : Read Locator). LocatorMoves x (locator_in (base + at') (drop at (old u)))) f
+          (locator_moves (base + at) (base + at') (drop at (old u))) none in
+          found e l' l.size all g
 
   -- a count of a byte
   module _ (few : n ≤ 255) where
@@ -194,16 +200,16 @@ module _ (h r : List ℕ) (n : ℕ) where
 
     -- an objective from its name on, which stands at `at`
     named_recounted : (u : List ℕ) (levels base items at : ℕ) (o : Objective) (size : ℕ) → CountAt u h base o
-        → objective_named levels base (old u) items (token_at (old u) at) ≡ ObjectiveRead.Got o size 0 0
+        → objective_named levels base (old u) items (token_at (old u) at) ≡ part o size None None
         → ((token_at (old u) at).next ≤ length u)
-        × Recounted u h n (objective_named levels base (new u) items (token_at (old u) at)) (λ o e. ObjectiveRead.Got o e 0 0) size
+        × Recounted u h n (objective_named levels base (new u) items (token_at (old u) at)) (λ o e. part o e None None) size
     unfolding objective_named objective_from size_at up_to pick
     named_recounted u levels base items at o size place =
         pick-case P (ltb 15 (up_to 15 f)) (λ _ q. absurd (no_objective q))
         (λ t₁. pick-case P (ltb 255 (up_to 255 c)) (λ _ q. absurd (no_objective q))
-        (λ _. pick-case P (eqb items 3) (λ t₂ q. got t₁ 0 (cc) (let all : c.next ≡ size = cc in omega arith) (cc) (cc) (rw (t₂, add-zero)))
+        (λ _. pick-case P (eqb items 3) (λ t₂ q. let (made, all, bad, long) = part_same q in got t₁ 0 made (omega arith) bad long (rw (t₂, add-zero)))
         (λ t₂. pick-case P (eqb (size_at levels (old u) c.next) 0) (λ _ q. absurd (no_objective q))
-        (λ t₃ q. got t₁ (size_at levels (old u) c.next) (cc) (cc) (cc) (cc) (rw (t₂, t₃))))))
+        (λ t₃ q. let (made, all, bad, long) = part_same q in got t₁ (size_at levels (old u) c.next) made all bad long (rw (t₂, t₃))))))
       where
         m : Token
         m = token_at (old u) at
@@ -218,20 +224,20 @@ module _ (h r : List ℕ) (n : ℕ) where
         made rest = objective_from base m (up_to 15 f) (counted u) n rest
 
         Found : Type 0
-        Found = (m.next ≤ length u) × Recounted u h n (objective_named levels base (new u) items m) (λ o e. ObjectiveRead.Got o e 0 0) size
+        Found = (m.next ≤ length u) × Recounted u h n (objective_named levels base (new u) items m) (λ o e. part o e None None) size
 
-        P : ObjectiveRead → Type 0
-        P x = x ≡ ObjectiveRead.Got o size 0 0 → Found
+        P : Read Objective → Type 0
+        P x = x ≡ part o size None None → Found
 
         -- what is left to be tested
-        last : ℕ → ObjectiveRead
+        last : ℕ → Read Objective
         last value =
-            pick (eqb items 3) (ObjectiveRead.Got (made 0) (counted u).next 0 0)
-            (pick (eqb value 0) (ObjectiveRead.Bad (base + (counted u).next)) (ObjectiveRead.Got (made value) ((counted u).next + value) 0 0))
+            pick (eqb items 3) (part (made 0) (counted u).next None None)
+            (pick (eqb value 0) (departs (base + (counted u).next)) (part (made value) ((counted u).next + value) None None))
 
         got : ltb 15 (up_to 15 f) ≡ false → (rest : ℕ) → objective_from base m (up_to 15 f) c (up_to 255 c) rest ≡ o → c.next + rest ≡ size
-            → bad_text (content_in (old u) m) (base + m.at) ≡ 0 → long_name m (base + m.at) ≡ 0
-            → last (size_at levels (old u) c.next) ≡ ObjectiveRead.Got (made rest) (length u + length (head 0 n) + rest) 0 0 → Found
+            → bad_text (content_in (old u) m) (base + m.at) ≡ None → long_name m (base + m.at) ≡ None
+            → last (size_at levels (old u) c.next) ≡ part (made rest) (length u + length (head 0 n) + rest) None None → Found
         got t rest is all fine short chosen =
             let (flags, _) = is_number 15 f (ltb-false 15 (up_to 15 f) t) in
             let here : f.next ≡ length u = omega (arith, (token_is (old u) f.next c refl).here, ap (λ (x : Objective). x.count_at) is, place.from) in
@@ -263,8 +269,8 @@ module _ (h r : List ℕ) (n : ℕ) where
 
     -- an objective
     objective_recounted : (u : List ℕ) (levels base : ℕ) (o : Objective) (size : ℕ) → CountAt u h base o
-        → objective_in levels base (old u) ≡ ObjectiveRead.Got o size 0 0
-        → Recounted u h n (objective_in levels base (new u)) (λ o e. ObjectiveRead.Got o e 0 0) size
+        → objective_in levels base (old u) ≡ part o size None None
+        → Recounted u h n (objective_in levels base (new u)) (λ o e. part o e None None) size
     unfolding objective_in pick
     objective_recounted u levels base o size place =
         pick-case P (eqb (items_in a) 0) (λ _ q. absurd (no_objective q))
@@ -280,12 +286,12 @@ module _ (h r : List ℕ) (n : ℕ) where
         m : Token
         m = token_at (old u) a.next
 
-        P : ObjectiveRead → Type 0
-        P x = x ≡ ObjectiveRead.Got o size 0 0 → Recounted u h n (objective_in levels base (new u)) (λ o e. ObjectiveRead.Got o e 0 0) size
+        P : Read Objective → Type 0
+        P x = x ≡ part o size None None → Recounted u h n (objective_in levels base (new u)) (λ o e. part o e None None) size
 
         shown : eqb (items_in a) 0 ≡ false → eqb m.major 3 ≡ true → ltb a.arg 3 ≡ false → ltb 4 a.arg ≡ false
-            → (m.next ≤ length u) × Recounted u h n (objective_named levels base (new u) a.arg m) (λ o e. ObjectiveRead.Got o e 0 0) size
-            → Recounted u h n (objective_in levels base (new u)) (λ o e. ObjectiveRead.Got o e 0 0) size
+            → (m.next ≤ length u) × Recounted u h n (objective_named levels base (new u) a.arg m) (λ o e. part o e None None) size
+            → Recounted u h n (objective_in levels base (new u)) (λ o e. part o e None None) size
         shown t₁ t₂ t₃ t₄ (low, x) =
             let four : a.major ≡ 4 = is_array a (eqb-false (items_in a) 0 t₁) in
             let three : m.major ≡ 3 = eqb-true m.major 3 t₂ in
@@ -294,8 +300,8 @@ module _ (h r : List ℕ) (n : ℕ) where
 
     -- an objective that stands p bytes further on
     pub objective_beyond : (u : List ℕ) (levels base base' p : ℕ) (o : Objective) (size : ℕ) → base' ≡ base + p → CountAt u h base o
-        → objective_in levels base' (drop p (old u)) ≡ ObjectiveRead.Got o size 0 0
-        → (p ≤ length u) × Recounted (drop p u) h n (objective_in levels base' (drop p (new u))) (λ o e. ObjectiveRead.Got o e 0 0) size
+        → objective_in levels base' (drop p (old u)) ≡ part o size None None
+        → (p ≤ length u) × Recounted (drop p u) h n (objective_in levels base' (drop p (new u))) (λ o e. part o e None None) size
     objective_beyond u levels base base' p o size e place got =
         let within : p ≤ length u = omega (arith, (objective_within levels (old u) base' p _ _ refl got).3, place.from) in (
           within,
@@ -304,8 +310,8 @@ module _ (h r : List ℕ) (n : ℕ) where
         )
 
     -- a pair
-    pair_recounted : (u : List ℕ) (base : ℕ) (o : Objective) (t : Tag) (size : ℕ) → CountAt u h base o → pair_in base (old u) ≡ PairRead.Got o t size 0 0
-        → (t' : Tag) × Recounted u h n (pair_in base (new u)) (λ o e. PairRead.Got o t' e 0 0) size
+    pair_recounted : (u : List ℕ) (base : ℕ) (o : Objective) (t : Tag) (size : ℕ) → CountAt u h base o → pair_in base (old u) ≡ paired o t size None None
+        → (t' : Tag) × Recounted u h n (pair_in base (new u)) (λ o e. paired o t' e None None) size
     unfolding pair_in pair_led pick
     pair_recounted u base o t size place =
         pick-case P (eqb (items_in a) 0) (λ _ q. absurd (no_pair q)) (λ t₁. led t₁ (objective_in pair_levels (base + a.next) (drop a.next (old u))) refl)
@@ -313,14 +319,14 @@ module _ (h r : List ℕ) (n : ℕ) where
         a : Token
         a = token_at (old u) 0
 
-        P : PairRead → Type 0
-        P x = x ≡ PairRead.Got o t size 0 0 → (t' : Tag) × Recounted u h n (pair_in base (new u)) (λ o e. PairRead.Got o t' e 0 0) size
+        P : Read Pair → Type 0
+        P x = x ≡ paired o t size None None → (t' : Tag) × Recounted u h n (pair_in base (new u)) (λ o e. paired o t' e None None) size
 
         -- after its objective
-        tailed : eqb (items_in a) 0 ≡ false → eqb a.arg 2 ≡ true → (size₁ : ℕ) → pair_tail base (old u) (a.next + size₁) o 0 0 ≡ PairRead.Got o t size 0 0
+        tailed : eqb (items_in a) 0 ≡ false → eqb a.arg 2 ≡ true → (size₁ : ℕ) → pair_tail base (old u) (a.next + size₁) o None None ≡ paired o t size None None
             → (a.next ≤ length u) × Recounted (drop a.next u) h n (objective_in pair_levels (base + a.next) (drop a.next (new u)))
-            (λ o e. ObjectiveRead.Got o e 0 0) size₁
-            → (t' : Tag) × Recounted u h n (pair_in base (new u)) (λ o e. PairRead.Got o t' e 0 0) size
+            (λ o e. part o e None None) size₁
+            → (t' : Tag) × Recounted u h n (pair_in base (new u)) (λ o e. paired o t' e None None) size
         tailed t₁ t₂ size₁ q (within, x) =
             let from : a.next + size₁ ≡ length u + length h + x.rest = omega (arith, x.sized, length-drop a.next u) in
             let to : a.next + (length (drop a.next u) + length (head 0 n) + x.rest) ≡ length u + length (head 0 n) + x.rest =
@@ -329,21 +335,21 @@ module _ (h r : List ℕ) (n : ℕ) where
             let (t', rest, sized, is) = tail_recounted u base o x.objective x.rest (rw from at q) in
             (t', record { rest = rest; objective = x.objective; sized = sized; is = rw (first, t₁, x.is, t₂, to) is; count = x.count })
 
-        led : eqb (items_in a) 0 ≡ false → (x : ObjectiveRead) → objective_in pair_levels (base + a.next) (drop a.next (old u)) ≡ x
+        led : eqb (items_in a) 0 ≡ false → (x : Read Objective) → objective_in pair_levels (base + a.next) (drop a.next (old u)) ≡ x
             → P (pair_led base (old u) a.arg a.next x)
-        led t₁ (ObjectiveRead.Bad place) e = λ q. absurd (no_pair q)
-        led t₁ (ObjectiveRead.Got o₁ size₁ bad long) e =
+        led t₁ (Err d) e = λ q. absurd (no_pair q)
+        led t₁ (Ok got) e =
             pick-case P (eqb a.arg 2)
             (λ t₂ q.
-            let (same, fine, short) = tail_none base (old u) (a.next + size₁) o₁ o bad long q in
-            tailed t₁ t₂ size₁ (rw (same, fine, short) at q)
-            (objective_beyond u pair_levels base (base + a.next) a.next o size₁ refl place (rw (same, fine, short) at e)))
+            let (same, fine, short) = tail_none base (old u) (a.next + got.size) got.value o got.bad got.long q in
+            tailed t₁ t₂ got.size (rw (same, fine, short) at q)
+            (objective_beyond u pair_levels base (base + a.next) a.next o got.size refl place (rw (same, fine, short) at e)))
             (λ _ q. absurd (no_pair q))
 
     -- a pair that stands p bytes further on
     pub pair_beyond : (u : List ℕ) (base base' p : ℕ) (o : Objective) (t : Tag) (size : ℕ) → base' ≡ base + p → CountAt u h base o
-        → pair_in base' (drop p (old u)) ≡ PairRead.Got o t size 0 0
-        → (p ≤ length u) × (t' : Tag) × Recounted (drop p u) h n (pair_in base' (drop p (new u))) (λ o e. PairRead.Got o t' e 0 0) size
+        → pair_in base' (drop p (old u)) ≡ paired o t size None None
+        → (p ≤ length u) × (t' : Tag) × Recounted (drop p u) h n (pair_in base' (drop p (new u))) (λ o e. paired o t' e None None) size
     pair_beyond u base base' p o t size e place got =
         let within : p ≤ length u = omega (arith, (pair_within (old u) base' p _ _ refl got).3, place.from) in
         let (t', x) = pair_recounted (drop p u) base' o t size (count_beyond p within e place) (rw (drop-append-le p u (h ++ r) within) at got) in

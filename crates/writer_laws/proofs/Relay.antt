@@ -2,6 +2,7 @@
 -- read as the same message with that count one lower; it isn't longer, and it is what the writer writes for that
 -- message. For readers: each statement at the end stands alone.
 -- Assumes nothing.
+use Rattle.std.specs.Prelude.{Ok}
 use mathlib.Core.Path.{◌≡◌, refl, sym, ap, ◌∙◌, subst}
 use mathlib.Core.List.{List, [], ◌∷◌, ◌++◌, flat_map, append_assoc}
 use Prim.Native.Nat.{ℕ, ◌+◌, ◌-◌, ◌≤◌}
@@ -18,7 +19,6 @@ use Rattle.rfc8990.specs.Message.{Msg}
 use Rattle.rfc8990.specs.Cddl.{Value}
 use Rattle.rfc8990.specs.Limits.{TextsGood, NamesGood, texts_of, names_of, pair_texts}
 use Rattle.message.specs.declared.Message.{Message}
-use Rattle.reader.specs.declared.Reading.{Reading}
 use Rattle.rfc8990.specs.Limits.{most_bytes}
 use Rattle.message.specs.Examined.{examined}
 use Rattle.reader.specs.Read.{read_of}
@@ -81,7 +81,7 @@ module _ (s : List ℕ) (o : Objective) (h : ObjectiveParts (length s) o) where
 
   -- so it is read, where it is with the new count
   reads_lower : {m : Message} → MessageRecounted (before s o) (between s o) (drop o.value.at s) (o.count - 1) m o (length s) → length s ≤ most_bytes
-      → (m' : Message) × (read_of (onward s o) ≡ Reading.Read m') × Relays s m o (onward s o) m'
+      → (m' : Message) × (read_of (onward s o) ≡ Ok m') × Relays s m o (onward s o) m'
   unfolding lowered head
   reads_lower {m} x most =
       let r : List ℕ = drop o.value.at s in
@@ -89,10 +89,10 @@ module _ (s : List ℕ) (o : Objective) (h : ObjectiveParts (length s) o) where
       let is : new ≡ onward s o = sym (append_assoc (before s o) (head 0 (o.count - 1)) r) in
       let size : length s ≡ length (before s o) + (length (between s o) + length r) = sym (ap length spelt_whole) ∙ simp length-append in
       let size' : length new ≡ length (before s o) + (length (head 0 (o.count - 1)) + length r) = simp length-append in
-      let read : read_of new ≡ Reading.Read x.message =
+      let read : read_of new ≡ Ok x.message =
       sym (read_whole new (examined new) (omega (arith, shorter s o h, ap length is)) refl x.message _ x.read (omega (arith, x.sized))) in (
         x.message,
-        subst (λ (l : List ℕ). read_of l ≡ Reading.Read x.message) is read,
+        subst (λ (l : List ℕ). read_of l ≡ Ok x.message) is read,
         subst (λ (l : List ℕ). Relays l m o (onward s o) x.message) spelt_whole
             (subst (λ (l : List ℕ). Relays (before s o ++ (between s o ++ r)) m o l x.message) is x.relays),
       )
@@ -149,7 +149,7 @@ module _ {s : List ℕ} {at end n : ℕ} {msg : Msg Value} (h : Hole s at end n 
   )
 
 -- the count of a message that was read
-count_hole : (s : List ℕ) (m : Message) (o : Objective) → read_of s ≡ Reading.Read m → Lowers m o → (a : Accepted s)
+count_hole : (s : List ℕ) (m : Message) (o : Objective) → read_of s ≡ Ok m → Lowers m o → (a : Accepted s)
     → Hole s o.count_at o.value.at o.count a.message.msg
 count_hole s m o q low a =
     hole low (accepted_described s m q a) a.message.is a.message.one.good a.message.one.shallow a.message.one.bytes
@@ -157,14 +157,14 @@ count_hole s m o q low a =
 -- for readers
 
 -- It is accepted, as the same message with that count one lower.
-pub lowered_accepts : (s : List ℕ) (m : Message) (o : Objective) → read_of s ≡ Reading.Read m → Lowers m o → (a : Accepted s)
+pub lowered_accepts : (s : List ℕ) (m : Message) (o : Objective) → read_of s ≡ Ok m → Lowers m o → (a : Accepted s)
     → (a' : Accepted (onward s o)) × (a'.message.msg ≡ lower_msg a.message.msg)
 lowered_accepts s m o q low a =
     lowered_accepted (count_hole s m o q low a) (omega (arith, a.message.one.most, lowered_shorter s m o q low)) a.texts a.names
 
 -- It is read, with the kind, the session and the initiator that it had, and a count one lower.
-pub lowered_reads : (s : List ℕ) (m : Message) (o : Objective) → read_of s ≡ Reading.Read m → Lowers m o
-    → (m' : Message) × (read_of (onward s o) ≡ Reading.Read m') × Relays s m o (onward s o) m'
+pub lowered_reads : (s : List ℕ) (m : Message) (o : Objective) → read_of s ≡ Ok m → Lowers m o
+    → (m' : Message) × (read_of (onward s o) ≡ Ok m') × Relays s m o (onward s o) m'
 lowered_reads s m o q low =
     let (most, parts) = read_parts s m q in
     let h = lowers_parts s low parts in
@@ -174,7 +174,7 @@ lowered_reads s m o q low =
     most
 
 -- It is what the writer writes for that message.
-pub lowered_written : (s : List ℕ) (m : Message) (o : Objective) → read_of s ≡ Reading.Read m → Lowers m o → (a : Accepted s)
+pub lowered_written : (s : List ℕ) (m : Message) (o : Objective) → read_of s ≡ Ok m → Lowers m o → (a : Accepted s)
     → onward s o ≡ encode_msg (plain (lower_msg a.message.msg))
 lowered_written s m o q low a =
     let (a', same) = lowered_accepts s m o q low a in

@@ -1,6 +1,7 @@
 -- How long a list must be for the rows of any message: a locator and a pair have six bytes at least, and a message has
 -- 2,048 at most.
 -- Assumes nothing.
+use Rattle.std.specs.Prelude.{Ok}
 use mathlib.Core.Path.{◌≡◌}
 use mathlib.Core.List.{List}
 use Prim.Native.Nat.{ℕ, ◌+◌, ◌*◌, ◌/◌, ◌≤◌}
@@ -14,7 +15,6 @@ use Rattle.message.specs.declared.Message.{Message}
 use Rattle.message.specs.declared.Message.TheVariants as M
 use Rattle.message.specs.declared.Series.{Series}
 use Rattle.message.specs.declared.Targets.{Targets}
-use Rattle.reader.specs.declared.Reading.{Reading}
 use Rattle.rfc8990.specs.Limits.{most_bytes}
 use Rattle.reader.specs.Read.{read_of}
 use Rattle.message.proofs.Parts.{Six, MessageParts}
@@ -59,7 +59,7 @@ module _ (s : List ℕ) (few : length s ≤ most_bytes) (list : List ℕ) (long 
 -- for readers
 
 -- A list of so many numbers has room for the rows of every message.
-pub rows_fit : (s list : List ℕ) (m : Message) → read_of s ≡ Reading.Read m → most_numbers ≤ length list → R.rows_end m list ≤ length list
+pub rows_fit : (s list : List ℕ) (m : Message) → read_of s ≡ Ok m → most_numbers ≤ length list → R.rows_end m list ≤ length list
 rows_fit s list m q long =
     let (few, parts) = read_parts s m q in
     message_fit s few list long m parts

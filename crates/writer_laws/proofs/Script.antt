@@ -1,6 +1,7 @@
 -- What the writer writes, as a list of its pieces, and how two such lists that spell the same bytes agree from left to
 -- right.
 -- Assumes nothing.
+use Rattle.cbor.specs.Head.{a_head}
 use mathlib.Core.Path.{◌≡◌, refl, sym, ap, ap₂, ◌∙◌}
 use mathlib.Core.List.{List, [], ◌∷◌, ◌++◌, append_assoc, append_cancel_left}
 use mathlib.Core.Option.{Option}
@@ -12,12 +13,11 @@ use lib.ListN.{length, take, drop, get_or, length-append}
 use lib.Seq.{take_at, drop_at}
 use borrow.Author.Tests.{lt-ltb}
 use Rattle.base.specs.Pick.{pick}
-use Rattle.cbor.specs.declared.head.HeadRead.{HeadRead}
 use Rattle.cbor.specs.Head.{width_of, head_at}
 use Rattle.cbor.specs.Item.{most_levels}
 use Rattle.cbor.specs.Put.{head}
 use Rattle.cbor.specs.Tree.{Item, info_of, shortest, head_bytes, encode, depth, Good}
-use Rattle.cbor.proofs.HeadExact.{length_head, shortest_case}
+use Rattle.cbor.proofs.HeadExact.{length_head, shortest_case, same_head}
 use Rattle.cbor.proofs.PutExact.{head_reads_back}
 use Rattle.cbor.proofs.Unique.{unique}
 use Rattle.rfc8990.specs.Limits.{most_bytes}
@@ -78,10 +78,10 @@ module _ (m m' n n' : ℕ) (r r' : List ℕ) (e : head m n ++ r ≡ head m' n' +
       let same : head 0 n ++ r ≡ head 0 n' ++ r' = ap₂ (λ (info : ℕ) (l : List ℕ). (0 * 32 + info) ∷ l) first_same.1 (ap (drop 1) e) in
       let small : n' < 2 ^ 32 =
       elim (dec_lt n' (2 ^ 32)) [ yes l ↦ l | no l ↦ absurd (omega (arith, first_same.1, info_small n h, info_great n' (omega arith))) ] in
-      let first : head_at (head 0 n ++ r) ≡ HeadRead.Head 0 n (length (head 0 n)) = head_reads_back 0 n r (lit< tt) (omega arith) in
-      let second : head_at (head 0 n' ++ r') ≡ HeadRead.Head 0 n' (length (head 0 n')) = head_reads_back 0 n' r' (lit< tt) (omega arith) in
-      let whole : HeadRead.Head 0 n (length (head 0 n)) ≡ HeadRead.Head 0 n' (length (head 0 n')) = sym first ∙ ap head_at same ∙ second in
-      (first_same.0, cc)
+      let first : head_at (head 0 n ++ r) ≡ a_head 0 n (length (head 0 n)) = head_reads_back 0 n r (lit< tt) (omega arith) in
+      let second : head_at (head 0 n' ++ r') ≡ a_head 0 n' (length (head 0 n')) = head_reads_back 0 n' r' (lit< tt) (omega arith) in
+      let whole : a_head 0 n (length (head 0 n)) ≡ a_head 0 n' (length (head 0 n')) = sym first ∙ ap head_at same ∙ second in
+      (first_same.0, (same_head whole).1)
 
 -- ---- pieces
 -- the head of an array, a number, null, a string of a major type, and a value's bytes

@@ -2,23 +2,24 @@
 -- written as it was, and 18 is answered exactly where there is no message that the description says. For readers: each
 -- statement at the end stands alone.
 -- Assumes nothing.
+use Rattle.reader.specs.Read.{Reading}
 use mathlib.Core.Path.{◌≡◌, refl, sym, ◌∙◌, subst}
 use mathlib.Core.Logic.{◌↔◌}
 use mathlib.Core.Bool.{Bool, true, false, false≢true}
 use mathlib.Core.List.{List, ◌++◌}
 use Prim.Native.Nat.{ℕ, ◌≤◌, ◌<◌}
-use native.Mathlib.Omega.{arith}
 use lib.ListN.{length, take, drop}
 use Rattle.base.specs.Pick.{pick}
 use Rattle.base.specs.BigEndian.{Bytes}
 use Rattle.message.specs.declared.Message.{Message}
-use Rattle.reader.specs.declared.Reading.{Reading}
 use Rattle.rfc8990.specs.Limits.{most_bytes}
 use Rattle.reader.specs.Read.{read_of}
 use Rattle.rfc8990.specs.Accepted.{Accepted}
 use Rattle.reader.proofs.Exact.{accepted_exactly, accepted_bytes}
 use Rattle.description.specs.declared.Description.{Description}
-use Rattle.writer.specs.declared.Written.{Written}
+use Rattle.std.specs.Prelude.{Result, Ok, Err}
+use Rattle.base.specs.declared.refusal.Refusal.{Refusal}
+use Rattle.base.specs.declared.refusal.Refusal.TheVariants.{NoSuchMessage, WriteOutput}
 use Rattle.description.specs.Meaning.{msg_of}
 use Rattle.description.specs.Judge.{ok_described}
 use Rattle.writer.specs.Write.{accepted, accepts, hand_answer, hand_out, pass_answer, pass_out, draft_of, write_answer, write_out}
@@ -32,9 +33,9 @@ use Rattle.writer_laws.proofs.Judged.{described_exactly}
 use Rattle.writer_laws.proofs.Drafts.{draft_bytes}
 
 -- an answer that is a message
-accepted_is : (r : Reading) → accepted r ≡ true → (m : Message) × (r ≡ Reading.Read m)
-accepted_is (Reading.Refused number) h = absurd (let z : ◌≡◌ {A = ℕ} 0 1 = cc in omega arith)
-accepted_is (Reading.Read m) h = (m, refl)
+accepted_is : (r : Reading) → accepted r ≡ true → (m : Message) × (r ≡ Ok m)
+accepted_is (Err refusal) h = absurd cc
+accepted_is (Ok m) h = (m, refl)
 
 -- ---- the tests of `write` before its output's
 record Passes (source list : List ℕ) (d : Description) : Type 0 where
@@ -43,12 +44,12 @@ record Passes (source list : List ℕ) (d : Description) : Type 0 where
   read : accepts (draft_of source list d) ≡ true
 
 -- what holds of the answer and the output, where the tests are passed and where they aren't
-module _ (source list : List ℕ) (d : Description) (out : List ℕ) (P : Written → List ℕ → Type 0)
+module _ (source list : List ℕ) (d : Description) (out : List ℕ) (P : Result ℕ Refusal → List ℕ → Type 0)
     (f : Passes source list d → P (hand_answer (draft_of source list d) out) (hand_out (draft_of source list d) out))
-    (g : (Passes source list d → ⊥) → P (Written.Refused 18) out) where
+    (g : (Passes source list d → ⊥) → P (Err NoSuchMessage) out) where
   -- by the description's test
   by_test : (t : Bool) → ok_described source list d ≡ t
-      → P (pick t (pass_answer (accepts (draft_of source list d)) (draft_of source list d) out) (Written.Refused 18))
+      → P (pick t (pass_answer (accepts (draft_of source list d)) (draft_of source list d) out) (Err NoSuchMessage))
       (pick t (pass_out (accepts (draft_of source list d)) (draft_of source list d) out) out)
   unfolding pick
   by_test true e =
@@ -100,45 +101,45 @@ says_passes {s} source list d a h =
 -- for readers
 
 -- What `write` puts in front of the output is read back, as the message that was described.
-pub written_reads : (source list : List ℕ) (d : Description) (out : List ℕ) (n : ℕ) → Bytes source → write_answer source list d out ≡ Written.Length n
+pub written_reads : (source list : List ℕ) (d : Description) (out : List ℕ) (n : ℕ) → Bytes source → write_answer source list d out ≡ Ok n
     → ReadsBack source list d (take n (write_out source list d out))
 written_reads source list d out n b =
-    write_case source list d out (λ r o. r ≡ Written.Length n → ReadsBack source list d (take n o))
+    write_case source list d out (λ r o. r ≡ Ok n → ReadsBack source list d (take n o))
     (λ p e. subst (ReadsBack source list d) (sym (hand_front (draft_of source list d) out n e)) (passes_back source list d b p))
-    (λ _ e. absurd (let z : ◌≡◌ {A = ℕ} 0 1 = cc in omega arith))
+    (λ _ e. absurd cc)
 
 -- A description that says a message that was read is written as the bytes that were read, where the output has room for
 -- them.
 pub read_written : (s source list : List ℕ) (d : Description) (out : List ℕ) (a : Accepted s) → Says source list d (plain a.message.msg)
     → length s ≤ length out
-    → (write_answer source list d out ≡ Written.Length (length s)) × (write_out source list d out ≡ s ++ drop (length s) out)
+    → (write_answer source list d out ≡ Ok (length s)) × (write_out source list d out ≡ s ++ drop (length s) out)
 read_written s source list d out a h room =
-    write_case source list d out (λ r o. (r ≡ Written.Length (length s)) × (o ≡ s ++ drop (length s) out))
+    write_case source list d out (λ r o. (r ≡ Ok (length s)) × (o ≡ s ++ drop (length s) out))
     (λ p. rw (read_drafted s source list d a h.is) (handed s out room))
     (λ fails. absurd (fails (says_passes source list d a h)))
 
 -- 18 is answered exactly if there are no accepted bytes whose message the description says.
 pub refused_18 : (source list : List ℕ) (d : Description) (out : List ℕ) → Bytes source
-    → write_answer source list d out ≡ Written.Refused 18 ↔ (((s : List ℕ) × (a : Accepted s) × Says source list d (plain a.message.msg)) → ⊥)
+    → write_answer source list d out ≡ Err NoSuchMessage ↔ (((s : List ℕ) × (a : Accepted s) × Says source list d (plain a.message.msg)) → ⊥)
 refused_18 source list d out b = (
-  write_case source list d out (λ r o. r ≡ Written.Refused 18 → ((s : List ℕ) × (a : Accepted s) × Says source list d (plain a.message.msg)) → ⊥)
+  write_case source list d out (λ r o. r ≡ Err NoSuchMessage → ((s : List ℕ) × (a : Accepted s) × Says source list d (plain a.message.msg)) → ⊥)
       (λ p q _. hand_not_18 (draft_of source list d) out q)
       (λ fails q (s, a, h). fails (says_passes source list d a h)),
-  λ none. write_case source list d out (λ r o. r ≡ Written.Refused 18) (λ p. absurd (none (passes_says source list d b p))) (λ _. refl),
+  λ none. write_case source list d out (λ r o. r ≡ Err NoSuchMessage) (λ p. absurd (none (passes_says source list d b p))) (λ _. refl),
 )
 
 -- 19 is answered exactly if there are such bytes, and the output has no room for them.
 pub refused_19 : (source list : List ℕ) (d : Description) (out : List ℕ) → Bytes source
-    → write_answer source list d out ≡ Written.Refused 19
+    → write_answer source list d out ≡ Err WriteOutput
     ↔ ((s : List ℕ) × (a : Accepted s) × Says source list d (plain a.message.msg) × (length out < length s))
 refused_19 source list d out b = (
-  write_case source list d out (λ r o. r ≡ Written.Refused 19
+  write_case source list d out (λ r o. r ≡ Err WriteOutput
       → (s : List ℕ) × (a : Accepted s) × Says source list d (plain a.message.msg) × (length out < length s))
       (λ p q.
       let (s, a, h) = passes_says source list d b p in
       (s, a, h, rw (read_drafted s source list d a h.is) at ((hand_19 (draft_of source list d) out).0 q)))
-      (λ _ q. absurd (let z : ◌≡◌ {A = ℕ} 18 19 = cc in omega arith)),
-  λ (s, a, h, room). write_case source list d out (λ r o. r ≡ Written.Refused 19)
+      (λ _ q. absurd cc),
+  λ (s, a, h, room). write_case source list d out (λ r o. r ≡ Err WriteOutput)
       (λ p. rw (read_drafted s source list d a h.is) ((hand_19 s out).1 room))
       (λ fails. absurd (fails (says_passes source list d a h))),
 )

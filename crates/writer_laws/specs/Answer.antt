@@ -1,10 +1,10 @@
 -- A node's answer: what its arguments are, and what it is to be read as a message.
+use Rattle.std.specs.Prelude.{Ok}
 use Rattle.std.specs.Prelude.{ℕ, ◌^◌, ◌<◌, List, ◌≡◌, length}
 use Rattle.base.specs.BigEndian.{Bytes}
 use Rattle.rfc8990.specs.Message.{Msg}
 use Rattle.rfc8990.specs.Cddl.{Value}
 use Rattle.message.specs.declared.Message.{Message}
-use Rattle.reader.specs.declared.Reading.{Reading}
 use Rattle.reader.specs.Read.{read_of}
 use Rattle.rfc8990.specs.Accepted.{Accepted}
 use Rattle.message_laws.specs.Describes.{Describes}
@@ -23,5 +23,5 @@ pub record ReadAs (bs : List ℕ) (msg : Msg Value) : Type 0 where
   pub accepted : Accepted bs
   pub same : (a : Accepted bs) → a.message.msg ≡ msg
   pub message : Message
-  pub read : read_of bs ≡ Reading.Read message
+  pub read : read_of bs ≡ Ok message
   pub describes : Describes bs message msg

@@ -1,17 +1,17 @@
 -- What it means that a description says a message: its spans lie in the source, its rows are whole and of known kinds,
 -- a list is given only where the kind has one, and the message that it speaks of is that one. Whether there is such a
 -- message is not asked here.
+use Rattle.std.specs.Prelude.{Ok}
 use Rattle.std.specs.Prelude.{ℕ, ◌+◌, ◌*◌, ◌/◌, ◌%◌, ◌≤◌, ◌<◌, List, [], ◌⊎◌, ◌≡◌, length, get_or}
 use Rattle.options.specs.declared.Span.{Span}
 use Rattle.rfc8990.specs.Message.{Msg}
 use Rattle.message.specs.declared.Message.{Message}
-use Rattle.reader.specs.declared.Reading.{Reading}
 use Rattle.reader.specs.Read.{read_of}
 use Rattle.rfc8990.specs.Accepted.{Accepted}
 use Rattle.description.specs.declared.rows.ObjectiveRow.{ObjectiveRow}
 use Rattle.description.specs.declared.rows.LocatorRow.{LocatorRow}
-use Rattle.description.specs.declared.GivenExtra.{GivenExtra}
-use Rattle.description.specs.declared.GivenExtra.TheVariants as X
+use Rattle.std.specs.Prelude.{Option, Some, None}
+use Rattle.description.specs.declared.GivenObjective.{GivenObjective}
 use Rattle.options.specs.declared.outcome.Outcome.{Outcome}
 use Rattle.options.specs.declared.outcome.Outcome.TheVariants as E
 use Rattle.description.specs.declared.Description.{Description}
@@ -57,9 +57,9 @@ pub record Rows (list : List ℕ) (size : ℕ) (P : ℕ → Type 0) : Type 0 whe
   pub each : (i : ℕ) → i < length list / size → P i
 
 -- an objective that may be left out
-abbrev pub ExtraSays : List ℕ → GivenExtra → Type 0
-ExtraSays source X.Without = Unit {0}
-ExtraSays source (X.With o) = ObjectiveRowSays source (objective_row_of o)
+abbrev pub ExtraSays : List ℕ → Option GivenObjective → Type 0
+ExtraSays source None = Unit {0}
+ExtraSays source (Some o) = ObjectiveRowSays source (objective_row_of o)
 
 -- how a negotiation ends
 abbrev pub OutcomeSays : List ℕ → Outcome → Type 0
@@ -92,6 +92,6 @@ pub record Says (source list : List ℕ) (d : Description) (msg : Msg (List ℕ)
 pub record ReadsBack (source list : List ℕ) (d : Description) (bs : List ℕ) : Type 0 where
   pub draft : bs ≡ draft_of source list d
   pub message : Message
-  pub read : read_of bs ≡ Reading.Read message
+  pub read : read_of bs ≡ Ok message
   pub accepted : Accepted bs
   pub same : (a : Accepted bs) → plain a.message.msg ≡ msg_of source list d

@@ -1,47 +1,46 @@
--- `cbor::head::big_endian` meets its contract. The loop's invariant: the bytes passed spell `value`, a number of that
--- many bytes.
-use mathlib.Core.Path.{◌≡◌, refl}
+-- `cbor::head::big_endian` meets its contract.
+use mathlib.Core.Path.{◌≡◌, refl, sym, ◌∙◌}
+use Prim.Native.Nat.{◌≤◌}
 use native.Mathlib.Numerals.{add-one}
+use native.Mathlib.Nat.{le_refl}
 use native.Mathlib.Omega.{arith}
 use lib.Dec.{lit<}
-use Rattle.base.proofs.Digits.{below_more, below_word}
+use lib.Seq.{length-take-le, get_or-take}
+use Rattle.base.proofs.Digits.{below_more, below_word, front_read}
 use Rattle.base.specs.BigEndian.{big_endian}
 use Rattle.cbor.proofs.head.big_endian.Goals as goal
 
-pub overflow_cast-result : goal.overflow_cast-result
-overflow_cast-result c = omega (arith, c.type_inv.s 0)
-
 pub returns-then-n-eq1 : goal.returns-then-n-eq1
 unfolding big_endian
-returns-then-n-eq1 c = rw c.if-n-eq1.true (omega arith)
+returns-then-n-eq1 c = rw c.if-n-eq1.true (omega (arith, c.from.ensures))
 
 pub returns-then-n-eq2 : goal.returns-then-n-eq2
 unfolding big_endian
 returns-then-n-eq2 c = rw c.if-n-eq2.true (omega (arith, c.two.ensures))
 
-pub loop-i-init : goal.loop-i-init
+pub loop-b-init : goal.loop-b-init
 unfolding big_endian
-loop-i-init c = (omega arith, refl, omega arith)
+loop-b-init c = (refl, omega arith)
 
 pub overflow_mul-value : goal.overflow_mul-value
-overflow_mul-value c = omega (arith, below_word _ _ (omega arith) (below_more c.loop-i.i c.loop-i.value 0 c.loop-i.invariant.2 (lit< tt)))
+overflow_mul-value c =
+    let long = length-take-le c.args.n c.args.s.now c.requires.1 in
+    omega (arith, below_word _ _ (omega (arith, long, c.loop-b-test.true)) (below_more c.loop-b.b-index c.loop-b.value 0 c.loop-b.invariant.1 (lit< tt)))
 
-pub overflow_cast-value : goal.overflow_cast-value
-overflow_cast-value c = omega (arith, c.type_inv.s c.loop-i.i)
-
-pub overflow_add-value : goal.overflow_add-value
-overflow_add-value c = record {
-  fits = below_word _ _ (omega arith) (below_more c.loop-i.i c.loop-i.value _ c.loop-i.invariant.2
-      (c.type_inv.s c.loop-i.i).fits);
-}
-
-pub loop-i-preserved : goal.loop-i-preserved
+pub loop-b-preserved : goal.loop-b-preserved
 unfolding big_endian
-loop-i-preserved c =
-    let e = c.loop-i.invariant.1 in
-    (omega arith, rw (add-one) (cc), below_more c.loop-i.i c.loop-i.value _ c.loop-i.invariant.2 (c.type_inv.s c.loop-i.i).fits)
+loop-b-preserved c =
+    let e = c.loop-b.invariant.0 in
+    let long = length-take-le c.args.n c.args.s.now c.requires.1 in
+    let here = get_or-take c.args.n c.args.s.now c.loop-b.b-index 0 (omega (arith, long, c.loop-b-test.true)) in
+    let byte = c.type_inv.s c.loop-b.b-index in (
+      rw (add-one, c.from-in-loop-b.ensures) (cc),
+      below_more c.loop-b.b-index c.loop-b.value _ c.loop-b.invariant.1
+          (omega (arith, byte.fits, here, c.from-in-loop-b.ensures)),
+    )
 
 pub returns : goal.returns
 returns c =
-    let e : c.loop-i.i ≡ c.args.n = omega arith in
-    rw (← e) c.loop-i.invariant.1
+    let long = length-take-le c.args.n c.args.s.now c.requires.1 in
+    let e : c.loop-b.b-index ≡ c.args.n = omega (arith, long, c.loop-b-test.false) in
+    rw e at c.loop-b.invariant.0 ∙ front_read c.args.n c.args.n c.args.s.now (le_refl c.args.n)

@@ -3,8 +3,7 @@
 -- one.
 use Prim.Native.Nat.{◌-◌}
 use native.Mathlib.Omega.{arith}
-use Rattle.cbor.specs.Turn.{TurnIs}
-use Rattle.cbor.proofs.Turn.{begun, done, closed, fits, refused, passed, opened}
+use Rattle.cbor.proofs.Turn.{turn_passed, turn_opened, begun, done, closed, fits, stopped, passed, opened}
 use Rattle.cbor.proofs.item.first.Goals as goal
 
 pub loop-lacking-init : goal.loop-lacking-init
@@ -23,65 +22,56 @@ loop-lacking-preserved-then-lacking-eq0 c =
     c.if-lacking-eq0.true (omega arith)
 
 pub overflow_add-place : goal.overflow_add-place
-unfolding TurnIs
 overflow_add-place c =
     let inv = c.loop-lacking.invariant in
-    let ok = fits c.args.s.now (c.left_under-most.result - c.loop-lacking.depth) c.loop-lacking.at _ c.in-Refused.ensures in
+    let ok = fits c.args.s.now (c.left_under-most.result - c.loop-lacking.depth) c.loop-lacking.at _ c.in-Err.ensures in
     omega (arith, inv.within, inv.most_is, ok)
 
-pub returns-in-Refused : goal.returns-in-Refused
-unfolding TurnIs
-returns-in-Refused c =
-    refused _ _ _ c.loop-lacking.outer c.loop-lacking.depth c.loop-lacking.lacking c.loop-lacking.at c.loop-lacking.invariant c.if-lacking-eq0.false _ _
-    c.in-Refused.ensures
+pub returns-in-Err : goal.returns-in-Err
+returns-in-Err c =
+    stopped _ _ _ c.loop-lacking.outer c.loop-lacking.depth c.loop-lacking.lacking c.loop-lacking.at c.loop-lacking.invariant c.if-lacking-eq0.false _ _
+    c.in-Err.ensures
 
 pub overflow_add-at : goal.overflow_add-at
-unfolding TurnIs
 overflow_add-at c =
     let inv = c.loop-lacking.invariant in
-    let ok = fits c.args.s.now (c.left_under-most.result - c.loop-lacking.depth) c.loop-lacking.at _ c.in-Passed.ensures in
+    let ok = fits c.args.s.now (c.left_under-most.result - c.loop-lacking.depth) c.loop-lacking.at _ (turn_passed c.in-Passed.is c.in-Ok.ensures) in
     omega (arith, inv.within, inv.most_is, ok)
 
 pub loop-lacking-smaller-in-Passed : goal.loop-lacking-smaller-in-Passed
-unfolding TurnIs
 loop-lacking-smaller-in-Passed c =
     let inv = c.loop-lacking.invariant in
-    let ok = fits c.args.s.now (c.left_under-most.result - c.loop-lacking.depth) c.loop-lacking.at _ c.in-Passed.ensures in
+    let ok = fits c.args.s.now (c.left_under-most.result - c.loop-lacking.depth) c.loop-lacking.at _ (turn_passed c.in-Passed.is c.in-Ok.ensures) in
     omega (arith, inv.within, inv.most_is, ok)
 
 pub loop-lacking-preserved-in-Passed : goal.loop-lacking-preserved-in-Passed
-unfolding TurnIs
 loop-lacking-preserved-in-Passed c =
     passed _ _ _ c.loop-lacking.outer c.loop-lacking.depth c.loop-lacking.lacking c.loop-lacking.at c.loop-lacking.invariant c.if-lacking-eq0.false _
-    c.in-Passed.ensures
+    (turn_passed c.in-Passed.is c.in-Ok.ensures)
 
 pub overflow_add-at-in-Opened : goal.overflow_add-at-in-Opened
-unfolding TurnIs
 overflow_add-at-in-Opened c =
     let inv = c.loop-lacking.invariant in
-    let (n, pairs, gives, counts) = c.in-Opened.ensures in
+    let (n, pairs, gives, counts) = turn_opened c.in-Opened.is c.in-Ok.ensures in
     let ok = fits c.args.s.now (c.left_under-most.result - c.loop-lacking.depth) c.loop-lacking.at _ gives in
     omega (arith, inv.within, inv.most_is, ok)
 
 pub bounds-outer-depth-in-Opened : goal.bounds-outer-depth-in-Opened
-unfolding TurnIs
 bounds-outer-depth-in-Opened c =
     let inv = c.loop-lacking.invariant in
-    let (n, pairs, gives, counts) = c.in-Opened.ensures in
+    let (n, pairs, gives, counts) = turn_opened c.in-Opened.is c.in-Ok.ensures in
     let ok = fits c.args.s.now (c.left_under-most.result - c.loop-lacking.depth) c.loop-lacking.at _ gives in
     omega (arith, inv.within, inv.most_is, ok)
 
 pub loop-lacking-smaller : goal.loop-lacking-smaller
-unfolding TurnIs
 loop-lacking-smaller c =
     let inv = c.loop-lacking.invariant in
-    let (n, pairs, gives, counts) = c.in-Opened.ensures in
+    let (n, pairs, gives, counts) = turn_opened c.in-Opened.is c.in-Ok.ensures in
     let ok = fits c.args.s.now (c.left_under-most.result - c.loop-lacking.depth) c.loop-lacking.at _ gives in
     omega (arith, inv.within, inv.most_is, ok)
 
 pub loop-lacking-preserved : goal.loop-lacking-preserved
-unfolding TurnIs
 loop-lacking-preserved c =
-    let (n, pairs, gives, counts) = c.in-Opened.ensures in
+    let (n, pairs, gives, counts) = turn_opened c.in-Opened.is c.in-Ok.ensures in
     opened _ _ _ c.loop-lacking.outer c.loop-lacking.depth c.loop-lacking.lacking c.loop-lacking.at c.loop-lacking.invariant c.if-lacking-eq0.false _ n pairs _
     gives (omega arith) counts

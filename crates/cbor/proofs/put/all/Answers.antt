@@ -1,8 +1,7 @@
 -- `cbor::put::all` meets its contract: bytes that fit are copied into a part that is lent.
 use native.Mathlib.Omega.{arith}
 use Rattle.base.proofs.Clauses.{value_out}
-use Rattle.cbor.proofs.Stores.{all_over}
-use Rattle.cbor.proofs.Copies.{lent_stored}
+use Rattle.cbor.proofs.Stores.{all_over, lent_stored}
 use Rattle.cbor.proofs.put.all.Goals as goal
 
 pub returns-then-room-at : goal.returns-then-room-at

@@ -2,7 +2,7 @@
 use mathlib.Core.Path.{refl}
 use native.Mathlib.Nat.{le_of_lt}
 use native.Mathlib.Omega.{arith}
-use Rattle.cbor.specs.declared.head.HeadRead.{HeadRead}
+use Rattle.std.specs.Prelude.{Ok, Err}
 use Rattle.cbor.specs.Token.{token_from}
 use Rattle.cbor.proofs.Tokens.{token_none, token_found, head_fits}
 use Rattle.cbor.proofs.token.token_at.Goals as goal
@@ -12,15 +12,15 @@ returns-then-s-at c = token_none _ _ _ (le_of_lt c.if-s-at.true) c.nothing_at.en
 
 pub token_of-requires : goal.token_of-requires
 token_of-requires c = (
-  head_fits c.args.s.now c.args.at _ _ _ _ c.in-Head.ensures refl,
+  head_fits c.args.s.now c.args.at _ _ _ _ c.in-Ok.ensures refl,
   omega (arith, c.well_formed, c.if-s-at.false),
 )
 
-pub returns-in-Refused : goal.returns-in-Refused
+pub returns-in-Err : goal.returns-in-Err
 unfolding token_from
-returns-in-Refused c = token_found _ _ _ (HeadRead.Refused _ _) _ c.in-Refused.ensures refl c.nothing_at-in-Refused.ensures
+returns-in-Err c = token_found _ _ _ (Err _) _ c.in-Err.ensures refl c.nothing_at-in-Err.ensures
 
-pub returns-in-Head : goal.returns-in-Head
+pub returns-in-Ok : goal.returns-in-Ok
 unfolding token_from
-returns-in-Head c =
-    token_found _ _ _ (HeadRead.Head _ _ _) _ c.in-Head.ensures refl c.token_of.ensures
+returns-in-Ok c =
+    token_found _ _ _ (Ok _) _ c.in-Ok.ensures refl c.token_of.ensures

@@ -4,10 +4,10 @@ use Rattle.description.specs.Meaning.{extra_of}
 use Rattle.encode.proofs.Puts.{still}
 use Rattle.encode.proofs.kinds.put_extra.Goals as goal
 
-pub returns-in-Without : goal.returns-in-Without
+pub returns-in-None : goal.returns-in-None
 unfolding maybe_obj extra_of
-returns-in-Without c = rw c.in-Without.is (still _ _)
+returns-in-None c = rw c.in-None.is (still _ _)
 
-pub returns-in-With : goal.returns-in-With
+pub returns-in-Some : goal.returns-in-Some
 unfolding maybe_obj extra_of
-returns-in-With c = rw c.in-With.is c.put_given.ensures
+returns-in-Some c = rw c.in-Some.is c.put_given.ensures

@@ -2,10 +2,10 @@
 use Rattle.forms.specs.Block.{with_extra}
 use Rattle.forms.proofs.block.put_extra.Goals as goal
 
-pub returns-in-Without : goal.returns-in-Without
+pub returns-in-None : goal.returns-in-None
 unfolding with_extra
-returns-in-Without c = rw c.in-Without.is
+returns-in-None c = rw c.in-None.is
 
-pub returns-in-With : goal.returns-in-With
+pub returns-in-Some : goal.returns-in-Some
 unfolding with_extra
-returns-in-With c = rw c.in-With.is c.put_objective.ensures
+returns-in-Some c = rw c.in-Some.is c.put_objective.ensures

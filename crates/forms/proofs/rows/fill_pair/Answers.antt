@@ -10,21 +10,21 @@ put_numbers-requires c = simp length-set (omega arith)
 
 pub overflow_add-result : goal.overflow_add-result
 overflow_add-result c =
-    omega (arith, c.well_formed, c.ranges, pair_within c.args.s.now _ c.args.at _ _ c.read_at-read.ensures c.in-Got.is)
+    omega (arith, c.well_formed, c.ranges, pair_within c.args.s.now _ c.args.at _ _ c.read_at.ensures c.in-Ok.is)
 
-pub returns-in-Bad : goal.returns-in-Bad
+pub returns-in-Err : goal.returns-in-Err
 unfolding pair_next pair_next_from pair_stored pair_stored_from pair_cells
-returns-in-Bad c = record { value = rw (← c.read_at-read.ensures, c.in-Bad.is); list_after = rw (← c.read_at-read.ensures, c.in-Bad.is) }
+returns-in-Err c = record { value = rw (← c.read_at.ensures, c.in-Err.is); list_after = rw (← c.read_at.ensures, c.in-Err.is) }
 
-pub returns-in-Got : goal.returns-in-Got
+pub returns-in-Ok : goal.returns-in-Ok
 unfolding pair_next pair_next_from pair_stored pair_stored_from pair_cells
-returns-in-Got c =
+returns-in-Ok c =
     record {
-      value = rw (← c.read_at-read.ensures, c.in-Got.is);
+      value = rw (← c.read_at.ensures, c.in-Ok.is);
       list_after = rw (
         c.put_numbers.ensures,
-        ← c.read_at-read.ensures,
-        c.in-Got.is,
+        ← c.read_at.ensures,
+        c.in-Ok.is,
         ← c.numbers_of-n.ensures,
       );
     }

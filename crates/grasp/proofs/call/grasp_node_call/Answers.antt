@@ -7,5 +7,5 @@ pub returns : goal.returns
 returns c =
     let args = c.args in
     host_left args.address.now args.numbers.now args.bytes.now
-    (call_of args.clock args.interface args.names.now args.message.now args.out.now) args.answer.now _ c.node_of-node.ensures _ _ _ _
-    c.call_into-kept.ensures _ _ c.put.ensures.value c.put.ensures.numbers_after
+    (call_of args.clock args.interface args.names.now args.message.now args.out.now) args.answer.now _ _ _ _ _ _ _
+    c.node_of-node.ensures c.call_into-kept.ensures c.put.ensures.value c.put.ensures.numbers_after

@@ -10,19 +10,19 @@ overflow_add-result c =
       arith,
       c.well_formed,
       c.ranges,
-      locator_within c.args.bytes.now _ c.args.at _ _ c.read_at-read.ensures c.in-Got.is,
+      locator_within c.args.bytes.now _ c.args.at _ _ c.read_at.ensures c.in-Ok.is,
     )
 
-pub returns-in-Bad : goal.returns-in-Bad
+pub returns-in-Err : goal.returns-in-Err
 unfolding locator_end locator_end_from locator_after locator_from
-returns-in-Bad c = record {
-  value = rw (← c.read_at-read.ensures, c.in-Bad.is);
-  fields_after = rw (← c.read_at-read.ensures, c.in-Bad.is);
+returns-in-Err c = record {
+  value = rw (← c.read_at.ensures, c.in-Err.is);
+  fields_after = rw (← c.read_at.ensures, c.in-Err.is);
 }
 
-pub returns-in-Got : goal.returns-in-Got
+pub returns-in-Ok : goal.returns-in-Ok
 unfolding locator_end locator_end_from locator_after locator_from
-returns-in-Got c = record {
-  value = rw (← c.read_at-read.ensures, c.in-Got.is);
-  fields_after = rw (← c.read_at-read.ensures, c.in-Got.is) c.numbers_of.ensures;
+returns-in-Ok c = record {
+  value = rw (← c.read_at.ensures, c.in-Ok.is);
+  fields_after = rw (← c.read_at.ensures, c.in-Ok.is) c.numbers_of.ensures;
 }

@@ -1,4 +1,4 @@
--- `host::table::number_at` meets its contract: `big_endian` of eight bytes is the sum that `spelled_by` gives.
+-- `host::table::number_at` meets its contract: `big_endian` of eight bytes is the sum that the library gives.
 use native.Mathlib.Nat.{add-zero}
 use native.Mathlib.Omega.{arith}
 use lib.Seq.{get_or-drop}
@@ -7,4 +7,4 @@ use Rattle.host.proofs.table.number_at.Goals as goal
 
 pub returns : goal.returns
 unfolding big_endian
-returns c = simp (get_or-drop, add-zero) (omega (arith, c.spelled_by.ensures))
+returns c = simp (get_or-drop, add-zero) (omega (arith, c.from_be_bytes.ensures))

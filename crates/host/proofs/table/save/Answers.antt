@@ -1,40 +1,20 @@
 -- `host::table::save` meets its contract. The loop's invariant: with those of the numbers that are left the bytes are
 -- the whole table's.
-use native.Mathlib.Nat.{le_antisymm}
+use mathlib.Core.Path.{◌≡◌}
+use Prim.Native.Nat.{◌+◌, ◌*◌}
 use native.Mathlib.Omega.{arith}
 use Rattle.host.proofs.Numbers.{save_begun, save_turn, save_done}
 use Rattle.host.proofs.table.save.Goals as goal
 
-pub loop-i-init : goal.loop-i-init
-loop-i-init c = (omega arith, omega arith, c.requires.bytes, save_begun _ _ c.requires.numbers c.requires.bytes)
+pub loop-row-init : goal.loop-row-init
+loop-row-init c = save_begun _ _ c.requires.numbers c.requires.bytes
 
-pub put_number-requires-in-loop-i : goal.put_number-requires-in-loop-i
-put_number-requires-in-loop-i c = record {
-  bytes = omega arith;
-  within = omega arith;
-}
-
-pub put_number-requires-in-loop-i-2 : goal.put_number-requires-in-loop-i-2
-put_number-requires-in-loop-i-2 c = record {
-  bytes = omega arith;
-  within = omega arith;
-}
-
-pub put_number-requires-in-loop-i-3 : goal.put_number-requires-in-loop-i-3
-put_number-requires-in-loop-i-3 c = record {
-  bytes = omega arith;
-  within = omega arith;
-}
-
-pub loop-i-preserved : goal.loop-i-preserved
-loop-i-preserved c = (
-  omega arith,
-  omega arith,
-  omega arith,
-  save_turn _ _ _ _ _ _ _ c.loop-i.invariant.3 c.put_number.ensures
-      c.put_number-in-loop-i.ensures c.put_number-in-loop-i-2.ensures c.put_number-in-loop-i-3.ensures,
-)
+pub loop-row-preserved : goal.loop-row-preserved
+loop-row-preserved c =
+    let next : 4 * (c.loop-row.row + 1) ≡ 4 * c.loop-row.row + 4 = omega arith in
+    rw next (save_turn _ _ _ _ _ _ _ c.loop-row.invariant c.put_number.ensures
+    c.put_number-in-loop-row.ensures c.put_number-in-loop-row-2.ensures c.put_number-in-loop-row-3.ensures)
 
 pub returns : goal.returns
-returns c =
-    save_done _ _ c.requires.numbers (rw (le_antisymm c.loop-i.invariant.0 c.loop-i-test.false) at c.loop-i.invariant.3)
+returns c = let all : c.loop-row.row ≡ 64 = omega arith in
+    save_done _ _ c.requires.numbers (rw all at c.loop-row.invariant)

@@ -2,12 +2,11 @@
 use native.Mathlib.Omega.{arith}
 use lib.ListN.{length-drop}
 use Rattle.options.proofs.Series.{locators_within}
-use Rattle.message.specs.Response.{located_at, located_of}
 use Rattle.message.proofs.response.located_at.Goals as goal
 
-pub overflow_sub-series : goal.overflow_sub-series
-overflow_sub-series c =
-    omega (arith, c.requires, locators_within c.args.s.now c.args.at _ _ _ c.read_at-read.ensures c.in-Ran.is)
+pub overflow_sub-targets : goal.overflow_sub-targets
+overflow_sub-targets c =
+    omega (arith, c.requires, locators_within c.args.s.now c.args.at _ _ _ c.read_at.ensures c.in_ok-l.was)
 
 pub overflow_add-at : goal.overflow_add-at
 overflow_add-at c =
@@ -15,15 +14,5 @@ overflow_add-at c =
       arith,
       c.well_formed,
       length-drop c.args.at c.args.s.now,
-      locators_within c.args.s.now c.args.at _ _ _ c.read_at-read.ensures c.in-Ran.is,
+      locators_within c.args.s.now c.args.at _ _ _ c.read_at.ensures c.in_ok-l.was,
     )
-
-pub returns-in-Bad : goal.returns-in-Bad
-unfolding located_at located_of
-returns-in-Bad c =
-    rw (← c.read_at-read.ensures, c.in-Bad.is)
-
-pub returns-in-Ran : goal.returns-in-Ran
-unfolding located_at located_of
-returns-in-Ran c =
-    rw (← c.read_at-read.ensures, c.in-Ran.is, ← c.rest_at.ensures)

@@ -1,35 +1,29 @@
 -- `message::sequence::read_pairs` meets its contract.
-use mathlib.Core.Path.{refl}
+use Prim.Native.Nat.{◌+◌, ◌-◌}
 use native.Mathlib.Omega.{arith}
+use Rattle.std.proofs.lemmas.Result.{err_from_is_err_and}
 use Rattle.options.proofs.Fits.{pair_within}
 use Rattle.message.proofs.Fits.{paired_end, paired_bad, paired_next}
 use Rattle.message.proofs.sequence.read_pairs.Goals as goal
 
-pub loop-left-init : goal.loop-left-init
-loop-left-init c = refl
-
-pub returns-in-Bad : goal.returns-in-Bad
-returns-in-Bad c =
-    let loop = c.loop-left in
-    paired_bad _ _ _ _ _ loop.left loop.at loop.bad loop.long _ _ (omega arith) c.read_at-read.ensures
-    c.in-Bad.is loop.invariant
+pub returns-in_err-p : goal.returns-in_err-p
+returns-in_err-p c =
+    let loop = c.loop in
+    let p = err_from_is_err_and c.from_residual.result c.from_residual.ensures.1 in
+    rw (p.1, p.2)
+    (paired_bad _ _ _ _ _ (c.args.n - loop.counter) (c.args.n - (loop.counter + 1)) loop.at loop.bad loop.long _ _ (omega arith) c.read_at.ensures
+    c.in_err-p.was loop.invariant)
 
 pub overflow_add-at : goal.overflow_add-at
 overflow_add-at c =
-    omega (
-      arith,
-      c.well_formed,
-      pair_within c.args.s.now _ c.loop-left.at _ _ c.read_at-read.ensures
-          c.in-Got.is,
-    )
+    omega (arith, c.well_formed, pair_within c.args.s.now _ c.loop.at _ _ c.read_at.ensures c.in_ok-p.was)
 
-pub loop-left-preserved : goal.loop-left-preserved
-loop-left-preserved c =
-    let loop = c.loop-left in
-    paired_next _ _ _ _ _ loop.left loop.at loop.bad loop.long _ _ _ _ _ _ _ _ (omega arith)
-    c.read_at-read.ensures c.in-Got.is c.first_of-bad.ensures
-    c.first_of-long.ensures loop.invariant
+pub loop-preserved : goal.loop-preserved
+loop-preserved c =
+    let loop = c.loop in
+    paired_next _ _ _ _ _ (c.args.n - loop.counter) (c.args.n - (loop.counter + 1)) loop.at loop.bad loop.long _ _ _ _ (omega arith)
+    c.read_at.ensures c.in_ok-p.was c.or-bad.ensures c.or-long.ensures loop.invariant
 
 pub returns : goal.returns
 returns c =
-    paired_end _ _ _ _ _ c.loop-left.left c.loop-left.at c.loop-left.bad c.loop-left.long (omega arith) c.loop-left.invariant
+    paired_end _ _ _ _ _ (c.args.n - c.loop.counter) c.loop.at c.loop.bad c.loop.long (omega arith) c.loop.invariant

@@ -11,4 +11,4 @@ returns c =
     let pre = c.requires in
     let lower = c.lower-sent in
     value_out (sent_length _ _ (onward args.message.now args.s.objective) args.out.now lower.ensures.value lower.ensures.out_after
-    (onward_given args.message.now args.out.now args.s pre.read pre.counts pre.fits) c.len.ensures)
+    (onward_given args.message.now args.out.now args.s pre.read pre.counts pre.fits) c.unwrap_or.ensures)

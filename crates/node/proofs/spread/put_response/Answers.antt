@@ -24,4 +24,4 @@ returns c =
     (response_given args.node args.message.now args.out.now args.s (search rules)
     (held_sized c.requires.within)
     c.requires.fits)
-    c.len.ensures)
+    c.unwrap_or.ensures)

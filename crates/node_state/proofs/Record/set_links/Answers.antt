@@ -19,8 +19,8 @@ returns-then-are_bad c =
           ∙ sym c.are_bad.ensures ∙ c.if-are_bad.true,
     ) refl
 
-pub overflow_cast-node : goal.overflow_cast-node
-overflow_cast-node c =
+pub overflow_cast-result : goal.overflow_cast-result
+overflow_cast-result c =
     let args = c.args in
     omega (
       arith,

@@ -1,27 +1,14 @@
--- `node_state::table::lowest_free` meets its contract. The loop's invariant: the search from here on finds what the
--- whole search finds.
-use mathlib.Core.Path.{refl, sym, ◌∙◌}
-use native.Mathlib.Omega.{arith}
+-- `node_state::table::lowest_free` meets its contract.
+use Rattle.std.proofs.Common.{refl, ◌∙◌, rules, tests}
+use Rattle.std.proofs.lemmas.Iterator.{YieldsList-from_range}
+use Rattle.std.proofs.lemmas.Iterator.Search.{position_from_yields_List}
 use Rattle.node_state.specs.Table.{row_free, lowest_free}
-use Rattle.node_state.proofs.TableRows.{scan_here, scan_next, scan_end}
+use Rattle.node_state.proofs.TableRows.{found_listed}
 use Rattle.node_state.proofs.table.lowest_free.Goals as goal
 
-pub loop-i-init : goal.loop-i-init
-unfolding lowest_free
-loop-i-init c = (omega arith, refl)
-
-pub returns-then-is_free : goal.returns-then-is_free
-returns-then-is_free c =
-    scan_here (row_free c.args.table.now) 64 c.loop-i.i (lowest_free c.args.table.now)
-    (sym c.is_free.ensures ∙ c.if-is_free.true) c.loop-i.invariant.1
-
-pub loop-i-preserved : goal.loop-i-preserved
-loop-i-preserved c = (
-  omega arith,
-  scan_next (row_free c.args.table.now) 64 c.loop-i.i (lowest_free c.args.table.now)
-      c.loop-i-test.true (sym c.is_free.ensures ∙ c.if-is_free.false) c.loop-i.invariant.1,
-)
-
 pub returns : goal.returns
-returns c = scan_end (row_free c.args.table.now) 64 c.loop-i.i
-    (lowest_free c.args.table.now) c.loop-i-test.false c.loop-i.invariant.1
+unfolding lowest_free
+returns c =
+    let free = row_free c.args.table.now in
+    let found = position_from_yields_List free _ _ _ c.position.ensures.ran (YieldsList-from_range 0 64 64 refl refl) (λ x b q k. search (rules, tests)) in
+    found_listed free found

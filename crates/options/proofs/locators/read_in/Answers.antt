@@ -1,33 +1,13 @@
 -- `options::locators::read_in` meets its contract.
-use mathlib.Core.Path.{◌∙◌}
 use native.Mathlib.Omega.{arith}
-use Rattle.options.specs.declared.locator.LocatorRead.{LocatorRead}
-use Rattle.options.specs.Locators.{locators_led}
 use Rattle.options.proofs.Fits.{locator_fits}
-use Rattle.options.proofs.Series.{first_found}
 use Rattle.options.proofs.locators.read_in.Goals as goal
 
 pub overflow_add-from : goal.overflow_add-from
 overflow_add-from c =
-    omega (
-      arith,
-      c.requires,
-      c.well_formed,
-      locator_fits c.args.s.now _ c.args.from _ _ c.read_in-read.ensures c.in-Got.is,
-    )
+    omega (arith, c.requires, c.well_formed, locator_fits c.args.s.now _ c.args.from _ _ c.read_in.ensures c.in_ok-l.was)
 
 pub read_more-requires : goal.read_more-requires
 read_more-requires c =
-    let size = locator_fits c.args.s.now _ c.args.from _ _ c.read_in-read.ensures c.in-Got.is in
+    let size = locator_fits c.args.s.now _ c.args.from _ _ c.read_in.ensures c.in_ok-l.was in
     record { fits = c.requires.fits; within = omega (arith, c.requires, size) }
-
-pub returns-in-Bad : goal.returns-in-Bad
-unfolding locators_led
-returns-in-Bad c =
-    first_found _ _ _ _ _ (LocatorRead.Bad _) c.read_in-read.ensures c.in-Bad.is
-
-pub returns-in-Got : goal.returns-in-Got
-unfolding locators_led
-returns-in-Got c =
-    c.read_more.ensures
-    ∙ first_found _ _ _ _ _ (LocatorRead.Got _ _ _) c.read_in-read.ensures c.in-Got.is

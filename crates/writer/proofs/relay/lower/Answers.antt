@@ -1,6 +1,6 @@
 -- `writer::relay::lower` meets its contract: the tests are those of `lower_answer`, on a length that is known before
 -- anything is put.
-use mathlib.Core.Path.{refl}
+use Rattle.std.proofs.Common.{◌≡◌, refl, rules, Err}
 use native.Mathlib.Nat.{le_trans}
 use native.Mathlib.Omega.{arith}
 use borrow.Author.Tests.{lt-ltb, le-ltb, eq-eqb, ne_eqb}
@@ -27,12 +27,13 @@ returns-then-message-end c = rw (ne_eqb _ _ c.if-count-eq0.false, le-ltb _ _ c.i
 pub overflow_add-len : goal.overflow_add-len
 overflow_add-len c = omega (arith, head_few _ _ c.head_len.ensures)
 
-pub returns-then-number-ne0 : goal.returns-then-number-ne0
+pub returns-in_err-fitting : goal.returns-in_err-fitting
 unfolding lower_answer lower_out ok_lower pick
-returns-then-number-ne0 c =
+returns-in_err-fitting c =
+    let same : c.from_residual.result ≡ Err c.in_err-fitting.field-0.0 = search rules in
     rw (ne_eqb _ _ c.if-count-eq0.false, le-ltb _ _ c.if-end-at.false, le-ltb _ _ c.if-message-end.false)
     (let e = (lowered_length _ _ _ _ _ (le_trans c.if-end-at.false c.if-message-end.false) c.head_len.ensures) in
-    value_out (pass_not _ _ _ (by_length _ _ refl e) e c.refusal-number.ensures c.if-number-ne0.true))
+    value_out (pass_not _ _ _ (by_length _ _ refl e) e c.fitting.ensures c.in_err-fitting.was same))
 
 pub returns : goal.returns
 unfolding lower_answer lower_out ok_lower pick
@@ -40,5 +41,5 @@ returns c =
     rw (ne_eqb _ _ c.if-count-eq0.false, le-ltb _ _ c.if-end-at.false, le-ltb _ _ c.if-message-end.false)
     (let e =
     (lowered_length _ _ _ _ _ (le_trans c.if-end-at.false c.if-message-end.false) c.head_len.ensures) in
-    value_out (pass_put _ _ _ (by_length _ _ refl e) e c.refusal-number.ensures c.if-number-ne0.false
+    value_out (pass_put _ _ _ (by_length _ _ refl e) e c.fitting.ensures c.in_ok-fitting.was
     c.put_lowered.ensures))
