@@ -20,7 +20,9 @@ pub struct Initial {
     pub width: usize,
 }
 
-// The head at the start of s, or the refusal with its place.
+// The head at the start of s, or the refusal with its place. Inlined, with what it asks: the walk comes here for each
+// head that its short ways don't tell.
+#[inline]
 #[tactic(auto, unfolding(crate::specs::Head::head_at))]
 pub fn read(s: &[u8]) -> Result<Head, Refused>
     ensures { result ≡ head_at s.now }
@@ -39,6 +41,7 @@ fn refused(refusal: Refusal, place: usize) -> Refused
 }
 
 // The head with this first byte, with `rest` after it.
+#[inline]
 #[tactic(auto, unfolding(crate::specs::Head::head_of, crate::specs::Head::head_by), using(crate::proofs::Bounds::begun_width))]
 fn read_from(first: u8, rest: &[u8]) -> Result<Head, Refused>
     ensures { result ≡ head_of first rest.now }
@@ -80,6 +83,7 @@ fn width_of(info: u8) -> usize
 }
 
 // The head with this first byte, which says so much; `rest` begins with its bytes of argument.
+#[inline]
 #[tactic(auto, unfolding(crate::specs::Head::head_from, crate::specs::Head::arg_of, base::specs::Pick::pick), using(base::proofs::Tests::tests))]
 fn read_argument(first: u8, begun: Initial, rest: &[u8]) -> Result<Head, Refused>
     requires { begun.width ≤ 8 }
@@ -127,18 +131,21 @@ fn judge(major: u8, arg: u64, width: usize) -> Result<Head, Refused>
     requires { width ≤ 8 }
     ensures { result ≡ judged major arg width }
 {
+    let head = Head {
+        major,
+        arg,
+        len: 1 + width,
+    };
     if major == 7 {
         if width == 1 && arg < 32 {
             return Err(refused(Refusal::Reserved, 0));
         }
-    } else if arg < least_of(width) {
+        return Ok(head);
+    }
+    if arg < least_of(width) {
         return Err(refused(Refusal::LongHead, 0));
     }
-    Ok(Head {
-        major,
-        arg,
-        len: 1 + width,
-    })
+    Ok(head)
 }
 
 // The least argument that needs this many bytes.

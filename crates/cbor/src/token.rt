@@ -1,8 +1,11 @@
 // The heads of an item one after the other: a head with its string, in place.
 ghost use Rattle.std.specs.Prelude.{◌≡◌, ◌+◌, ◌≤◌, ◌<◌, ◌^◌};
+ghost use Rattle.cbor.specs.Head.{head_at};
 ghost use Rattle.cbor.specs.Token.{nothing_at, token_of, TokenIs, SizeIs, items_in, up_to};
 
+use crate::head::Head;
 use crate::{head, item};
+use base::refusal::Refused;
 
 // The head at `at`: its major type and argument, where what it heads begins, and where the next head stands (after a
 // string's bytes, else after the head itself). Major type 8 where no whole head with its string is there.
@@ -23,10 +26,18 @@ pub fn token_at(s: &[u8], at: usize) -> Token
     if s.len() < at {
         return nothing_at(at);
     }
-    match head::read(&s[at..]) {
+    match head_at(&s[at..]) {
         Err(_) => nothing_at(at),
         Ok(head) => token_of(at, s.len() - at, head.major, head.arg, head.len),
     }
+}
+
+// Not inlined, as what it asks is: so the short ways below stay short.
+#[inline(never)]
+fn head_at(s: &[u8]) -> Result<Head, Refused>
+    ensures { result ≡ head_at s.now }
+{
+    head::read(s)
 }
 
 // The token at `at`, told by its first byte where it is an array of fewer than 24 items.
