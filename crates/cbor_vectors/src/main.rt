@@ -89,10 +89,15 @@ fn put(to: &mut impl Write, major: u8, at: usize, content: &mut [u8]) -> io::Res
     to.write_all(b"\n")
 }
 
-// Each byte as two hexadecimal digits.
+// Each byte as two hexadecimal digits, by one write, where a format takes two for a byte below 16.
 fn print_bytes(to: &mut impl Write, s: &[u8]) -> io::Result<()> {
     for b in s {
-        write!(to, "{b:02x}")?;
+        to.write_all(&[digit(*b / 16), digit(*b)])?;
     }
     Ok(())
+}
+
+// The lower half of a byte as a hexadecimal digit.
+fn digit(n: u8) -> u8 {
+    b"0123456789abcdef"[usize::from(n % 16)]
 }

@@ -81,8 +81,14 @@ fn print_written(to: &mut impl Write, out: &[u8], length: usize) -> io::Result<(
     to.write_all(b" ")?;
     if let Some(written) = out.get(..length) {
         for b in written {
-            write!(to, "{b:02x}")?;
+            // By one write, where a format takes two for a byte below 16.
+            to.write_all(&[digit(*b / 16), digit(*b)])?;
         }
     }
     Ok(())
+}
+
+// The lower half of a byte as a hexadecimal digit.
+fn digit(n: u8) -> u8 {
+    b"0123456789abcdef"[usize::from(n % 16)]
 }

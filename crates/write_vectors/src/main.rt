@@ -143,7 +143,13 @@ fn print_written(
         Err(refusal) => write!(to, "refused {} ", u8::from(refusal))?,
     }
     for b in out {
-        write!(to, "{b:02x}")?;
+        // By one write, where a format takes two for a byte below 16.
+        to.write_all(&[digit(*b / 16), digit(*b)])?;
     }
     Ok(())
+}
+
+// The lower half of a byte as a hexadecimal digit.
+fn digit(n: u8) -> u8 {
+    b"0123456789abcdef"[usize::from(n % 16)]
 }
