@@ -14,6 +14,8 @@ use options::objective::MOST_NAME;
 pub const MOST_NAMES: u64 = 16;
 
 // 16: not one array that passes refusals 1 to 7, of 0 to 16 items, each a UTF-8 text of at most 64 bytes.
+// Not inlined, nor is `is_named`: the stack of a node call needn't hold what they need while the message is read.
+#[inline(never)]
 #[tactic(auto, unfolding(crate::specs::Names::names_bad, crate::specs::Names::framed_bad, base::specs::Pick::pick), using(base::proofs::Tests::tests))]
 pub fn are_bad(s: &[u8]) -> bool
     ensures { result ≡ names_bad s.now }
@@ -69,6 +71,7 @@ fn is_good(s: &[u8], t: Token) -> bool
 }
 
 // Whether one of the names s is `name`, byte for byte.
+#[inline(never)]
 pub fn is_named(s: &[u8], name: &[u8]) -> bool
     ensures { result ≡ is_named s.now name.now }
 {
