@@ -54,7 +54,10 @@ some_number R.NotAllowed = omega arith
 
 -- the refusals in the order of their numbers
 in_order : List Refusal
-in_order = R.BadSize ∷ R.Cut ∷ R.Reserved ∷ R.Indefinite ∷ R.LongHead ∷ R.TooDeep ∷ R.BytesAfter ∷ R.UnknownKind ∷ R.BadShape ∷ R.LongName ∷ R.BadText ∷ R.BadRecord ∷ R.BadLink ∷ R.EarlyClock ∷ R.BadTable ∷ R.BadNames ∷ R.CallOutput ∷ R.NoSuchMessage ∷ R.WriteOutput ∷ R.NotAllowed ∷ []
+in_order =
+    let calls = R.BadRecord ∷ R.BadLink ∷ R.EarlyClock ∷ R.BadTable ∷ R.BadNames ∷ R.CallOutput ∷ R.NoSuchMessage ∷ R.WriteOutput ∷ R.NotAllowed ∷ [] in
+    let parts = R.BytesAfter ∷ R.UnknownKind ∷ R.BadShape ∷ R.LongName ∷ R.BadText ∷ calls in
+    R.BadSize ∷ R.Cut ∷ R.Reserved ∷ R.Indefinite ∷ R.LongHead ∷ R.TooDeep ∷ parts
 
 placed : (refusal : Refusal) → get_or in_order (number_of refusal - 1) R.BadSize ≡ refusal
 unfolding in_order

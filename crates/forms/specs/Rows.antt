@@ -7,7 +7,7 @@ use Rattle.options.specs.declared.locator.Locator.{Locator}
 use Rattle.options.specs.declared.pair.Pair.{Pair}
 use Rattle.base.specs.Pick.{pick}
 use Rattle.options.specs.declared.objective.Objective.{Objective}
-use Rattle.options.specs.Pair.{Tag}
+use Rattle.options.specs.Pair.{PairTag}
 use Rattle.options.specs.Locator.{locator_at, locator_numbers}
 use Rattle.options.specs.Pair.{pair_at, pair_numbers}
 use Rattle.message.specs.declared.Series.{Series}
@@ -52,7 +52,7 @@ locator_stored s at i list = locator_stored_from i list (locator_at s at)
 
 -- ---- pairs
 -- the place of the count's head is 0 in a row
-unfoldable pub pair_cells : Objective → Tag → List ℕ
+unfoldable pub pair_cells : Objective → PairTag → List ℕ
 pair_cells o tag = set (pair_numbers o tag) 4 0
 
 -- the place after a pair that was read

@@ -18,8 +18,8 @@ use Rattle.options.proofs.Same.{read_same}
 use Rattle.message.specs.declared.sequence.Pairs.{Pairs}
 use Rattle.message.specs.declared.Message.{Message}
 use Rattle.message.specs.declared.Examined.{Examined}
-use Rattle.message.specs.Examined.{accepted}
-use Rattle.message.specs.Sequence.{PairsRead, ran, pair_then, pairs_from}
+use Rattle.message.specs.Examined.{accepted_to}
+use Rattle.message.specs.Sequence.{PairsRead, pairs_ended, pair_then, pairs_from}
 
 -- ---- each has six bytes at least, and they end within the message
 module _ (s : List ℕ) where
@@ -49,7 +49,7 @@ module _ (s : List ℕ) (n from : ℕ) (bad₀ long₀ : Noted) where
   abbrev pub Paired : ℕ → ℕ → Noted → Noted → Type 0
   Paired left at bad long = pairs_from s left at bad long ≡ pairs_from s n from bad₀ long₀
 
-  pub paired_end : (left at : ℕ) (bad long : Noted) → left ≡ 0 → Paired left at bad long → ran at bad long ≡ pairs_from s n from bad₀ long₀
+  pub paired_end : (left at : ℕ) (bad long : Noted) → left ≡ 0 → Paired left at bad long → pairs_ended at bad long ≡ pairs_from s n from bad₀ long₀
   unfolding pairs_from
   paired_end left at bad long e i = rw e at i
 
@@ -70,13 +70,14 @@ module _ (s : List ℕ) (n from : ℕ) (bad₀ long₀ : Noted) where
   paired_next left rest at bad long p new newer r one g q k l i = rw (k, l) (after left rest at bad long r (Ok p) one g q i)
 
 -- ---- what two answers that are one have: where they end, their bad text and their long name
-pub ran_same : {end end' : ℕ} {bad bad' long long' : Noted} → ran end bad long ≡ ran end' bad' long' → (end ≡ end') × (bad ≡ bad') × (long ≡ long')
+pub ran_same : {end end' : ℕ} {bad bad' long long' : Noted} → pairs_ended end bad long ≡ pairs_ended end' bad' long'
+    → (end ≡ end') × (bad ≡ bad') × (long ≡ long')
 ran_same e =
     let same = read_same e in
     (ap (λ (r : Pairs). r.end) same, ap (λ (r : Pairs). r.bad) same, ap (λ (r : Pairs). r.long) same)
 
 -- the message, and where its parts end
-pub accepted_same : {m m' : Message} {end end' : ℕ} → accepted m end ≡ accepted m' end' → (m ≡ m') × (end ≡ end')
+pub accepted_same : {m m' : Message} {end end' : ℕ} → accepted_to m end ≡ accepted_to m' end' → (m ≡ m') × (end ≡ end')
 accepted_same {m} {m'} {end} {end'} e =
     let whole : Examined = record { message = m; end = end } in
     let whole' : Examined = record { message = m'; end = end' } in

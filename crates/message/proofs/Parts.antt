@@ -40,7 +40,7 @@ use Rattle.base.specs.declared.refusal.Refused.{Refused}
 use Rattle.base.specs.Refusal.{number_of}
 use Rattle.message.specs.declared.Examined.{Examined}
 use Rattle.message.specs.Sequence.{PairsRead}
-use Rattle.message.specs.Opening.{Before, most_number, objective_levels, is_initiator, opening_at}
+use Rattle.message.specs.Opening.{WithNext, most_number, objective_levels, is_initiator, opening_at}
 use Rattle.message.specs.Shape.{noop_at, discovered, discovery_at, exchange_of, exchanged, exchange_at, wait_at, invalid_at, ended, end_at}
 use Rattle.message.specs.Response.{rest_of, rest_at, located_of, located_at, targets_of, targets_at, response_by, response_at}
 use Rattle.message.specs.Flood.{flooded_by, flooded_of, flooded_at, flood_by, flood_at}
@@ -123,7 +123,7 @@ module _ (s : List ℕ) where
   objective_read_lem at = objective_within objective_levels s at at _ _ refl refl
 
   -- an opening
-  abbrev OpeningParts : Before Opening → Type 0
+  abbrev OpeningParts : WithNext Opening → Type 0
   OpeningParts (Err e) = Unit {0}
   OpeningParts (Ok (opening, next)) = (next ≤ length s) × Opened s opening.session opening.initiator
 
@@ -177,7 +177,7 @@ module _ (s : List ℕ) where
     unfolding flood_at flood_by flooded_at
     flood_parts n at nine = both ShapeParts _ tt (by (opening_at s at) (opening_parts at))
       where
-        by : (x : Before Opening) → OpeningParts x → ShapeParts (flood_by s n x)
+        by : (x : WithNext Opening) → OpeningParts x → ShapeParts (flood_by s n x)
         by (Err e) h = tt
         by (Ok (opening, next)) h = flooded_of_lem (n - 4) next opening (pair_at s next) nine h.1 (pair_within s next next _ _ refl refl)
 
@@ -206,7 +206,7 @@ module _ (s : List ℕ) where
     unfolding response_at response_by targets_at
     response_parts n at = both ShapeParts _ tt (by (opening_at s at) (opening_parts at))
       where
-        by : (x : Before Opening) → OpeningParts x → ShapeParts (response_by s n x)
+        by : (x : WithNext Opening) → OpeningParts x → ShapeParts (response_by s n x)
         by (Err e) h = tt
         by (Ok (opening, next)) (low, h) = targets_parts opening h (n - 4) next (divert_at s next) low (divert_ok next (drop next s))
 

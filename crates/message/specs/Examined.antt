@@ -28,8 +28,8 @@ by_kind s kind n at =
     (exchange_at s kind n at)))))))
 
 -- a message whose parts end there
-abbrev pub accepted : Message → ℕ → Result Examined Refused
-accepted message end = Ok (record { message = message; end = end })
+abbrev pub accepted_to : Message → ℕ → Result Examined Refused
+accepted_to message end = Ok (record { message = message; end = end })
 
 -- what follows where no place is noted, else a refusal there
 unfoldable pub clear : Noted → Refusal → Result Examined Refused → Result Examined Refused
@@ -40,7 +40,7 @@ clear (Some place) refusal rest = refused refusal place
 unfoldable pub judged_shape : Read Message → Result Examined Refused
 judged_shape (Err e) = Err (misshapen e)
 judged_shape (Ok m) =
-    clear m.bad BadText (clear m.long LongName (accepted m.value m.size))
+    clear m.bad BadText (clear m.long LongName (accepted_to m.value m.size))
 
 -- by the message's parts alone: 9 for what is no array or has no number first, 8 for an unknown kind, then by the kind
 unfoldable pub examined : List ℕ → Result Examined Refused

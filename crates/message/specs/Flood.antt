@@ -8,7 +8,7 @@ use Rattle.message.specs.declared.Series.{Series}
 use Rattle.message.specs.declared.Message.TheVariants as M
 use Rattle.message.specs.declared.opening.Opening.{Opening}
 use Rattle.message.specs.declared.Message.{Message}
-use Rattle.message.specs.Opening.{Before, opening_at}
+use Rattle.message.specs.Opening.{WithNext, opening_at}
 use Rattle.message.specs.Sequence.{PairsRead, pairs_from}
 
 -- a Flood whose other pairs were read
@@ -27,7 +27,7 @@ unfoldable pub flooded_at : List ℕ → Opening → ℕ → ℕ → Read Messag
 flooded_at s opening n at = flooded_of s opening n at (pair_at s at)
 
 -- a Flood, by what was read of its opening
-unfoldable pub flood_by : List ℕ → ℕ → Before Opening → Read Message
+unfoldable pub flood_by : List ℕ → ℕ → WithNext Opening → Read Message
 flood_by s n (Err e) = Err e
 flood_by s n (Ok (opening, next)) = flooded_at s opening (n - 4) next
 

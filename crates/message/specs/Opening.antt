@@ -23,23 +23,23 @@ unfoldable pub is_initiator : Token → Bool
 is_initiator t = eqb t.major 2 && (eqb t.arg 4 || eqb t.arg 16)
 
 -- what is read of something, with the place of the item after it
-abbrev pub Before : Type 0 → Type 0
-Before A = Result (A × ℕ) Departure
+abbrev pub WithNext : Type 0 → Type 0
+WithNext A = Result (A × ℕ) Departure
 
 -- a session, ttl or waiting time at `at`
-unfoldable pub number_read : List ℕ → ℕ → Before ℕ
+unfoldable pub number_read : List ℕ → ℕ → WithNext ℕ
 number_read s at =
     let t = token_at s at in
     pick (ltb most_number (up_to most_number t)) (departs t.at) (Ok (up_to most_number t, t.next))
 
 -- an initiator at `at`
-unfoldable pub initiator_read : List ℕ → ℕ → Before Span
+unfoldable pub initiator_read : List ℕ → ℕ → WithNext Span
 initiator_read s at =
     let t = token_at s at in
     unless (is_initiator t) (departs t.at) (Ok (content_of t, t.next))
 
 -- session, initiator and ttl, the session at `at`
-unfoldable pub opening_at : List ℕ → ℕ → Before Opening
+unfoldable pub opening_at : List ℕ → ℕ → WithNext Opening
 opening_at s at =
     let i = token_at s at in
     let j = token_at s i.next in

@@ -12,7 +12,7 @@ use Rattle.message.specs.Fields.{Extra}
 use Rattle.message.specs.declared.Message.{Message}
 use Rattle.message.specs.declared.Message.TheVariants as M
 use Rattle.message.specs.declared.opening.Opening.{Opening}
-use Rattle.message.specs.Opening.{Before, objective_levels, opening_at}
+use Rattle.message.specs.Opening.{WithNext, objective_levels, opening_at}
 
 -- the Response with this opening
 abbrev pub response_of : Opening → Targets → Extra → Message
@@ -55,7 +55,7 @@ module _ (s : List ℕ) (opening : Opening) where
   targets_at n at = targets_of n at (divert_at s at)
 
 -- a Response, by what was read of its opening
-unfoldable pub response_by : List ℕ → ℕ → Before Opening → Read Message
+unfoldable pub response_by : List ℕ → ℕ → WithNext Opening → Read Message
 response_by s n (Err e) = Err e
 response_by s n (Ok (opening, next)) = targets_at s opening (n - 4) next
 

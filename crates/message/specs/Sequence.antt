@@ -12,8 +12,8 @@ abbrev pub PairsRead : Type 0
 PairsRead = Result Pairs Departure
 
 -- pairs that were read: where they end, the first bad text and the first long name
-abbrev pub ran : ℕ → Noted → Noted → PairsRead
-ran end bad long = Ok (record { end = end; bad = bad; long = long })
+abbrev pub pairs_ended : ℕ → Noted → Noted → PairsRead
+pairs_ended end bad long = Ok (record { end = end; bad = bad; long = long })
 
 -- what follows a pair that was read
 unfoldable pub pair_then : (ℕ → Noted → Noted → PairsRead) → ℕ → Noted → Noted → Read Pair → PairsRead
@@ -22,5 +22,5 @@ pair_then go at bad long (Ok p) = go (at + p.size) (first_of bad p.bad) (first_o
 
 -- n pairs: where they end, the first bad text and the first long name
 unfoldable pub pairs_from : List ℕ → ℕ → ℕ → Noted → Noted → PairsRead
-pairs_from s zero at bad long = ran at bad long
+pairs_from s zero at bad long = pairs_ended at bad long
 pairs_from s (suc n) at bad long = pair_then (pairs_from s n) at bad long (pair_at s at)

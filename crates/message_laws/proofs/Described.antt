@@ -19,7 +19,7 @@ use Rattle.options.specs.declared.Span.{Span}
 use Rattle.options.specs.declared.locator.Locator.{Locator}
 use Rattle.options.specs.declared.locator.Locator.TheVariants as L
 use Rattle.options.specs.declared.objective.Objective.{Objective}
-use Rattle.options.specs.Pair.{Tag}
+use Rattle.options.specs.Pair.{PairTag}
 use Rattle.options.specs.declared.pair.Pair as P
 use Rattle.options.specs.Text.{span_of}
 use Rattle.options.specs.Locator.{null_protocol, null_port}
@@ -152,21 +152,21 @@ locator_once q a b =
     addressed_once (ends_once (ends_once (head_once q a.opened b.opened) a.kind_item b.kind_item) a.address_item b.address_item)
     a.is b.is
 
-tag_once : {s : List ℕ} {p p' : ℕ} {t t' : Tag} {loc : Option Loc} → p ≡ p' → TagIs s p t loc → TagIs s p' t' loc → t ≡ t'
+tag_once : {s : List ℕ} {p p' : ℕ} {t t' : PairTag} {loc : Option Loc} → p ≡ p' → TagIs s p t loc → TagIs s p' t' loc → t ≡ t'
 tag_once q TagIs.empty TagIs.empty = refl
 tag_once q (TagIs.at a) (TagIs.at b) = ap Some (locator_once q a b)
 
 -- a pair by its parts
-abbrev pair_of : Objective → Tag → P.Pair
+abbrev pair_of : Objective → PairTag → P.Pair
 pair_of objective tag = record { objective = objective; tag = tag }
 
 -- from one start
-pair_once : {s : List ℕ} {p p' : ℕ} {o o' : Objective} {t t' : Tag} {pair : Pair Value} → p ≡ p' → PairIs s p o t pair → PairIs s p' o' t' pair
+pair_once : {s : List ℕ} {p p' : ℕ} {o o' : Objective} {t t' : PairTag} {pair : Pair Value} → p ≡ p' → PairIs s p o t pair → PairIs s p' o' t' pair
     → pair_of o t ≡ pair_of o' t'
 pair_once q a b =
     let same = objective_once (head_once q a.opened b.opened) a.objective b.objective in
     let mid = a.objective.ends ∙ ap (λ (x : Objective). x.value.at + x.value.len) same ∙ sym b.objective.ends in
-    ap₂ (λ (x : Objective) (y : Tag). pair_of x y) same (tag_once mid a.tag b.tag)
+    ap₂ (λ (x : Objective) (y : PairTag). pair_of x y) same (tag_once mid a.tag b.tag)
 
 -- ---- series, and what a Response holds
 -- series by their parts

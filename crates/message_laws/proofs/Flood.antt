@@ -12,15 +12,15 @@ use Rattle.options.specs.Text.{Noted}
 use Rattle.std.specs.Prelude.{None}
 use Rattle.std.specs.Prelude.{Ok, Err}
 use Rattle.options.specs.Part.{Read, departs}
-use Rattle.message.specs.Opening.{Before}
+use Rattle.message.specs.Opening.{WithNext}
 use Rattle.options.specs.Pair.{paired}
 use Rattle.message.specs.Sequence.{PairsRead}
-use Rattle.message.specs.Sequence.{ran}
+use Rattle.message.specs.Sequence.{pairs_ended}
 use Rattle.base.specs.BigEndian.{Bytes}
 use Rattle.base.specs.Lists.{Every}
 use Rattle.cbor.specs.Tree.{Item, Items, count, depth, depths}
 use Rattle.options.specs.declared.objective.Objective.{Objective}
-use Rattle.options.specs.Pair.{Tag}
+use Rattle.options.specs.Pair.{PairTag}
 use Rattle.options.specs.declared.pair.Pair as P
 use Rattle.options.specs.Text.{first_of}
 use Rattle.options.specs.Pair.{pair_at}
@@ -52,10 +52,10 @@ record PairsHere (s : List ℕ) (p n : ℕ) (bad long : Noted) (end : ℕ) (bad'
 -- the answer of the loop
 data PairsOk (s : List ℕ) (p n : ℕ) (bad long : Noted) : PairsRead → Type 0 where
   refused : {place : ℕ} → PairsOk s p n bad long (departs place)
-  some : {end : ℕ} {bad' long' : Noted} → PairsHere s p n bad long end bad' long' → PairsOk s p n bad long (ran end bad' long')
+  some : {end : ℕ} {bad' long' : Noted} → PairsHere s p n bad long end bad' long' → PairsOk s p n bad long (pairs_ended end bad' long')
 
 -- one pair, and then others
-one_more_lem : {s : List ℕ} {p e n : ℕ} {bad long bad' long' : Noted} {o : Objective} {t : Tag} {r : PairsRead} → PairStands s p e o t bad' long'
+one_more_lem : {s : List ℕ} {p e n : ℕ} {bad long bad' long' : Noted} {o : Objective} {t : PairTag} {r : PairsRead} → PairStands s p e o t bad' long'
     → PairsOk s e n (first_of bad bad') (first_of long long') r → PairsOk s p (suc n) bad long r
 unfolding count flat_map
 one_more_lem i PairsOk.refused = PairsOk.refused
@@ -121,7 +121,7 @@ module _ {s : List ℕ} {n at next : ℕ} (k : Kinded s 9 n at) {opening : Openi
       flooded_by_sound i _ (pairs_sound k.bytes (parts - 1) (next + r.size) r.bad r.long (stands_within i.stands))
 
 -- after the opening
-flood_by_sound : {s : List ℕ} {n at : ℕ} → Kinded s 9 n at → 5 ≤ n → (x : Before Opening) → OpeningOk s at x → ShapeOk s (flood_by s n x)
+flood_by_sound : {s : List ℕ} {n at : ℕ} → Kinded s 9 n at → 5 ≤ n → (x : WithNext Opening) → OpeningOk s at x → ShapeOk s (flood_by s n x)
 unfolding flood_by flooded_at
 flood_by_sound k five _ OpeningOk.bad = IfGood.bad
 flood_by_sound k five _ (OpeningOk.got h) = flooded_of_sound k h (omega arith) (omega arith) _ refl
@@ -134,10 +134,10 @@ flood_sound {n = n} k = past_case _ (λ e. flood_by_sound k (ltb-false n 5 e) _ 
 -- ---- what stands there is read
 -- pairs are read, whatever is noted
 abbrev Run : List ℕ → ℕ → ℕ → Noted → Noted → Type 0
-Run s n p bad long = (end : ℕ) × (bad' : Noted) × (long' : Noted) × (pairs_from s n p bad long ≡ ran end bad' long')
+Run s n p bad long = (end : ℕ) × (bad' : Noted) × (long' : Noted) × (pairs_from s n p bad long ≡ pairs_ended end bad' long')
 
 -- one pair is passed, and then others
-passed : (s : List ℕ) (p n : ℕ) (bad long : Noted) {size m : ℕ} {bad' long' : Noted} {o : Objective} {t : Tag} → pair_at s p ≡ paired o t size bad' long'
+passed : (s : List ℕ) (p n : ℕ) (bad long : Noted) {size m : ℕ} {bad' long' : Noted} {o : Objective} {t : PairTag} → pair_at s p ≡ paired o t size bad' long'
     → p + size ≡ m
     → Run s n m (first_of bad bad') (first_of long long') → Run s (suc n) p bad long
 unfolding pairs_from pair_then
@@ -155,7 +155,7 @@ pairs_complete {s} {p} a d (PairItems.more {xs = xs} i is) bad long =
     (pairs_complete {p = (split a).mid} c.rest (omega arith) is (first_of bad bad') (first_of long long'))
 
 -- the first pair, and then others
-first_passed : (s : List ℕ) (p parts : ℕ) (opening : Opening) {n m size : ℕ} {bad long : Noted} {o : Objective} {t : Tag} → parts - 1 ≡ n → p + size ≡ m
+first_passed : (s : List ℕ) (p parts : ℕ) (opening : Opening) {n m size : ℕ} {bad long : Noted} {o : Objective} {t : PairTag} → parts - 1 ≡ n → p + size ≡ m
     → pair_at s p ≡ paired o t size bad long → Run s n m bad long → Reads (flooded_at s opening parts p)
 unfolding flooded_at flooded_of flooded_by
 first_passed s p parts opening less step e (end, bad', long', rest) = rw (e, less, step, rest) Reads.reads
@@ -183,4 +183,4 @@ unfolding flood_at flood_by
 flood_complete {s} {n} a i j k is d counted =
     let (o, next, same, b) = opening_complete a i j k in
     skipped _ (le-ltb n 5 (omega (arith, some_pairs is)))
-    (subst (λ (r : Before Opening). Reads (flood_by s n r)) (sym same) (flooded_complete o b d (omega arith) is))
+    (subst (λ (r : WithNext Opening). Reads (flood_by s n r)) (sym same) (flooded_complete o b d (omega arith) is))

@@ -20,7 +20,7 @@ use Rattle.options.specs.declared.Span.{Span}
 use Rattle.options.specs.declared.outcome.Outcome.{Outcome}
 use Rattle.options.specs.declared.locator.Locator.{Locator}
 use Rattle.options.specs.declared.objective.Objective.{Objective}
-use Rattle.options.specs.Pair.{Tag}
+use Rattle.options.specs.Pair.{PairTag}
 use Rattle.options.specs.Locator.{locator_at}
 use Rattle.options.specs.Pair.{pair_at}
 use Rattle.options.specs.Text.{span_of}
@@ -95,12 +95,12 @@ objective_holds i =
     }
 
 -- a tag's
-tag_holds : {s : List ℕ} {p : ℕ} {t : Tag} {loc : Option Loc} → TagIs s p t loc → TagHolds s t loc
+tag_holds : {s : List ℕ} {p : ℕ} {t : PairTag} {loc : Option Loc} → TagIs s p t loc → TagHolds s t loc
 tag_holds TagIs.empty = TagHolds.empty
 tag_holds (TagIs.at i) = TagHolds.at (locator_holds i)
 
 -- a pair's
-pub pair_holds : {s : List ℕ} {p : ℕ} {o : Objective} {t : Tag} {pair : Pair Value} → PairIs s p o t pair → PairHolds s o t pair
+pub pair_holds : {s : List ℕ} {p : ℕ} {o : Objective} {t : PairTag} {pair : Pair Value} → PairIs s p o t pair → PairHolds s o t pair
 pair_holds i = record { objective = objective_holds i.objective; tag = tag_holds i.tag }
 
 -- an initiator's
@@ -203,7 +203,7 @@ locator_read_holds s at {l} b q =
     (i.item, i.loc, item_holds i.stands, i.is, locator_holds i.described)
 
 -- And so is a pair, with its objective's name and value, and with its locator if it has one.
-pub pair_read_holds : (s : List ℕ) (at : ℕ) {o : Objective} {t : Tag} {size : ℕ} {bad long : Noted} → Bytes s → pair_at s at ≡ paired o t size bad long
+pub pair_read_holds : (s : List ℕ) (at : ℕ) {o : Objective} {t : PairTag} {size : ℕ} {bad long : Noted} → Bytes s → pair_at s at ≡ paired o t size bad long
     → (x : Item) × (pair : Pair Value) × SpanHolds s (span_of at size) (encode x) × PairItem x pair × PairHolds s o t pair
 pair_read_holds s at {o} {t} {size} {bad} {long} b q =
     let i = pair_sound s at o t size bad long b q in

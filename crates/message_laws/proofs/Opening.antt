@@ -5,7 +5,7 @@ use mathlib.Core.List.{List}
 use Prim.Native.Nat.{ℕ}
 use Rattle.std.specs.Prelude.{Ok}
 use Rattle.options.specs.Part.{departs}
-use Rattle.message.specs.Opening.{Before}
+use Rattle.message.specs.Opening.{WithNext}
 use Rattle.base.specs.Pick.{pick}
 use Rattle.base.specs.BigEndian.{Bytes}
 use Rattle.base.proofs.Picks.{pick-case}
@@ -27,7 +27,7 @@ pub record OpeningHere (s : List ℕ) (at next : ℕ) (o : Opening) : Type 0 whe
   pub ttl : NumberHere s before next o.ttl
 
 -- the answer
-pub data OpeningOk (s : List ℕ) (at : ℕ) : Before Opening → Type 0 where
+pub data OpeningOk (s : List ℕ) (at : ℕ) : WithNext Opening → Type 0 where
   bad : {place : ℕ} → OpeningOk s at (departs place)
   got : {o : Opening} {next : ℕ} → OpeningHere s at next o → OpeningOk s at (Ok (o, next))
 

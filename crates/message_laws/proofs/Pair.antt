@@ -32,7 +32,7 @@ use Rattle.cbor.specs.Token.{token_at, items_in}
 use Rattle.cbor.proofs.Tokens.{is_array, token_first}
 use Rattle.options.specs.declared.locator.Locator.{Locator}
 use Rattle.options.specs.declared.objective.Objective.{Objective}
-use Rattle.options.specs.Pair.{Tag}
+use Rattle.options.specs.Pair.{PairTag}
 use Rattle.options.specs.Text.{first_of}
 use Rattle.options.specs.Locator.{locator_in, locator_at}
 use Rattle.options.specs.Objective.{objective_in, objective_at}
@@ -65,7 +65,7 @@ module _ (m : List ℕ) (base : ℕ) (a : Token) (n : ℕ) where
 
   module _ (ha : Heading s 0 a) (major : a.major ≡ 4) (two : a.arg ≡ 2) {o : Objective} {bad long : Noted}
       (i : ObjectiveStands 3 m (base + a.next) (base + a.next + n) o bad long) where
-    made : (size : ℕ) (y : Item) (t : Tag) (l : Option Loc) (bad' : Noted) → Stands s at size y → depth y ≤ 1
+    made : (size : ℕ) (y : Item) (t : PairTag) (l : Option Loc) (bad' : Noted) → Stands s at size y → depth y ≤ 1
         → ((w : ℕ) → PairItem (array w (i.item ∷ y ∷ [])) (i.obj, l)) → TagIs m (base + a.next + n) t l
         → bad' ≡ None ↔ (bad ≡ None) × Every Utf8 (tag_texts l) → PairStands m base (base + size) o t bad' long
     unfolding count depth pair_texts
@@ -136,7 +136,7 @@ sound m base by =
     a = token_at s₀ 0
 
 -- what is read stands there
-pub pair_sound : (m : List ℕ) (base : ℕ) (o : Objective) (t : Tag) (size : ℕ) (bad long : Noted) → Bytes m → pair_at m base ≡ paired o t size bad long
+pub pair_sound : (m : List ℕ) (base : ℕ) (o : Objective) (t : PairTag) (size : ℕ) (bad long : Noted) → Bytes m → pair_at m base ≡ paired o t size bad long
     → PairStands m base (base + size) o t bad long
 pair_sound m base o t size bad long by q = subst (Sound m base) q (sound m base by)
 
@@ -176,7 +176,7 @@ record Begun (m : List ℕ) (base e : ℕ) (obj : Obj Value) (y : Item) : Type 0
   bad : Noted
   long : Noted
   read : (r : Read P.Pair) → pair_tail base (drop base m) mid objective bad long ≡ r → pair_at m base ≡ r
-  described : {t : Tag} {l : Option Loc} → TagIs m (base + mid) t l → PairIs m base objective t (obj, l)
+  described : {t : PairTag} {l : Option Loc} → TagIs m (base + mid) t l → PairIs m base objective t (obj, l)
   second : Stands (drop base m) mid (e - base) y
 
 begun : {m : List ℕ} {base e w : ℕ} {x y : Item} {obj : Obj Value} → Stands m base e (array w (x ∷ y ∷ [])) → depth x ≤ suc (left_under 3) → ObjectiveItem x obj
@@ -205,7 +205,7 @@ begun {m} {base} {e} st d is =
 -- a pair is read
 abbrev PairThere : List ℕ → ℕ → ℕ → Pair Value → Type 0
 PairThere m base e pair =
-    (o : Objective) × (t : Tag) × (bad : Noted) × (long : Noted) × (pair_at m base ≡ paired o t (e - base) bad long) × PairIs m base o t pair
+    (o : Objective) × (t : PairTag) × (bad : Noted) × (long : Noted) × (pair_at m base ≡ paired o t (e - base) bad long) × PairIs m base o t pair
 
 untagged_read : {m : List ℕ} {base e v : ℕ} {obj : Obj Value} → Begun m base e obj (array v []) → PairThere m base e (obj, none)
 unfolding count
@@ -226,7 +226,7 @@ tagged_read {m} {base} {e} b is =
 
 -- an item that is a pair is read, and as the pair that it is
 pub pair_read : {m : List ℕ} {base e : ℕ} {x : Item} {pair : Pair Value} → Stands m base e x → depth x ≤ left_under 1 → PairItem x pair
-    → (o : Objective) × (t : Tag) × (bad : Noted) × (long : Noted) × (pair_at m base ≡ paired o t (e - base) bad long) × PairIs m base o t pair
+    → (o : Objective) × (t : PairTag) × (bad : Noted) × (long : Noted) × (pair_at m base ≡ paired o t (e - base) bad long) × PairIs m base o t pair
 unfolding depth
 pair_read st d (PairItem.untagged is) = untagged_read (begun st (omega arith) is)
 pair_read st d (PairItem.tagged is loc) = tagged_read (begun st (omega arith) is) loc
@@ -235,7 +235,7 @@ pair_read st d (PairItem.tagged is loc) = tagged_read (begun st (omega arith) is
 
 -- A pair is read exactly where an item that is one stands, of 7 levels at most, up to its end.
 pub pair_exactly : (m : List ℕ) (base size : ℕ) → Bytes m
-    → ((o : Objective) × (t : Tag) × (bad : Noted) × (long : Noted) × (pair_at m base ≡ paired o t size bad long))
+    → ((o : Objective) × (t : PairTag) × (bad : Noted) × (long : Noted) × (pair_at m base ≡ paired o t size bad long))
     ↔ ((x : Item) × (pair : Pair Value) × Stands m base (base + size) x × (depth x ≤ left_under 1) × PairItem x pair)
 pair_exactly m base size by = (
   λ (o, t, bad, long, q). let i = pair_sound m base o t size bad long by q in (i.item, i.pair, i.stands, i.shallow, i.is),

@@ -16,7 +16,7 @@ use Rattle.std.specs.Prelude.{Some, None}
 use Rattle.std.specs.Prelude.{Ok, Err}
 use Rattle.options.specs.Part.{Read, part}
 use Rattle.options.specs.declared.objective.Objective.{Objective}
-use Rattle.message.specs.Opening.{Before}
+use Rattle.message.specs.Opening.{WithNext}
 use Rattle.options.specs.Divert.{DivertRead}
 use Rattle.options.specs.Locators.{LocatorsRead}
 use Rattle.options.specs.Locators.{ran}
@@ -178,7 +178,7 @@ module _ {s : List ℕ} {n at next : ℕ} (k : Kinded s 2 n at) {opening : Openi
       by _ (DivertSound.got d) = rest_sound k.bytes (λ extra end bad' long r. divert_finish (omega arith) d r) d.stand.within
 
 -- after the opening
-response_by_sound : {s : List ℕ} {n at : ℕ} → Kinded s 2 n at → 5 ≤ n → (x : Before Opening) → OpeningOk s at x → ShapeOk s (response_by s n x)
+response_by_sound : {s : List ℕ} {n at : ℕ} → Kinded s 2 n at → 5 ≤ n → (x : WithNext Opening) → OpeningOk s at x → ShapeOk s (response_by s n x)
 unfolding response_by
 response_by_sound k five _ OpeningOk.bad = IfGood.bad
 response_by_sound {n = n} k five _ (OpeningOk.got h) = targets_sound k h (n - 4) (omega arith) (omega arith)
@@ -281,4 +281,4 @@ unfolding response_at response_by
 response_complete {s} {n} {at} a i j k is d counted =
     let (o, next, same, b) = opening_complete a i j k in
     skipped _ (le-ltb n 5 (omega (arith, some_items is)))
-    (subst (λ (r : Before Opening). Reads (response_by s n r)) (sym same) (targets_complete s o b d (omega arith) is))
+    (subst (λ (r : WithNext Opening). Reads (response_by s n r)) (sym same) (targets_complete s o b d (omega arith) is))

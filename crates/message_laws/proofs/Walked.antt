@@ -16,7 +16,7 @@ use Rattle.options.specs.Part.{Read, departs, part}
 use Rattle.options.specs.declared.outcome.Outcome.{Outcome}
 use Rattle.message.proofs.Clear.{clear_case}
 use Rattle.message.proofs.Fits.{accepted_same}
-use Rattle.message.specs.Opening.{Before}
+use Rattle.message.specs.Opening.{WithNext}
 use Rattle.options.specs.Divert.{DivertRead}
 use Rattle.options.specs.Locators.{LocatorsRead}
 use Rattle.message.specs.Sequence.{PairsRead}
@@ -47,7 +47,7 @@ use Rattle.message.specs.Sequence.{pair_then, pairs_from}
 use Rattle.message.specs.Shape.{noop_at, discovered, discovery_at, exchanged, exchange_at, wait_at, invalid_at, ended, end_at}
 use Rattle.message.specs.Response.{rest_of, rest_at, located_of, located_at, targets_of, targets_at, response_by, response_at}
 use Rattle.message.specs.Flood.{flooded_by, flooded_of, flooded_at, flood_by, flood_at}
-use Rattle.message.specs.Examined.{accepted, by_kind, judged_shape, examined}
+use Rattle.message.specs.Examined.{accepted_to, by_kind, judged_shape, examined}
 use Rattle.message.proofs.Parts.{initiated}
 use Rattle.message_laws.proofs.Whole.{part_levels, IfGood, past_case, held_case}
 
@@ -180,7 +180,7 @@ module _ (s : List ℕ) where
       by session q (Ok o) h = IfGood.good (passes_within (h (left_under 2)))
 
   -- what Response and Flood begin with
-  data OpeningWalked (p : ℕ) : Before Opening → Type 0 where
+  data OpeningWalked (p : ℕ) : WithNext Opening → Type 0 where
     refused : {place : ℕ} → OpeningWalked p (departs place)
     opened : {opening : Opening} {next : ℕ} → Parts 3 p next → OpeningWalked p (Ok (opening, next))
 
@@ -214,7 +214,7 @@ module _ (s : List ℕ) where
   unfolding flood_at flood_by
   flood_walked n p = past_case _ (λ five. by (ltb-false n 5 five) (opening_at s p) (opening_walked p))
     where
-      by : 5 ≤ n → (x : Before Opening) → OpeningWalked p x → ShapeWalked (n - 1) p (flood_by s n x)
+      by : 5 ≤ n → (x : WithNext Opening) → OpeningWalked p x → ShapeWalked (n - 1) p (flood_by s n x)
       by five _ OpeningWalked.refused = IfGood.bad
       by five _ (OpeningWalked.opened {opening} {next} h) = after (omega arith) h (flooded_walked (n - 4) next opening (omega arith))
 
@@ -250,7 +250,7 @@ module _ (s : List ℕ) where
   unfolding response_at response_by
   response_walked n p = past_case _ (λ five. by (ltb-false n 5 five) (opening_at s p) (opening_walked p))
     where
-      by : 5 ≤ n → (x : Before Opening) → OpeningWalked p x → ShapeWalked (n - 1) p (response_by s n x)
+      by : 5 ≤ n → (x : WithNext Opening) → OpeningWalked p x → ShapeWalked (n - 1) p (response_by s n x)
       by five _ OpeningWalked.refused = IfGood.bad
       by five _ (OpeningWalked.opened {opening} {next} h) = after (omega arith) h (targets_walked opening (n - 4) next (omega arith))
 
@@ -277,17 +277,17 @@ module _ (s : List ℕ) where
 
     -- which are those of a message that is accepted
     judged_walked : {m : Message} {end : ℕ} {x : Read Message} → ShapeWalked ((token_at s 0).arg - 1) (token_at s (token_at s 0).next).next x
-        → judged_shape x ≡ accepted m end → first_item 0 s ≡ Ok end
+        → judged_shape x ≡ accepted_to m end → first_item 0 s ≡ Ok end
     unfolding judged_shape
     judged_walked IfGood.bad = λ q. cc
     judged_walked {m} {end} (IfGood.good {end = end'} h) =
         clear_case P _ (clear_case P _ (λ q. let same : end' ≡ end = (accepted_same q).1 in whole_walked h ∙ ap Ok same) (λ _ q. cc)) (λ _ q. cc)
       where
         P : Result Examined Refused → Type 0
-        P x = x ≡ accepted m end → first_item 0 s ≡ Ok end
+        P x = x ≡ accepted_to m end → first_item 0 s ≡ Ok end
 
 -- The walk accepts a message that its parts make up, and ends where they end.
-pub parts_walked : (s : List ℕ) {m : Message} {end : ℕ} → examined s ≡ accepted m end → first_item 0 s ≡ Ok end
+pub parts_walked : (s : List ℕ) {m : Message} {end : ℕ} → examined s ≡ accepted_to m end → first_item 0 s ≡ Ok end
 unfolding examined
 parts_walked s {m} {end} =
     pick-case P _ (λ _ q. cc)
@@ -299,4 +299,4 @@ parts_walked s {m} {end} =
     (λ _ q. cc))
   where
     P : Result Examined Refused → Type 0
-    P x = x ≡ accepted m end → first_item 0 s ≡ Ok end
+    P x = x ≡ accepted_to m end → first_item 0 s ≡ Ok end

@@ -12,7 +12,7 @@ use Rattle.options.specs.declared.outcome.Outcome.{Outcome}
 use Rattle.options.specs.declared.locator.Locator.{Locator}
 use Rattle.options.specs.declared.locator.Locator.TheVariants as L
 use Rattle.options.specs.declared.objective.Objective.{Objective}
-use Rattle.options.specs.Pair.{Tag}
+use Rattle.options.specs.Pair.{PairTag}
 use Rattle.options.specs.declared.pair.Pair as P
 use Rattle.options.specs.Text.{span_of, held}
 use Rattle.options.specs.Locator.{null_protocol, null_port, locator_at}
@@ -58,12 +58,12 @@ pub record ObjectiveHolds (s : List ℕ) (o : Objective) (obj : Obj Value) : Typ
   pub value : ValueHolds s o.value obj.value
 
 -- a pair's locator, or none
-pub data TagHolds (s : List ℕ) : Tag → Option Loc → Type 0 where
+pub data TagHolds (s : List ℕ) : PairTag → Option Loc → Type 0 where
   empty : TagHolds s None none
   at : {l : Locator} {loc : Loc} → LocatorHolds s l loc → TagHolds s (Some l) (some loc)
 
 -- a Flood's pair
-pub record PairHolds (s : List ℕ) (o : Objective) (t : Tag) (pair : Pair Value) : Type 0 where
+pub record PairHolds (s : List ℕ) (o : Objective) (t : PairTag) (pair : Pair Value) : Type 0 where
   pub objective : ObjectiveHolds s o pair.0
   pub tag : TagHolds s t pair.1
 
@@ -85,7 +85,7 @@ pub record LocatorReads (s : List ℕ) (at next : ℕ) (loc : Loc) : Type 0 wher
 -- the pair at a place is read, up to the next
 pub record PairReads (s : List ℕ) (at next : ℕ) (pair : Pair Value) : Type 0 where
   pub objective : Objective
-  pub tag : Tag
+  pub tag : PairTag
   pub size : ℕ
   pub bad : Noted
   pub long : Noted

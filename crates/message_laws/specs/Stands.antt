@@ -10,7 +10,7 @@ use Rattle.options.specs.declared.Span.{Span}
 use Rattle.options.specs.declared.locator.Locator.{Locator}
 use Rattle.options.specs.declared.locator.Locator.TheVariants as L
 use Rattle.options.specs.declared.objective.Objective.{Objective}
-use Rattle.options.specs.Pair.{Tag}
+use Rattle.options.specs.Pair.{PairTag}
 use Rattle.options.specs.Text.{span_of}
 use Rattle.options.specs.Locator.{null_protocol, null_port}
 use Rattle.rfc8990.specs.Message.{Loc, or_null, Obj, Pair}
@@ -69,7 +69,7 @@ pub record LocatorIs (s : List ℕ) (p : ℕ) (l : Locator) (loc : Loc) : Type 0
   pub is : Addressed protocol_at kind address l loc
 
 -- the tag that an answer describes, read of the item that begins at p
-pub data TagIs (s : List ℕ) (p : ℕ) : Tag → Option Loc → Type 0 where
+pub data TagIs (s : List ℕ) (p : ℕ) : PairTag → Option Loc → Type 0 where
   empty : TagIs s p None none
   at : {l : Locator} {loc : Loc} → LocatorIs s p l loc → TagIs s p (Some l) (some loc)
 
@@ -103,7 +103,7 @@ pub record ObjectiveIs (s : List ℕ) (p e : ℕ) (o : Objective) (obj : Obj Val
   pub ends : e ≡ o.value.at + o.value.len
 
 -- the pair that an answer describes, read of the item that begins at p: each part stands right after the one before it
-pub record PairIs (s : List ℕ) (p : ℕ) (o : Objective) (t : Tag) (pair : Pair Value) : Type 0 where
+pub record PairIs (s : List ℕ) (p : ℕ) (o : Objective) (t : PairTag) (pair : Pair Value) : Type 0 where
   -- where the objective begins, after the array's head, and where it ends
   pub at : ℕ
   pub mid : ℕ
@@ -136,7 +136,7 @@ pub record ObjectiveStands (levels : ℕ) (s : List ℕ) (p e : ℕ) (o : Object
 
 -- the pair of o and t, read from p to e with a bad text at `bad` or a name too long at `long`: the item that stands
 -- there, and the pair that it is; the message's level is open around it
-pub record PairStands (s : List ℕ) (p e : ℕ) (o : Objective) (t : Tag) (bad long : Noted) : Type 0 where
+pub record PairStands (s : List ℕ) (p e : ℕ) (o : Objective) (t : PairTag) (bad long : Noted) : Type 0 where
   pub item : Item
   pub pair : Pair Value
   pub stands : Stands s p e item

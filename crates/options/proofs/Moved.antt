@@ -17,7 +17,7 @@ use Rattle.cbor.specs.Token.{token_at, size_at, items_in, up_to}
 use Rattle.cbor.proofs.Tokens.{token_has, is_array, is_number}
 use Rattle.options.specs.declared.locator.Locator.{Locator}
 use Rattle.options.specs.declared.objective.Objective.{Objective}
-use Rattle.options.specs.Pair.{Tag}
+use Rattle.options.specs.Pair.{PairTag}
 use Rattle.options.specs.declared.pair.Pair.{Pair}
 use Rattle.options.specs.Text.{first_of, content_in}
 use Rattle.options.specs.Part.{Read, part}
@@ -105,7 +105,7 @@ objective_moves levels base base' s =
 -- what is read at another place, by what is read at this one: a pair without fault is one there too, of the same size
 abbrev pub PairMoves : Read Pair → Read Pair → Type 0
 PairMoves (Err e) y = Unit {0}
-PairMoves (Ok p) y = p.bad ≡ None → p.long ≡ None → (o' : Objective) × (t' : Tag) × (y ≡ part (record { objective = o'; tag = t' }) p.size None None)
+PairMoves (Ok p) y = p.bad ≡ None → p.long ≡ None → (o' : Objective) × (t' : PairTag) × (y ≡ part (record { objective = o'; tag = t' }) p.size None None)
 
 -- a pair with a locator, of an objective without fault
 tagged_moves : (at : ℕ) (o o' : Objective) (bad long : Noted) (x y : Read Locator) → LocatorMoves x y

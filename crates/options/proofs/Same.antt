@@ -7,7 +7,7 @@ use Rattle.std.specs.Prelude.{Result, Ok}
 use Rattle.options.specs.declared.Departure.{Departure}
 use Rattle.options.specs.declared.Part.{Part}
 use Rattle.options.specs.declared.objective.Objective.{Objective}
-use Rattle.options.specs.Pair.{Tag}
+use Rattle.options.specs.Pair.{PairTag}
 use Rattle.options.specs.declared.pair.Pair.{Pair}
 use Rattle.options.specs.Part.{part}
 use Rattle.options.specs.Pair.{paired}
@@ -28,7 +28,7 @@ part_same {A} e =
     )
 
 -- a pair's objective and its tag too
-pub paired_same : {o o' : Objective} {t t' : Tag} {size size' : ℕ} {bad bad' long long' : Noted} → paired o t size bad long ≡ paired o' t' size' bad' long'
+pub paired_same : {o o' : Objective} {t t' : PairTag} {size size' : ℕ} {bad bad' long long' : Noted} → paired o t size bad long ≡ paired o' t' size' bad' long'
     → (o ≡ o') × (t ≡ t') × (size ≡ size') × (bad ≡ bad') × (long ≡ long')
 paired_same e =
     let (v, size, bad, long) = part_same e in

@@ -14,15 +14,15 @@ use Rattle.options.specs.Locator.{locator_in, locator_numbers}
 use Rattle.options.specs.Objective.{objective_in}
 
 -- what a flooded objective is tagged with: a locator, or none where it has an empty array
-abbrev pub Tag : Type 0
-Tag = Option Locator
+abbrev pub PairTag : Type 0
+PairTag = Option Locator
 
 -- an empty array
 unfoldable pub is_empty : Token → Bool
 is_empty t = eqb t.major 4 && eqb t.arg 0
 
 -- a pair that was read
-abbrev pub paired : Objective → Tag → ℕ → Noted → Noted → Read Pair
+abbrev pub paired : Objective → PairTag → ℕ → Noted → Noted → Read Pair
 paired objective tag = part (record { objective = objective; tag = tag })
 
 -- a pair whose second item was read as a locator
@@ -64,7 +64,7 @@ objective_numbers o =
     o.name.at ∷ o.name.len ∷ o.flags ∷ o.count ∷ o.count_at ∷ o.value.at ∷ o.value.len ∷ []
 
 -- a tag's five numbers
-unfoldable pub tag_numbers : Tag → List ℕ
+unfoldable pub tag_numbers : PairTag → List ℕ
 tag_numbers None = replicate 5 0
 tag_numbers (Some l) = locator_numbers l
 
@@ -73,5 +73,5 @@ abbrev pub five : List ℕ → List ℕ
 five t = get_or t 0 0 ∷ get_or t 1 0 ∷ get_or t 2 0 ∷ get_or t 3 0 ∷ get_or t 4 0 ∷ []
 
 -- a pair's twelve numbers: its objective's, then its tag's
-unfoldable pub pair_numbers : Objective → Tag → List ℕ
+unfoldable pub pair_numbers : Objective → PairTag → List ℕ
 pair_numbers o tag = objective_numbers o ++ five (tag_numbers tag)

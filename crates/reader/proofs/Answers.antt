@@ -23,7 +23,7 @@ use Rattle.cbor.specs.Token.{nothing_at, token_from, token_at, items_in}
 use Rattle.cbor.specs.Item.{ItemRead, first_item}
 use Rattle.message.specs.declared.Message.{Message}
 use Rattle.rfc8990.specs.Limits.{most_bytes}
-use Rattle.message.specs.Examined.{accepted, examined}
+use Rattle.message.specs.Examined.{accepted_to, examined}
 use Rattle.reader.specs.Read.{framed, read_placed, placeless, read_of}
 use Rattle.rfc8990.specs.Refusals.{Fits}
 use Rattle.message_laws.proofs.Walked.{parts_walked}
@@ -31,14 +31,14 @@ use Rattle.reader.proofs.Refused.{placed_fit}
 use Rattle.reader.specs.Walk.{walked_by, walked_first}
 
 -- no bytes are no message
-examined_some : (s : List ℕ) {m : Message} {end : ℕ} → examined s ≡ accepted m end → length s ≢ 0
+examined_some : (s : List ℕ) {m : Message} {end : ℕ} → examined s ≡ accepted_to m end → length s ≢ 0
 unfolding examined token_at token_from nothing_at items_in head_at pick
 examined_some [] q = absurd (let z : ◌≡◌ {A = ℕ} 0 1 = cc in omega arith)
 examined_some (x ∷ s) q = λ z. omega arith
 
 -- a message
 module _ (s : List ℕ) (r : Result Examined Refused) (most : length s ≤ most_bytes) (is : r ≡ examined s) (m : Message) (end : ℕ)
-    (found : r ≡ accepted m end) where
+    (found : r ≡ accepted_to m end) where
   walked : read_placed s ≡ framed s (Ok end)
   walked = placed_fit (record { some = examined_some s (sym is ∙ found); most = most }) ∙ ap (framed s) (parts_walked s (sym is ∙ found))
 
@@ -68,14 +68,14 @@ read_refused s r e refusal fits is found same =
     ap Err same ∙ sym (ap placeless (placed_fit fits) ∙ due_later s e (sym is ∙ found) (first_item 0 s))
 
 -- a message that was read is the whole that its parts make up
-pub read_examined : (s : List ℕ) (m : Message) → read_of s ≡ Ok m → (length s ≢ 0) × (examined s ≡ accepted m (length s))
+pub read_examined : (s : List ℕ) (m : Message) → read_of s ≡ Ok m → (length s ≢ 0) × (examined s ≡ accepted_to m (length s))
 unfolding read_of read_placed framed placeless
 read_examined s m =
     both P (eqb (length s) 0) (λ q. absurd (let z : ◌≡◌ {A = ℕ} 0 1 = cc in omega arith))
     (both P (ltb most_bytes (length s)) (λ q. absurd (let z : ◌≡◌ {A = ℕ} 0 1 = cc in omega arith)) (by (first_item 0 s) refl))
   where
     P : Result Examined Refused → Type 0
-    P x = placeless x ≡ Ok m → (length s ≢ 0) × (examined s ≡ accepted m (length s))
+    P x = placeless x ≡ Ok m → (length s ≢ 0) × (examined s ≡ accepted_to m (length s))
 
     found : first_item 0 s ≡ Ok (length s) → (x : Result Examined Refused) → examined s ≡ x → P x
     found w (Err d) e q = absurd (let z : ◌≡◌ {A = ℕ} 0 1 = cc in omega arith)

@@ -17,7 +17,7 @@ use Rattle.base.specs.BigEndian.{Bytes}
 use Rattle.cbor.specs.Tree.{Item}
 use Rattle.rfc8990.specs.Cddl.{MessageItem}
 use Rattle.message.specs.declared.Message.{Message}
-use Rattle.message.specs.Examined.{accepted, clear, judged_shape}
+use Rattle.message.specs.Examined.{accepted_to, clear, judged_shape}
 use Rattle.reader.specs.Read.{read_placed, placeless, read_of}
 use Rattle.options.specs.Text.{Noted}
 use Rattle.std.specs.Prelude.{None}
@@ -37,7 +37,7 @@ read_answer {s} {m} (Ok got) (Answer.read a d) q = let same : got.message ≡ m 
 read_answer (Err why) a q = absurd (let z : ◌≡◌ {A = ℕ} 0 1 = cc in omega arith)
 
 -- nothing noted
-judged_good : {m : Message} {end : ℕ} {bad long : Noted} → bad ≡ None → long ≡ None → judged_shape (part m end bad long) ≡ accepted m end
+judged_good : {m : Message} {end : ℕ} {bad long : Noted} → bad ≡ None → long ≡ None → judged_shape (part m end bad long) ≡ accepted_to m end
 unfolding judged_shape clear
 judged_good e e' = rw (e, e')
 

@@ -34,7 +34,7 @@ use Rattle.message_laws.proofs.Bridge.{advances}
 use Rattle.message.specs.declared.Message.{Message}
 use Rattle.rfc8990.specs.Limits.{most_bytes}
 use Rattle.message.proofs.Clear.{clear_case, clear_told}
-use Rattle.message.specs.Examined.{accepted, judged_shape, examined}
+use Rattle.message.specs.Examined.{accepted_to, judged_shape, examined}
 use Rattle.reader.specs.Read.{framed, read_placed}
 use Rattle.message_laws.specs.Describes.{Describes}
 use Rattle.rfc8990.specs.Accepted.{OneItem, IsMessage, Accepted}
@@ -116,7 +116,7 @@ pub data Answer (s : List ℕ) : Result Examined Refused → Type 0 where
   shape : {place : ℕ} → OneItem s → Answer s (refused R.BadShape place)
   text : {place : ℕ} (m : IsMessage s) → (TextsGood m.msg → ⊥) → Answer s (refused R.BadText place)
   name : {place : ℕ} (m : IsMessage s) → TextsGood m.msg → (NamesGood m.msg → ⊥) → Answer s (refused R.LongName place)
-  read : {m : Message} {end : ℕ} (a : Accepted s) → Describes s m a.message.msg → Answer s (accepted m end)
+  read : {m : Message} {end : ℕ} (a : Accepted s) → Describes s m a.message.msg → Answer s (accepted_to m end)
 
 -- the answer by what was noted
 judged_answer : {s : List ℕ} (one : OneItem s) (m : Message) (end : ℕ) (bad long : Noted) → WholeIs one m bad long

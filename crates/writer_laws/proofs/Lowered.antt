@@ -13,10 +13,10 @@ use Rattle.std.specs.Prelude.{None}
 use Rattle.std.specs.Prelude.{Result, Ok, Err}
 use Rattle.options.proofs.Same.{part_same}
 use Rattle.options.specs.Part.{Read, departs, part}
-use Rattle.message.specs.Opening.{Before}
+use Rattle.message.specs.Opening.{WithNext}
 use Rattle.options.specs.Pair.{paired}
 use Rattle.message.specs.Sequence.{PairsRead}
-use Rattle.message.specs.Sequence.{ran}
+use Rattle.message.specs.Sequence.{pairs_ended}
 use Rattle.base.specs.Pick.{pick}
 use Rattle.base.proofs.Picks.{pick-case, both}
 use Rattle.cbor.specs.declared.token.Token.{Token}
@@ -25,7 +25,7 @@ use Rattle.cbor.specs.Token.{token_at, items_in, up_to}
 use Rattle.cbor.proofs.Tokens.{token_is, token_has, is_array, is_number}
 use Rattle.options.specs.declared.Span.{Span}
 use Rattle.options.specs.declared.objective.Objective.{Objective}
-use Rattle.options.specs.Pair.{Tag}
+use Rattle.options.specs.Pair.{PairTag}
 use Rattle.options.specs.declared.pair.Pair.{Pair}
 use Rattle.options.specs.Text.{held, content_of}
 use Rattle.options.specs.Objective.{objective_at}
@@ -42,7 +42,7 @@ use Rattle.message.specs.Opening.{most_number, objective_levels, is_initiator, o
 use Rattle.message.specs.Shape.{discovered, discovery_at}
 use Rattle.message.specs.Sequence.{pairs_from}
 use Rattle.message.specs.Flood.{flooded_by, flooded_of, flooded_at, flood_by, flood_at}
-use Rattle.message.specs.Examined.{accepted, by_kind, clear, judged_shape, examined}
+use Rattle.message.specs.Examined.{accepted_to, by_kind, clear, judged_shape, examined}
 use Rattle.message.proofs.Parts.{MessageParts, OfKind, ShapeParts, initiated, kind_parts}
 use Rattle.message.specs.Fields.{session_of, initiator_of}
 use Rattle.writer.specs.Lower.{Lowers, Relays}
@@ -55,7 +55,7 @@ no_shape q = let z : ◌≡◌ {A = ℕ} 0 1 = cc in omega arith
 
 -- ---- the whole, by its lead
 -- a shape that is accepted has no fault
-judged_good : (x : Read Message) {m : Message} {end : ℕ} → judged_shape x ≡ accepted m end → x ≡ part m end None None
+judged_good : (x : Read Message) {m : Message} {end : ℕ} → judged_shape x ≡ accepted_to m end → x ≡ part m end None None
 unfolding judged_shape
 judged_good (Err e) = λ q. cc
 judged_good (Ok got) {m} {end} =
@@ -68,7 +68,7 @@ judged_good (Ok got) {m} {end} =
     (λ _ _ q. cc)
   where
     P : Result Examined Refused → Type 0
-    P r = r ≡ accepted m end → part got.value got.size got.bad got.long ≡ part m end None None
+    P r = r ≡ accepted_to m end → part got.value got.size got.bad got.long ≡ part m end None None
 
 -- an array with items, led by a number, whose shape by that number has no fault
 record Led (s : List ℕ) (m : Message) (end : ℕ) : Type 0 where
@@ -77,7 +77,7 @@ record Led (s : List ℕ) (m : Message) (end : ℕ) : Type 0 where
   shape : by_kind s (token_at s (token_at s 0).next).arg (token_at s 0).arg (token_at s (token_at s 0).next).next ≡ part m end None None
 
 -- a message that its parts make up is so led
-led : (s : List ℕ) {m : Message} {end : ℕ} → examined s ≡ accepted m end → Led s m end
+led : (s : List ℕ) {m : Message} {end : ℕ} → examined s ≡ accepted_to m end → Led s m end
 unfolding examined
 led s {m} {end} =
     pick-case P _ (λ _ q. absurd (never q))
@@ -90,9 +90,9 @@ led s {m} {end} =
     k = token_at s a.next
 
     P : Result Examined Refused → Type 0
-    P x = x ≡ accepted m end → Led s m end
+    P x = x ≡ accepted_to m end → Led s m end
 
-    never : {e : Refused} → Err e ≡ accepted m end → ⊥
+    never : {e : Refused} → Err e ≡ accepted_to m end → ⊥
     never q = let z : ◌≡◌ {A = ℕ} 0 1 = cc in omega arith
 
     read : eqb (items_in a) 0 ≡ false → eqb k.major 0 ≡ true → P (judged_shape (by_kind s k.arg a.arg k.next))
@@ -202,35 +202,35 @@ module _ (u h r : List ℕ) (n : ℕ) where
       t : Token
       t = token_at old j.next
 
-      P : Before Opening → Type 0
+      P : WithNext Opening → Type 0
       P x =
           x ≡ Ok (o, next) → (at ≤ length u) × (o.initiator.at + o.initiator.len ≤ length u) × (opening_at new at ≡ Ok (o, next))
 
-      never : {place : ℕ} → ◌≡◌ {A = Before Opening} (departs place) (Ok (o, next)) → ⊥
+      never : {place : ℕ} → ◌≡◌ {A = WithNext Opening} (departs place) (Ok (o, next)) → ⊥
       never q = let z : ◌≡◌ {A = ℕ} 0 1 = cc in omega arith
 
-      initiator_in : Before Opening → Span
+      initiator_in : WithNext Opening → Span
       initiator_in (Err e) = content_of j
       initiator_in (Ok (opening, end)) = opening.initiator
 
-      next_in : Before Opening → ℕ
+      next_in : WithNext Opening → ℕ
       next_in (Err e) = t.next
       next_in (Ok (opening, end)) = end
 
   flood_recounted : n ≤ 255 → (m at session : ℕ) (i : Span) (ttl : ℕ) (first : Pair) (series : Series) (end : ℕ) → CountAt u h 0 first.objective
       → flood_at old m at ≡ part (M.Flood session i ttl first series) end None None
-      → (tag : Tag) × ShapeRecounted at i (flood_at new m at) (λ o. M.Flood session i ttl (record { objective = o; tag = tag }) series) end
+      → (tag : PairTag) × ShapeRecounted at i (flood_at new m at) (λ o. M.Flood session i ttl (record { objective = o; tag = tag }) series) end
   unfolding flood_at flood_by flooded_at flooded_of flooded_by pick
   flood_recounted few m at session i ttl pair series end place = pick-case P (ltb m 5) (λ _ q. absurd (no_shape q)) (λ t. opened t (opening_at old at) refl)
     where
       Found : Type 0
-      Found = (tag : Tag) × ShapeRecounted at i (flood_at new m at) (λ o. M.Flood session i ttl (record { objective = o; tag = tag }) series) end
+      Found = (tag : PairTag) × ShapeRecounted at i (flood_at new m at) (λ o. M.Flood session i ttl (record { objective = o; tag = tag }) series) end
 
       P : Read Message → Type 0
       P x = x ≡ part (M.Flood session i ttl pair series) end None None → Found
 
       -- with the opening, the first pair and the other pairs of the new bytes
-      made : ltb m 5 ≡ false → {opening : Opening} {next : ℕ} {tag : Tag} {size : ℕ}
+      made : ltb m 5 ≡ false → {opening : Opening} {next : ℕ} {tag : PairTag} {size : ℕ}
           → (at ≤ length u) × (opening.initiator.at + opening.initiator.len ≤ length u) × (opening_at new at ≡ Ok (opening, next))
           → (x : Recounted (drop next u) h n (pair_at new next) (λ o e. paired o tag e None None) size)
           → PairsMove (next + size) end (next + (length (drop next u) + length (head 0 n) + x.rest))
@@ -255,8 +255,8 @@ module _ (u h r : List ℕ) (n : ℕ) where
           )
 
       relayed : ltb m 5 ≡ false → {opening : Opening} {next : ℕ} → opening_at old at ≡ Ok (opening, next) → {size : ℕ}
-          → (next ≤ length u) × (tag : Tag) × Recounted (drop next u) h n (pair_at new next) (λ o e. paired o tag e None None) size
-          → pairs_from old (m - 4 - 1) (next + size) None None ≡ ran end None None
+          → (next ≤ length u) × (tag : PairTag) × Recounted (drop next u) h n (pair_at new next) (λ o e. paired o tag e None None) size
+          → pairs_from old (m - 4 - 1) (next + size) None None ≡ pairs_ended end None None
           → opening.session ≡ session → opening.initiator ≡ i → opening.ttl ≡ ttl → record { at = next; many = m - 4 } ≡ series → Found
       relayed t {opening} {next} e {size} (low, tag, x) run =
           made t (opening_kept at opening next low e) x
@@ -277,13 +277,13 @@ module _ (u h r : List ℕ) (n : ℕ) where
           λ q.
           let (message, ends, none, short') = part_same q in
           let same : first ≡ pair = cc in
-          let last : ran got.end got.bad got.long ≡ ran end None None = rw (ends, none, short') in
-          let run : pairs_from old (m - 4 - 1) (next + size) bad long ≡ ran end None None = g ∙ last in
+          let last : pairs_ended got.end got.bad got.long ≡ pairs_ended end None None = rw (ends, none, short') in
+          let run : pairs_from old (m - 4 - 1) (next + size) bad long ≡ pairs_ended end None None = g ∙ last in
           let (fine, short) = none_before old (m - 4 - 1) (next + size) bad long end run in
           relayed t e (pair_beyond h r n few u 0 next next pair.objective pair.tag size (omega arith) place (rw (same, fine, short) at f))
           (rw (fine, short) at run) (cc) (cc) (cc) (cc)
 
-      opened : ltb m 5 ≡ false → (x : Before Opening) → opening_at old at ≡ x → P (flood_by old m x)
+      opened : ltb m 5 ≡ false → (x : WithNext Opening) → opening_at old at ≡ x → P (flood_by old m x)
       opened t (Err d) e = λ q. absurd (no_shape q)
       opened t (Ok (opening, next)) e = by (pair_at old next) refl
         where
@@ -303,7 +303,7 @@ module _ (u h r : List ℕ) (n : ℕ) where
     pub message : Message
     pub rest : ℕ
     pub sized : end ≡ length u + length h + rest
-    pub read : examined new ≡ accepted message (length u + length (head 0 n) + rest)
+    pub read : examined new ≡ accepted_to message (length u + length (head 0 n) + rest)
     pub relays : Relays old m o new message
 
   -- so it is where its shape is
@@ -329,7 +329,7 @@ module _ (u h r : List ℕ) (n : ℕ) where
   of_kind_lem : (m : Message) (end : ℕ) → Led old m end → OfKind kind.arg m × MessageParts old m
   of_kind_lem m end l = subst (ShapeParts old kind.arg) l.shape (kind_parts old kind.arg array.arg kind.next)
 
-  pub message_recounted : {m : Message} {o : Objective} (end : ℕ) → Lowers m o → CountAt u h 0 o → n ≡ o.count - 1 → examined old ≡ accepted m end
+  pub message_recounted : {m : Message} {o : Objective} (end : ℕ) → Lowers m o → CountAt u h 0 o → n ≡ o.count - 1 → examined old ≡ accepted_to m end
       → MessageRecounted m o end
   unfolding by_kind session_of initiator_of pick
   message_recounted end (Lowers.discovery {session} {i} {o}) place lower q =

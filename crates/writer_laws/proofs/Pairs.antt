@@ -18,7 +18,7 @@ use Rattle.cbor.specs.Item.{left_under}
 use Rattle.cbor.specs.Tree.{Items, depth, depths}
 use Rattle.options.specs.declared.locator.Locator.TheVariants as L
 use Rattle.options.specs.declared.objective.Objective.{Objective}
-use Rattle.options.specs.Pair.{Tag}
+use Rattle.options.specs.Pair.{PairTag}
 use Rattle.options.specs.Locator.{locator_numbers}
 use Rattle.options.specs.Pair.{pair_at, five, tag_numbers, pair_numbers}
 use Rattle.options.proofs.Fits.{pair_within}
@@ -40,7 +40,7 @@ use Rattle.writer_laws.proofs.Locators.{locator_told}
 
 -- ---- a row
 -- a tag has five numbers
-tag_five : (tag : Tag) → five (tag_numbers tag) ≡ tag_numbers tag
+tag_five : (tag : PairTag) → five (tag_numbers tag) ≡ tag_numbers tag
 unfolding tag_numbers locator_numbers
 tag_five None = refl
 tag_five (Some (L.V6 at protocol port)) = refl
@@ -49,7 +49,7 @@ tag_five (Some (L.Domain name protocol port)) = refl
 tag_five (Some (L.Uri uri protocol port)) = refl
 
 -- a pair's row has so many numbers
-pub pair_twelve : (o : Objective) (tag : Tag) → length (R.pair_cells o tag) ≡ pair_row
+pub pair_twelve : (o : Objective) (tag : PairTag) → length (R.pair_cells o tag) ≡ pair_row
 unfolding R.pair_cells pair_numbers
 pair_twelve o tag = refl
 
@@ -83,7 +83,7 @@ unfolding loc_or_none pick
 known {p = p} says = rw (ne_eqb p.kind 0 (λ e. omega (arith, says.least)))
 
 -- a tag that was read
-tag_told : {m : List ℕ} {p : ℕ} {tag : Tag} {loc : Option Loc} → TagIs m p tag loc → (rest : List ℕ) → TagTold m (tag_numbers tag ++ rest) loc
+tag_told : {m : List ℕ} {p : ℕ} {tag : PairTag} {loc : Option Loc} → TagIs m p tag loc → (rest : List ℕ) → TagTold m (tag_numbers tag ++ rest) loc
 unfolding tag_numbers
 tag_told TagIs.empty rest = tag_empty _ rest
 tag_told (TagIs.at i) rest = let (is, says) = locator_told i rest in (known says ∙ ap some is, inr says)
@@ -108,18 +108,18 @@ module _ (s : List ℕ) where
   Pairs = Chain pair_row (R.pair_next s) (R.pair_stored s) PairTold
 
   -- one row
-  pair_row_lem : (p : ℕ) {o : Objective} {tag : Tag} {size : ℕ} {bad long : Noted} (i : ℕ) (list : List ℕ) → pair_at s p ≡ paired o tag size bad long
+  pair_row_lem : (p : ℕ) {o : Objective} {tag : PairTag} {size : ℕ} {bad long : Noted} (i : ℕ) (list : List ℕ) → pair_at s p ≡ paired o tag size bad long
       → R.pair_stored s p i list ≡ sets list (pair_row * i) (R.pair_cells o tag)
   unfolding R.pair_stored R.pair_stored_from
   pair_row_lem p i list e = ap (R.pair_stored_from i list) e
 
   -- and what comes after it
-  pair_next_lem : (p : ℕ) {e : ℕ} {o : Objective} {tag : Tag} {bad long : Noted} → pair_at s p ≡ paired o tag (e - p) bad long → R.pair_next s p ≡ e
+  pair_next_lem : (p : ℕ) {e : ℕ} {o : Objective} {tag : PairTag} {bad long : Noted} → pair_at s p ≡ paired o tag (e - p) bad long → R.pair_next s p ≡ e
   unfolding R.pair_next R.pair_next_from
   pair_next_lem p {e} {o} {tag} {bad} {long} q = ap (R.pair_next_from p) q ∙ omega (arith, (pair_within s p p _ (paired o tag (e - p) bad long) refl q).1)
 
   -- what the numbers of a pair that was read tell
-  pair_told : {p : ℕ} {o : Objective} {tag : Tag} {pair : Pair Value} → PairIs s p o tag pair → (rest : List ℕ)
+  pair_told : {p : ℕ} {o : Objective} {tag : PairTag} {pair : Pair Value} → PairIs s p o tag pair → (rest : List ℕ)
       → PairTold (R.pair_cells o tag ++ rest) (valued_pair value_bytes pair)
   unfolding R.pair_cells pair_numbers row_at objective_row_at locator_row_at objective_row_of given_of valued_pair
   pair_told {tag = tag} {pair} i rest =

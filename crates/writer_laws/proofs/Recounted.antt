@@ -30,7 +30,7 @@ use Rattle.cbor.proofs.Tokens.{token_is, token_has, is_array, is_number, Shifted
 use Rattle.options.specs.declared.Span.{Span}
 use Rattle.options.specs.declared.objective.Objective.{Objective}
 use Rattle.options.specs.declared.locator.Locator.{Locator}
-use Rattle.options.specs.Pair.{Tag}
+use Rattle.options.specs.Pair.{PairTag}
 use Rattle.options.specs.Text.{first_of, held, content_of, content_in, bad_text}
 use Rattle.options.specs.Objective.{long_name, objective_from, objective_named, objective_in}
 use Rattle.options.specs.Locator.{locator_in}
@@ -89,11 +89,11 @@ further {u = u} {n = n} p read' answer' then x =
 no_objective : {place : ℕ} {o : Objective} {size : ℕ} → departs place ≡ part o size None None → ⊥
 no_objective q = let z : ◌≡◌ {A = ℕ} 0 1 = cc in omega arith
 
-no_pair : {place : ℕ} {o : Objective} {t : Tag} {size : ℕ} → departs place ≡ paired o t size None None → ⊥
+no_pair : {place : ℕ} {o : Objective} {t : PairTag} {size : ℕ} → departs place ≡ paired o t size None None → ⊥
 no_pair q = let z : ◌≡◌ {A = ℕ} 0 1 = cc in omega arith
 
 -- a pair without fault is of an objective without fault
-tail_none : (base : ℕ) (s : List ℕ) (at : ℕ) (o o' : Objective) (bad long : Noted) {t : Tag} {size : ℕ}
+tail_none : (base : ℕ) (s : List ℕ) (at : ℕ) (o o' : Objective) (bad long : Noted) {t : PairTag} {size : ℕ}
     → pair_tail base s at o bad long ≡ paired o' t size None None → (o ≡ o') × (bad ≡ None) × (long ≡ None)
 unfolding pair_tail pair_tagged
 tail_none base s at o o' bad long {t} {size} = both P (is_empty (token_at s at)) (λ q. let (same, _, _, bad, long) = paired_same q in (same, bad, long)) (by
@@ -128,9 +128,9 @@ module _ (h r : List ℕ) (n : ℕ) where
   front_token u = token_kept u (h ++ r) (head 0 n ++ r)
 
   -- the second item of a pair, after an objective
-  tail_recounted : (u : List ℕ) (base : ℕ) (o o' : Objective) (rest : ℕ) {t : Tag} {size : ℕ}
+  tail_recounted : (u : List ℕ) (base : ℕ) (o o' : Objective) (rest : ℕ) {t : PairTag} {size : ℕ}
       → pair_tail base (old u) (length u + length h + rest) o None None ≡ paired o t size None None
-      → (t' : Tag) × (rest' : ℕ) × (size ≡ length u + length h + rest')
+      → (t' : PairTag) × (rest' : ℕ) × (size ≡ length u + length h + rest')
       × (pair_tail base (new u) (length u + length (head 0 n) + rest) o' None None ≡ paired o' t' (length u + length (head 0 n) + rest') None None)
   unfolding pair_tail pair_tagged is_empty pick
   tail_recounted u base o o' rest {t} {size} =
@@ -168,7 +168,7 @@ module _ (h r : List ℕ) (n : ℕ) where
 
       Found : Type 0
       Found =
-          (t' : Tag) × (rest' : ℕ) × (size ≡ length u + length h + rest')
+          (t' : PairTag) × (rest' : ℕ) × (size ≡ length u + length h + rest')
           × (pair_tail base (new u) at' o' None None ≡ paired o' t' (length u + length (head 0 n) + rest') None None)
 
       P : Read Pair → Type 0
@@ -310,8 +310,8 @@ module _ (h r : List ℕ) (n : ℕ) where
         )
 
     -- a pair
-    pair_recounted : (u : List ℕ) (base : ℕ) (o : Objective) (t : Tag) (size : ℕ) → CountAt u h base o → pair_in base (old u) ≡ paired o t size None None
-        → (t' : Tag) × Recounted u h n (pair_in base (new u)) (λ o e. paired o t' e None None) size
+    pair_recounted : (u : List ℕ) (base : ℕ) (o : Objective) (t : PairTag) (size : ℕ) → CountAt u h base o → pair_in base (old u) ≡ paired o t size None None
+        → (t' : PairTag) × Recounted u h n (pair_in base (new u)) (λ o e. paired o t' e None None) size
     unfolding pair_in pair_led pick
     pair_recounted u base o t size place =
         pick-case P (eqb (items_in a) 0) (λ _ q. absurd (no_pair q)) (λ t₁. led t₁ (objective_in pair_levels (base + a.next) (drop a.next (old u))) refl)
@@ -320,13 +320,13 @@ module _ (h r : List ℕ) (n : ℕ) where
         a = token_at (old u) 0
 
         P : Read Pair → Type 0
-        P x = x ≡ paired o t size None None → (t' : Tag) × Recounted u h n (pair_in base (new u)) (λ o e. paired o t' e None None) size
+        P x = x ≡ paired o t size None None → (t' : PairTag) × Recounted u h n (pair_in base (new u)) (λ o e. paired o t' e None None) size
 
         -- after its objective
         tailed : eqb (items_in a) 0 ≡ false → eqb a.arg 2 ≡ true → (size₁ : ℕ) → pair_tail base (old u) (a.next + size₁) o None None ≡ paired o t size None None
             → (a.next ≤ length u) × Recounted (drop a.next u) h n (objective_in pair_levels (base + a.next) (drop a.next (new u)))
             (λ o e. part o e None None) size₁
-            → (t' : Tag) × Recounted u h n (pair_in base (new u)) (λ o e. paired o t' e None None) size
+            → (t' : PairTag) × Recounted u h n (pair_in base (new u)) (λ o e. paired o t' e None None) size
         tailed t₁ t₂ size₁ q (within, x) =
             let from : a.next + size₁ ≡ length u + length h + x.rest = omega (arith, x.sized, length-drop a.next u) in
             let to : a.next + (length (drop a.next u) + length (head 0 n) + x.rest) ≡ length u + length (head 0 n) + x.rest =
@@ -347,9 +347,9 @@ module _ (h r : List ℕ) (n : ℕ) where
             (λ _ q. absurd (no_pair q))
 
     -- a pair that stands p bytes further on
-    pub pair_beyond : (u : List ℕ) (base base' p : ℕ) (o : Objective) (t : Tag) (size : ℕ) → base' ≡ base + p → CountAt u h base o
+    pub pair_beyond : (u : List ℕ) (base base' p : ℕ) (o : Objective) (t : PairTag) (size : ℕ) → base' ≡ base + p → CountAt u h base o
         → pair_in base' (drop p (old u)) ≡ paired o t size None None
-        → (p ≤ length u) × (t' : Tag) × Recounted (drop p u) h n (pair_in base' (drop p (new u))) (λ o e. paired o t' e None None) size
+        → (p ≤ length u) × (t' : PairTag) × Recounted (drop p u) h n (pair_in base' (drop p (new u))) (λ o e. paired o t' e None None) size
     pair_beyond u base base' p o t size e place got =
         let within : p ≤ length u = omega (arith, (pair_within (old u) base' p _ _ refl got).3, place.from) in
         let (t', x) = pair_recounted (drop p u) base' o t size (count_beyond p within e place) (rw (drop-append-le p u (h ++ r) within) at got) in

@@ -28,7 +28,8 @@ returns-then-is_none c =
     let args = c.args in
     norow_outcome args.node args.table.now (call_of args.node.clock args.interface names args.message.now args.out.now) args.s
     c.if-s-le1.false (λ e. c.if-mask-eq0.false (c.others-mask.ensures ∙ e)) _ _ _ (refl, c.fill_lowest.ensures.table_after)
-    c.requires.ready.sized _ c.quiet-then-is_none.ensures (row_gone _ c.fill_lowest.result c.fill_lowest.ensures.value (c.is_none.ensures ∙ ap not c.if-is_none.true))
+    c.requires.ready.sized _ c.quiet-then-is_none.ensures
+    (row_gone _ c.fill_lowest.result c.fill_lowest.ensures.value (c.is_none.ensures ∙ ap not c.if-is_none.true))
 
 pub returns : goal.returns
 unfolding others
