@@ -15,9 +15,10 @@ PROGRAMS = "programs"
 # Where a crate stands in its column, from the left; others take the first free place of their height.
 SLOTS = {
     "utf8": 0,
-    "cbor": 1,
-    "text": 2,
+    "text": 1,
+    "cbor": 2,
     "base": 1,
+    "refusal": 2,
     "rfc8990": 1,
     "description": 0,
     "encode": 0,
@@ -79,9 +80,9 @@ def height(name):
 
 
 def has_code(name):
-    """Whether a crate has code of its own: functions, or modules of them."""
+    """Whether a crate has code of its own: functions, conversions, or modules of them."""
     source = ROOT / "crates" / name / "src"
-    return any(line.startswith(("fn ", "pub fn ", "pub mod ", "mod "))
+    return any(line.startswith(("fn ", "pub fn ", "pub extern ", "impl ", "pub mod ", "mod "))
                for file in source.glob("*.rt") for line in file.read_text().splitlines())
 
 

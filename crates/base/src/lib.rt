@@ -1,5 +1,4 @@
-// What every layer shares: bytes compared, and the refusals.
+// What every layer shares, and nothing of the protocol.
 #![tactic(auto)]
 
 pub mod bytes;
-pub mod refusal;

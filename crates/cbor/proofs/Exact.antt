@@ -2,7 +2,7 @@
 -- nothing but encodings: `item_exact`, where it answers `Ends e`, the first e bytes are the encoding of an item.
 -- Assumes nothing.
 use Rattle.std.specs.Prelude.{Ok, Err}
-use Rattle.base.specs.declared.refusal.Refusal.{Refusal}
+use Rattle.refusal.specs.declared.Refusal.{Refusal}
 use Rattle.cbor.specs.declared.item.Step.TheVariants.{Passed, Opened}
 use Rattle.cbor.specs.Item.{ItemRead, StepRead}
 use mathlib.Core.Path.{◌≡◌, refl, sym, ap, ◌∙◌, subst}

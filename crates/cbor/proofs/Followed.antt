@@ -1,8 +1,8 @@
 -- What the walk answers where more follows, and with which numbers it refuses: no fact on the elements is asked.
 -- Assumes nothing.
 use Rattle.std.specs.Prelude.{Ok, Err}
-use Rattle.base.specs.declared.refusal.Refusal.TheVariants as R
-use Rattle.base.specs.Refusal.{number_of, refused}
+use Rattle.refusal.specs.declared.Refusal.TheVariants as R
+use Rattle.refusal.specs.Refusal.{number_of, refused}
 use Rattle.cbor.specs.declared.item.Step.{Step}
 use Rattle.cbor.specs.declared.item.Step.TheVariants.{Passed, Opened}
 use Rattle.cbor.specs.Head.{HeadRead, a_head}

@@ -2,8 +2,8 @@
 -- heads are read of bytes.
 -- Assumes nothing.
 use Rattle.std.specs.Prelude.{Ok, Err}
-use Rattle.base.specs.declared.refusal.Refusal.TheVariants as R
-use Rattle.base.specs.Refusal.{refused}
+use Rattle.refusal.specs.declared.Refusal.TheVariants as R
+use Rattle.refusal.specs.Refusal.{refused}
 use Rattle.cbor.specs.Head.{HeadRead, a_head}
 use Rattle.cbor.specs.Head.{InitialRead}
 use mathlib.Core.Path.{◌≡◌, refl, sym, ap, ◌∙◌, subst}

@@ -1,9 +1,9 @@
 -- The first whole item, held against RFC 8949. For readers: each statement stands alone.
 -- Assumes nothing.
 use Rattle.std.specs.Prelude.{Ok}
-use Rattle.base.specs.declared.refusal.Refusal.{Refusal}
-use Rattle.base.specs.declared.refusal.Refusal.TheVariants as R
-use Rattle.base.specs.Refusal.{number_of, refused}
+use Rattle.refusal.specs.declared.Refusal.{Refusal}
+use Rattle.refusal.specs.declared.Refusal.TheVariants as R
+use Rattle.refusal.specs.Refusal.{number_of, refused}
 use Rattle.cbor.specs.Item.{ItemRead}
 use mathlib.Core.Path.{◌≡◌, sym, ap, ◌∙◌, subst}
 use mathlib.Core.Logic.{◌↔◌, ◌≢◌}

@@ -3,8 +3,8 @@
 -- the bytes left may be any other such count.
 -- Assumes nothing.
 use Rattle.std.specs.Prelude.{Ok, Err}
-use Rattle.base.specs.declared.refusal.Refusal.{Refusal}
-use Rattle.base.specs.Refusal.{refused}
+use Rattle.refusal.specs.declared.Refusal.{Refusal}
+use Rattle.refusal.specs.Refusal.{refused}
 use Rattle.cbor.specs.declared.item.Step.TheVariants.{Passed, Opened}
 use Rattle.cbor.specs.Item.{ItemRead, StepRead}
 use mathlib.Core.Path.{◌≡◌, refl, ap, ◌∙◌}

@@ -1,7 +1,7 @@
 -- What a step of the walk has found in the bytes: an item that holds no others, the head of one that does, or a fault.
 -- Assumes nothing.
 use Rattle.std.specs.Prelude.{Ok, Err}
-use Rattle.base.specs.declared.refusal.Refusal.TheVariants as R
+use Rattle.refusal.specs.declared.Refusal.TheVariants as R
 use Rattle.cbor.specs.declared.item.Step.{Step}
 use Rattle.cbor.specs.declared.item.Step.TheVariants.{Passed, Opened}
 use Rattle.cbor.specs.Head.{HeadRead}

@@ -3,8 +3,8 @@
 use Rattle.std.specs.Prelude.{ℕ, ◌+◌, ◌-◌, ◌*◌, ◌%◌, ◌<◌, ◌≤◌, List, [], ◌∷◌, ◌++◌, ◌≢◌, ◌≡◌, length, eqb}
 use Rattle.std.specs.Prelude.{Bool, true, false}
 use Rattle.base.specs.Pick.{pick}
-use Rattle.base.specs.declared.refusal.Refusal.{Refusal}
-use Rattle.base.specs.declared.refusal.Refusal.TheVariants as R
+use Rattle.refusal.specs.declared.Refusal.{Refusal}
+use Rattle.refusal.specs.declared.Refusal.TheVariants as R
 use Rattle.cbor.specs.Tree.{Items, head_bytes, Sized, Right, shortest, count, encodes, depths, Goods}
 
 -- additional information that says how many bytes of argument follow the first byte

@@ -1,6 +1,6 @@
 -- What the private functions of the walk's turn answer, held against `step_at` of `Item`.
 use Rattle.std.specs.Prelude.{ℕ, ◌^◌, ◌≤◌, List, Bool, Result, Option, Ok, Err, Some, None, ◌≡◌, ◌⊎◌}
-use Rattle.base.specs.declared.refusal.Refused.{Refused}
+use Rattle.refusal.specs.declared.Refused.{Refused}
 use Rattle.cbor.specs.declared.item.Step.TheVariants as Step
 use Rattle.cbor.specs.declared.item.Turn.{Turn}
 use Rattle.cbor.specs.Item.{StepRead, step_at, items_of}

@@ -3,7 +3,7 @@ ghost use Rattle.std.specs.Prelude.{◌≡◌, ◌+◌, ◌*◌, ◌≤◌, leng
 ghost use Rattle.base.specs.BigEndian.{big_endian};
 ghost use Rattle.cbor.specs.Head.{width_of, least_of, initial_of, judged, head_of, head_from, head_at};
 
-use base::refusal::{Refusal, Refused};
+use refusal::{Refusal, Refused};
 
 // A head of `len` bytes.
 #[derive(Clone, Copy, Debug, PartialEq, Eq)]

@@ -4,7 +4,7 @@ ghost use Rattle.cbor.specs.Item.{opens, step_of, step_at, left_under, first_ite
 ghost use Rattle.cbor.specs.Turn.{Counts, TurnIs, CommonIs};
 
 use crate::head;
-use base::refusal::{Refusal, Refused};
+use refusal::{Refusal, Refused};
 
 // House limit (rules 2.3): how many levels of arrays, maps and tags an item has at most.
 pub const MOST_LEVELS: usize = 8;

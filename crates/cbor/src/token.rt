@@ -5,7 +5,7 @@ ghost use Rattle.cbor.specs.Token.{nothing_at, token_of, TokenIs, SizeIs, items_
 
 use crate::head::Head;
 use crate::{head, item};
-use base::refusal::Refused;
+use refusal::Refused;
 
 // The head at `at`: its major type and argument, where what it heads begins, and where the next head stands (after a
 // string's bytes, else after the head itself). Major type 8 where no whole head with its string is there.

@@ -2,8 +2,8 @@
 // content's length in two bytes) and the content.
 #![tactic(auto)]
 
-use base::refusal::Refused;
 use cbor::head::Head;
+use refusal::Refused;
 use std::io::{self, Read, Write};
 
 const MOST_CASES: usize = 1_000_000;

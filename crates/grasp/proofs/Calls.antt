@@ -7,9 +7,9 @@ use native.Mathlib.Omega.{arith}
 use borrow.Author.Tests.{ne_eqb}
 use Rattle.std.specs.Prelude.{Result, Ok, Err}
 use Rattle.base.specs.Pick.{pick}
-use Rattle.base.specs.declared.refusal.Refusal.{Refusal}
-use Rattle.base.specs.Refusal.{number_of, answer_number}
-use Rattle.base.proofs.Refusals.{some_number}
+use Rattle.refusal.specs.declared.Refusal.{Refusal}
+use Rattle.refusal.specs.Refusal.{number_of, answer_number}
+use Rattle.refusal.proofs.Refusals.{some_number}
 use Rattle.node_state.specs.declared.Record.{Record}
 use Rattle.node.specs.Call.{Call}
 use Rattle.host.specs.Records.{node_of, numbers_after, RecordAnswer, keeps, put_over}

@@ -1,7 +1,7 @@
 -- What `grasp_step` answers and leaves.
 use Rattle.std.specs.Prelude.{ℕ, List, ltb, Ok, Err}
 use Rattle.base.specs.Pick.{pick}
-use Rattle.base.specs.Refusal.{answer_number}
+use Rattle.refusal.specs.Refusal.{answer_number}
 use Rattle.negotiation.specs.declared.Side.TheVariants.{Us}
 use Rattle.negotiation.specs.declared.State.{State}
 use Rattle.negotiation.specs.declared.State.TheVariants.{Closed}

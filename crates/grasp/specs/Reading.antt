@@ -1,6 +1,6 @@
 -- What the exported readers answer and leave.
 use Rattle.std.specs.Prelude.{ℕ, ◌+◌, List, Ok, Err}
-use Rattle.base.specs.Refusal.{number_of}
+use Rattle.refusal.specs.Refusal.{number_of}
 use Rattle.options.specs.Part.{Read}
 use Rattle.options.specs.declared.locator.Locator.{Locator}
 use Rattle.options.specs.declared.pair.Pair.{Pair}

@@ -1,7 +1,7 @@
 -- What `grasp_write` answers and leaves: what the writer gives for the description that a block says.
 use Rattle.std.specs.Prelude.{ℕ, List, length}
 use Rattle.std.specs.Result.{result_unwrap_or}
-use Rattle.base.specs.Refusal.{answer_number}
+use Rattle.refusal.specs.Refusal.{answer_number}
 use Rattle.writer.specs.Write.{write_answer, write_out}
 use Rattle.std.specs.Prelude.{Option, Some, None}
 use Rattle.description.specs.declared.Description.{Description}

@@ -6,9 +6,9 @@ ghost use Rattle.node.specs.Call.{call_of};
 ghost use Rattle.host.specs.Call.{left_of, call_left};
 ghost use Rattle.host.specs.Records.{keeps, put_over, fresh_over, links_over};
 
-use base::refusal::Refusal;
 use host::call;
 use node_state::Record;
+use refusal::Refusal;
 
 // 0 and a fresh record, or 12.
 pub fn grasp_record_fresh(

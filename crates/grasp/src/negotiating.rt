@@ -2,9 +2,9 @@
 ghost use Rattle.std.specs.Prelude.{◌≡◌};
 ghost use Rattle.grasp.specs.Negotiating.{step_by, step_number, state_after};
 
-use base::refusal::Refusal;
 use host::states;
 use negotiation::{Side, State};
+use refusal::Refusal;
 
 // 0 and the state that the message leads to, or the number of the refusal and the state as it was.
 #[tactic(auto, unfolding(crate::specs::Negotiating::step_number, crate::specs::Negotiating::state_after, crate::specs::Negotiating::numbers_from))]

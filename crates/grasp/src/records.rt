@@ -1,13 +1,13 @@
 // A node's record, for C: its address, 16 bytes that the host keeps, and six numbers, its port, ttl, interfaces, links,
 // clock and tally.
 ghost use Rattle.std.specs.Prelude.{◌≡◌};
-ghost use Rattle.base.specs.Refusal.{answer_number};
+ghost use Rattle.refusal.specs.Refusal.{answer_number};
 ghost use Rattle.node_state.specs.Record.{fresh, set_links};
 ghost use Rattle.host.specs.Records.{node_of, numbers_after};
 
-use base::refusal::Refusal;
 use host::records;
 use node_state::Record;
+use refusal::Refusal;
 
 // 0 and the numbers of a fresh record, or 12 and the numbers as they were.
 pub fn grasp_fresh(

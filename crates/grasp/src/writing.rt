@@ -2,8 +2,8 @@
 ghost use Rattle.std.specs.Prelude.{◌≡◌};
 ghost use Rattle.grasp.specs.Writing.{write_number, write_bytes, write_length};
 
-use base::refusal::Refusal;
 use forms::described;
+use refusal::Refusal;
 
 // 0 with the length and the encoding at the front of `out`, or the number of the refusal with both as they were.
 #[tactic(auto, unfolding(crate::specs::Writing::write_number, crate::specs::Writing::number_by, crate::specs::Writing::write_bytes, crate::specs::Writing::bytes_by, crate::specs::Writing::write_length, crate::specs::Writing::length_by))]

@@ -9,7 +9,7 @@ ghost use Rattle.grasp.specs.Writing.{write_bytes, write_number, write_length};
 ghost use Rattle.node.specs.Call.{call_of};
 ghost use Rattle.host.specs.Call.{left_of, call_left};
 ghost use Rattle.grasp.specs.Call.{host_call};
-ghost use Rattle.base.specs.Refusal.{answer_number};
+ghost use Rattle.refusal.specs.Refusal.{answer_number};
 ghost use Rattle.node_state.specs.Record.{fresh, set_links};
 ghost use Rattle.host.specs.Records.{numbers_after, node_of, keeps, fresh_over, links_over};
 ghost use Rattle.grasp.specs.Negotiating.{step_number, state_after};

@@ -1,7 +1,7 @@
 -- A message that was read in C and is written in C is the same bytes. For readers: each statement at the end stands
 -- alone.
 -- Assumes nothing.
-use Rattle.base.proofs.Refusals.{some_number}
+use Rattle.refusal.proofs.Refusals.{some_number}
 use Rattle.std.specs.Prelude.{Ok, Err}
 use Rattle.reader.specs.Read.{Reading}
 use mathlib.Core.Path.{◌≡◌, refl, sym, ap, ap₂, ◌∙◌}

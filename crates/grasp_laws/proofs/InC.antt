@@ -13,9 +13,9 @@ use Rattle.base.specs.Pick.{pick}
 use Rattle.base.proofs.Picks.{pick-case, both}
 use Rattle.node_state.specs.declared.Record.{Record}
 use Rattle.std.specs.Prelude.{Result}
-use Rattle.base.specs.declared.refusal.Refusal.{Refusal}
+use Rattle.refusal.specs.declared.Refusal.{Refusal}
 use Rattle.std.specs.Result.{result_unwrap_or}
-use Rattle.base.specs.Refusal.{answer_number}
+use Rattle.refusal.specs.Refusal.{answer_number}
 use Rattle.node_state.specs.Record.{links_bad, begun, blank, fresh}
 use Rattle.node_laws.proofs.Whole.{whole}
 use Rattle.negotiation.specs.Turns.{BoundedIn}

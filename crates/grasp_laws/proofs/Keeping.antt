@@ -9,12 +9,12 @@ use lib.Dec.{eqb}
 use borrow.Author.Tests.{ne_eqb, eqb-false}
 use Rattle.base.specs.Pick.{pick}
 use Rattle.base.specs.Lists.{Every}
-use Rattle.base.specs.Refusal.{number_of}
-use Rattle.base.proofs.Refusals.{some_number}
+use Rattle.refusal.specs.Refusal.{number_of}
+use Rattle.refusal.proofs.Refusals.{some_number}
 use Rattle.base.proofs.Picks.{pick-case, both}
 use Rattle.node_state.specs.declared.Record.{Record}
 use Rattle.std.specs.Prelude.{Result, Ok, Err}
-use Rattle.base.specs.declared.refusal.Refusal.{Refusal}
+use Rattle.refusal.specs.declared.Refusal.{Refusal}
 use Rattle.std.specs.Result.{result_unwrap_or}
 use Rattle.node_state.specs.Record.{linked, set_links, links_set}
 use Rattle.node.specs.declared.Verdict.{Verdict}

@@ -22,14 +22,14 @@ use Rattle.description.specs.declared.Description.{Description}
 use Rattle.std.specs.Prelude.{Option, Some, None}
 use Rattle.forms.specs.Described.{described_by}
 use Rattle.std.specs.Prelude.{Result, Ok, Err}
-use Rattle.base.specs.declared.refusal.Refusal.{Refusal}
+use Rattle.refusal.specs.declared.Refusal.{Refusal}
 use Rattle.writer.specs.Write.{write_answer, write_out}
 use Rattle.writer_laws.proofs.Leaves as W
 use Rattle.node_state.specs.declared.Record.{Record}
 use Rattle.std.specs.Prelude.{Result, Ok, Err}
-use Rattle.base.specs.declared.refusal.Refusal.{Refusal}
+use Rattle.refusal.specs.declared.Refusal.{Refusal}
 use Rattle.std.specs.Result.{result_unwrap_or}
-use Rattle.base.specs.Refusal.{answer_number}
+use Rattle.refusal.specs.Refusal.{answer_number}
 use Rattle.node_state.specs.Record.{fresh, set_links}
 use Rattle.node.specs.declared.Given.{Given}
 use Rattle.node.specs.Call.{Call, node_call}

@@ -15,7 +15,7 @@ use Rattle.negotiation.specs.declared.Side.TheVariants.{Us}
 use Rattle.negotiation.specs.declared.State.{State}
 use Rattle.negotiation.specs.declared.State.TheVariants.{Closed}
 use Rattle.std.specs.Prelude.{Err}
-use Rattle.base.specs.Refusal.{number_of}
+use Rattle.refusal.specs.Refusal.{number_of}
 use Rattle.negotiation.specs.Step.{Stepped}
 use Rattle.host.specs.States.{side_of, state_of}
 use Rattle.grasp.specs.Negotiating.{numbers_from, step_by, step_number, state_after}

@@ -8,9 +8,9 @@ use lib.ListN.{length}
 use borrow.Author.Tests.{eq-eqb, ne_eqb}
 use Rattle.std.specs.Prelude.{Result, Ok, Err}
 use Rattle.base.specs.Pick.{pick}
-use Rattle.base.specs.declared.refusal.Refusal.{Refusal}
-use Rattle.base.specs.Refusal.{answer_number}
-use Rattle.base.proofs.Refusals.{some_number}
+use Rattle.refusal.specs.declared.Refusal.{Refusal}
+use Rattle.refusal.specs.Refusal.{answer_number}
+use Rattle.refusal.proofs.Refusals.{some_number}
 use Rattle.node_state.specs.declared.Record.{Record}
 use Rattle.node.specs.declared.CallAnswer.{CallAnswer}
 use Rattle.node_state.proofs.TableRows.{table_sized}

@@ -18,7 +18,7 @@ use Rattle.base.proofs.Parts.{bytes_drop}
 use Rattle.message.specs.Opening.{most_number}
 use Rattle.reader.specs.Read.{read_of}
 use Rattle.node_state.specs.declared.Record.{Record}
-use Rattle.base.specs.declared.refusal.Refusal.{Refusal}
+use Rattle.refusal.specs.declared.Refusal.{Refusal}
 use Rattle.std.specs.Result.{result_unwrap_or}
 use Rattle.std.specs.Prelude.{Result}
 use Rattle.node_state.specs.declared.key.Key.{Key}

@@ -13,8 +13,8 @@ use borrow.Author.Tests.{lt-leb, le-ltb, leb-false, ne_eqb}
 use Rattle.std.specs.Prelude.{Result, Ok, Err, ⊤}
 use Rattle.base.specs.Pick.{pick}
 use Rattle.base.specs.BigEndian.{Bytes}
-use Rattle.base.specs.Refusal.{number_of, answer_number}
-use Rattle.base.proofs.Refusals.{some_number}
+use Rattle.refusal.specs.Refusal.{number_of, answer_number}
+use Rattle.refusal.proofs.Refusals.{some_number}
 use Rattle.base.proofs.Picks.{pick-case, both}
 use Rattle.base.proofs.Parts.{bytes_drop, bytes_take}
 use Rattle.options.specs.Text.{held}
@@ -29,7 +29,7 @@ use Rattle.negotiation.specs.Step.{step}
 use Rattle.negotiation.specs.Allowed.{Allowed}
 use Rattle.negotiation.proofs.Accepted.{moved_exactly, session_most, count_most}
 use Rattle.node_state.specs.declared.Record.{Record}
-use Rattle.base.specs.declared.refusal.Refusal.{Refusal}
+use Rattle.refusal.specs.declared.Refusal.{Refusal}
 use Rattle.std.specs.Result.{result_unwrap_or}
 use Rattle.node_state.specs.Record.{links_bad, record_bad, blank, fresh, fresh_or_blank, linked, set_links, links_set, clocked, tallied}
 use Rattle.node_state.specs.Table.{table_bad, freed}

@@ -4,10 +4,10 @@ ghost use Rattle.node.specs.Call.{call_of};
 ghost use Rattle.host.specs.Call.{verdict_number, answer_numbers, left_by, call_left};
 
 use crate::table;
-use base::refusal::Refusal;
 use node::{Given, Verdict, call};
 use node_state::Record;
 use node_state::table::NUMBERS;
+use refusal::Refusal;
 
 // A node call on a table of bytes, and the record after it; the answer goes into four numbers: verdict, handed up,
 // mask, length. A refusal leaves all as it was.

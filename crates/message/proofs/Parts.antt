@@ -36,8 +36,8 @@ use Rattle.message.specs.Fields.{Extra}
 use Rattle.message.specs.declared.Message.{Message}
 use Rattle.message.specs.declared.Message.TheVariants as M
 use Rattle.message.specs.declared.opening.Opening.{Opening}
-use Rattle.base.specs.declared.refusal.Refused.{Refused}
-use Rattle.base.specs.Refusal.{number_of}
+use Rattle.refusal.specs.declared.Refused.{Refused}
+use Rattle.refusal.specs.Refusal.{number_of}
 use Rattle.message.specs.declared.Examined.{Examined}
 use Rattle.message.specs.Sequence.{PairsRead}
 use Rattle.message.specs.Opening.{WithNext, most_number, objective_levels, is_initiator, opening_at}

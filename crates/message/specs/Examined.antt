@@ -3,10 +3,10 @@
 use Rattle.std.specs.Prelude.{ℕ, List, Some, None, Result, Ok, Err, ltb, eqb}
 use Rattle.base.specs.Pick.{pick, unless}
 use Rattle.cbor.specs.Token.{token_at, items_in}
-use Rattle.base.specs.declared.refusal.Refusal.TheVariants.{UnknownKind, BadShape, LongName, BadText}
-use Rattle.base.specs.declared.refusal.Refusal.{Refusal}
-use Rattle.base.specs.declared.refusal.Refused.{Refused}
-use Rattle.base.specs.Refusal.{refused}
+use Rattle.refusal.specs.declared.Refusal.TheVariants.{UnknownKind, BadShape, LongName, BadText}
+use Rattle.refusal.specs.declared.Refusal.{Refusal}
+use Rattle.refusal.specs.declared.Refused.{Refused}
+use Rattle.refusal.specs.Refusal.{refused}
 use Rattle.options.specs.Text.{Noted}
 use Rattle.options.specs.Part.{Read, misshapen}
 use Rattle.message.specs.declared.Message.{Message}

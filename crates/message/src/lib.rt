@@ -5,13 +5,13 @@
 ghost use Rattle.std.specs.Prelude.{◌≡◌};
 ghost use Rattle.message.specs.Examined.{judged_shape, examined};
 
-use base::refusal::{Refusal, Refused};
 use cbor::token;
 use options::locator::Locator;
 use options::objective::Objective;
 use options::outcome::Outcome;
 use options::pair::Pair;
 use options::{Departure, Part, Span};
+use refusal::{Refusal, Refused};
 
 pub mod fields;
 mod flood;

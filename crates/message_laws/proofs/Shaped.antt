@@ -26,9 +26,9 @@ use Rattle.message_laws.proofs.Bridge.{headed_major, token_heading, number_token
 use Rattle.message_laws.proofs.Pieces.{array_items, array_head}
 use Rattle.message.specs.declared.Message.{Message}
 use Rattle.message.specs.declared.Examined.{Examined}
-use Rattle.base.specs.declared.refusal.Refusal.TheVariants as R
-use Rattle.base.specs.declared.refusal.Refused.{Refused}
-use Rattle.base.specs.Refusal.{refused}
+use Rattle.refusal.specs.declared.Refusal.TheVariants as R
+use Rattle.refusal.specs.declared.Refused.{Refused}
+use Rattle.refusal.specs.Refusal.{refused}
 use Rattle.std.specs.Prelude.{Result}
 use Rattle.message.specs.Shape.{exchange_at}
 use Rattle.message.specs.Examined.{by_kind, judged_shape, examined}

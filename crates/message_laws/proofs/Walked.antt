@@ -41,7 +41,7 @@ use Rattle.message.specs.declared.Targets.{Targets}
 use Rattle.message.specs.declared.Message.{Message}
 use Rattle.message.specs.declared.opening.Opening.{Opening}
 use Rattle.message.specs.declared.Examined.{Examined}
-use Rattle.base.specs.declared.refusal.Refused.{Refused}
+use Rattle.refusal.specs.declared.Refused.{Refused}
 use Rattle.message.specs.Opening.{most_number, objective_levels, is_initiator, opening_at}
 use Rattle.message.specs.Sequence.{pair_then, pairs_from}
 use Rattle.message.specs.Shape.{noop_at, discovered, discovery_at, exchanged, exchange_at, wait_at, invalid_at, ended, end_at}

@@ -7,8 +7,8 @@ use mathlib.Core.List.{List, [], ◌∷◌}
 use Prim.Native.Nat.{ℕ, ◌≤◌}
 use native.Mathlib.Omega.{arith}
 use Rattle.std.specs.Prelude.{Some}
-use Rattle.base.specs.Refusal.{number_of, RefusedAs}
-use Rattle.base.proofs.Refusals.{same_number}
+use Rattle.refusal.specs.Refusal.{number_of, RefusedAs}
+use Rattle.refusal.proofs.Refusals.{same_number}
 use Rattle.base.specs.Lists.{Every}
 use Rattle.base.proofs.Picks.{both}
 use Rattle.message.specs.declared.Message.{Message}
@@ -21,8 +21,8 @@ use Rattle.negotiation.specs.declared.Side.{Side}
 use Rattle.negotiation.specs.declared.State.{State}
 use Rattle.negotiation.specs.declared.State.TheVariants.{Closed}
 use Rattle.std.specs.Prelude.{Ok, Err}
-use Rattle.base.specs.declared.refusal.Refusal.{Refusal}
-use Rattle.base.specs.declared.refusal.Refusal.TheVariants as R
+use Rattle.refusal.specs.declared.Refusal.{Refusal}
+use Rattle.refusal.specs.declared.Refusal.TheVariants as R
 use Rattle.negotiation.specs.Step.{Stepped, not_allowed, move_of, state_step, reading_step, step}
 use Rattle.negotiation.specs.Allowed.{HasCount, Allowed}
 use Rattle.negotiation.specs.Turns.{Sent, after, steps_of}

@@ -19,7 +19,7 @@ use Rattle.reader.specs.Read.{framed, read_placed, placeless, read_of}
 use Rattle.negotiation.specs.declared.Side.TheVariants.{Us, Them}
 use Rattle.negotiation.specs.declared.State.TheVariants.{Fresh, Open, Closed}
 use Rattle.std.specs.Prelude.{Ok, Err}
-use Rattle.base.specs.declared.refusal.Refusal.TheVariants as R
+use Rattle.refusal.specs.declared.Refusal.TheVariants as R
 use Rattle.negotiation.specs.declared.Side.{Side}
 use Rattle.negotiation.specs.Step.{Stepped, not_allowed, move_of, fresh_step, lower_step, turn_step, state_step, reading_step, step}
 use Rattle.negotiation.specs.Turns.{Sent, StepTaken, after, steps_of, is_moved, accepted_of, is_kind, negotiated}

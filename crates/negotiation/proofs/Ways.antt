@@ -20,7 +20,7 @@ use Rattle.negotiation.specs.declared.Side.TheVariants.{Us, Them}
 use Rattle.negotiation.specs.declared.State.{State}
 use Rattle.negotiation.specs.declared.State.TheVariants.{Fresh, Open, Closed}
 use Rattle.std.specs.Prelude.{Ok, Err}
-use Rattle.base.specs.declared.refusal.Refusal.TheVariants as R
+use Rattle.refusal.specs.declared.Refusal.TheVariants as R
 use Rattle.negotiation.specs.declared.Move.{Move}
 use Rattle.negotiation.specs.declared.Move.TheVariants.{Request, Negotiate, Wait, End, Other}
 use Rattle.negotiation.specs.Step.{Stepped, not_allowed, move_of, same_side, fresh_step, lower_step, turn_step, state_step}

@@ -3,8 +3,8 @@
 use Rattle.reader.specs.Read.{Reading}
 use Rattle.std.specs.Prelude.{ℕ, ◌+◌, List, Bool, true, false, eqb, Result, Ok, Err}
 use Rattle.base.specs.Pick.{pick, unless}
-use Rattle.base.specs.declared.refusal.Refusal.{Refusal}
-use Rattle.base.specs.declared.refusal.Refusal.TheVariants.{NotAllowed}
+use Rattle.refusal.specs.declared.Refusal.{Refusal}
+use Rattle.refusal.specs.declared.Refusal.TheVariants.{NotAllowed}
 use Rattle.message.specs.declared.Message.{Message}
 use Rattle.message.specs.declared.Message.TheVariants as M
 use Rattle.reader.specs.Read.{read_of}

@@ -5,8 +5,8 @@ ghost use Rattle.std.specs.Prelude.{◌≡◌};
 ghost use Rattle.negotiation.specs.Step.{move_of, other_side, fresh_step};
 ghost use Rattle.negotiation.specs.Step.{lower_step, turn_step, state_step, step};
 
-use base::refusal::Refusal;
 use message::Message;
+use refusal::Refusal;
 
 // The two sides of a session.
 #[derive(Clone, Copy, Debug, PartialEq, Eq)]

@@ -21,7 +21,7 @@ use Rattle.reader.specs.Read.{read_of}
 use Rattle.base.specs.Bytes.{same_bytes}
 use Rattle.names.specs.Names.{is_named}
 use Rattle.std.specs.Prelude.{Result, Ok, Err, ⊤}
-use Rattle.base.specs.declared.refusal.Refusal.{Refusal}
+use Rattle.refusal.specs.declared.Refusal.{Refusal}
 use Rattle.node_state.specs.declared.Record.{Record}
 use Rattle.node.specs.declared.CallAnswer.{CallAnswer}
 use Rattle.node.specs.declared.Verdict.TheVariants.{Own, Answer, Duplicate, Last, Nowhere, NoRow, Relay}
@@ -32,7 +32,7 @@ use Rattle.node_state.specs.Table.{where_sized, freed, lowest_free, filled, is_k
 use Rattle.node.specs.Role.{role_of, key_in}
 use Rattle.cbor.specs.Put.{written}
 use Rattle.std.specs.Result.{result_unwrap_or}
-use Rattle.base.specs.Refusal.{answer_number}
+use Rattle.refusal.specs.Refusal.{answer_number}
 use Rattle.writer.specs.Lower.{onward}
 use Rattle.node.specs.Call.{Call, After, after_of, after_given, barred, bars, bar, gives, refuse, quiet, response}
 use Rattle.node.specs.Call.{later_verdict, verdict_on, answered, relayed, carried_out, taken, received, called, node_call}

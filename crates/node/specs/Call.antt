@@ -5,9 +5,9 @@ use Rattle.std.specs.Prelude.{ℕ, ◌^◌, Bool, true, false, not, ◌&&◌, Li
 use Rattle.std.specs.Int.Count.{ones}
 use Rattle.options.specs.Text.{held}
 use Rattle.base.specs.Pick.{pick}
-use Rattle.base.specs.declared.refusal.Refusal.{Refusal}
-use Rattle.base.specs.declared.refusal.Refusal.TheVariants as R
-use Rattle.base.specs.Refusal.{answer_number}
+use Rattle.refusal.specs.declared.Refusal.{Refusal}
+use Rattle.refusal.specs.declared.Refusal.TheVariants as R
+use Rattle.refusal.specs.Refusal.{answer_number}
 use Rattle.rfc8990.specs.Limits.{most_bytes}
 use Rattle.reader.specs.Read.{read_of}
 use Rattle.cbor.specs.Put.{written}

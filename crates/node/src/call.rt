@@ -8,9 +8,9 @@ ghost use Rattle.node.specs.Role.{RoleIn};
 
 use crate::role::Role;
 use crate::{CallAnswer, Verdict, mask, role, spread};
-use base::refusal::Refusal;
 use message::MOST_BYTES;
 use node_state::{Record, table};
+use refusal::Refusal;
 
 // What a node does with a message that arrives on an interface, and the record after it: refused in the order of
 // rules 8.3, then by the message's own refusal; else the first verdict that applies. A refusal leaves table and output

@@ -20,8 +20,8 @@ use Rattle.node_state.specs.declared.Record.{Record}
 use Rattle.node_state.specs.Record.{links_bad, record_bad, arrival_bad}
 use Rattle.node_state.specs.Table.{table_bad}
 use Rattle.std.specs.Prelude.{Result, ⊤}
-use Rattle.base.specs.declared.refusal.Refusal.{Refusal}
-use Rattle.base.specs.Refusal.{answer_number}
+use Rattle.refusal.specs.declared.Refusal.{Refusal}
+use Rattle.refusal.specs.Refusal.{answer_number}
 use Rattle.node.specs.Call.{Call, barred, bar}
 use Rattle.node_state.proofs.Masks.{up_le}
 use Rattle.node_laws.specs.Bars.{HighLink, BadRecord, no_interface, many_interfaces, high_link, high_tally, BadArrival, Earlier, GoodTable}

@@ -12,7 +12,7 @@ use Rattle.base.proofs.Picks.{pick-case}
 use Rattle.node_state.specs.declared.Record.{Record}
 use Rattle.std.specs.Prelude.{Result, Err}
 use Rattle.std.specs.Result.{result_unwrap_or}
-use Rattle.base.specs.declared.refusal.Refusal.{Refusal}
+use Rattle.refusal.specs.declared.Refusal.{Refusal}
 use Rattle.node_state.specs.Record.{links_bad, record_bad, begun, blank, fresh, fresh_or_blank, set_links, links_set}
 use Rattle.node_laws.specs.Bars.{BadRecord}
 use Rattle.node_laws.specs.Settings.{FreshIs, LinksSet}

@@ -7,14 +7,14 @@ use mathlib.Core.Bool.{Bool}
 use mathlib.Core.List.{List}
 use Prim.Native.Nat.{ℕ}
 use native.Mathlib.Omega.{arith}
-use Rattle.base.specs.Refusal.{number_of, answer_number, RefusedAs}
-use Rattle.base.proofs.Refusals.{some_number}
+use Rattle.refusal.specs.Refusal.{number_of, answer_number, RefusedAs}
+use Rattle.refusal.proofs.Refusals.{some_number}
 use Rattle.message.specs.declared.Message.{Message}
 use Rattle.reader.specs.Read.{read_of}
 use Rattle.node_state.specs.declared.Record.{Record}
 use Rattle.node.specs.declared.Verdict.{Verdict}
 use Rattle.std.specs.Prelude.{Result, Ok, Err, ⊤}
-use Rattle.base.specs.declared.refusal.Refusal.{Refusal}
+use Rattle.refusal.specs.declared.Refusal.{Refusal}
 use Rattle.node.specs.Call.{Call, After, bars, bar, verdict_given, after_of, refuse, received, node_call}
 use Rattle.node_laws.specs.Due.{rules_on, Due, Comes, barred_by, unread, given}
 use Rattle.node_laws.proofs.Ways.{first_once, of_same, read_verdicted, call_open, comes, comes_is, Says, says_once, no_refusal, does_say}

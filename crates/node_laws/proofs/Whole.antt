@@ -23,7 +23,7 @@ use Rattle.base.proofs.Pigeonhole.{pigeonhole}
 use Rattle.negotiation.proofs.Turns.{negotiation_bounded}
 use Rattle.node_state.specs.declared.Record.{Record}
 use Rattle.std.specs.Prelude.{Result}
-use Rattle.base.specs.declared.refusal.Refusal.{Refusal}
+use Rattle.refusal.specs.declared.Refusal.{Refusal}
 use Rattle.std.specs.Result.{result_unwrap_or}
 use Rattle.node.specs.declared.role.Spread.{Spread}
 use Rattle.node_state.specs.Record.{blank, fresh, fresh_or_blank, others, clocked, tallied, links_set}

@@ -11,7 +11,7 @@ use Rattle.message.specs.declared.Message.{Message}
 use Rattle.message.specs.declared.Message.TheVariants as M
 use Rattle.message.specs.declared.Series.{Series}
 use Rattle.std.specs.Prelude.{Err}
-use Rattle.base.specs.declared.refusal.Refusal.{Refusal}
+use Rattle.refusal.specs.declared.Refusal.{Refusal}
 use Rattle.reader.specs.Read.{read_of}
 use Rattle.node_laws.specs.OwnNames.{OwnNames}
 use Rattle.node_state.specs.declared.Record.{Record}

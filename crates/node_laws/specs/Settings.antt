@@ -1,7 +1,7 @@
 -- Asking for a fresh record, and setting links (rules 6.3, 6.5, 6.6), said of the bits of a mask.
 use Rattle.std.specs.Prelude.{ℕ, List, Result, Ok, Err}
-use Rattle.base.specs.declared.refusal.Refusal.{Refusal}
-use Rattle.base.specs.declared.refusal.Refusal.TheVariants as R
+use Rattle.refusal.specs.declared.Refusal.{Refusal}
+use Rattle.refusal.specs.declared.Refusal.TheVariants as R
 use Rattle.node_state.specs.declared.Record.{Record}
 use Rattle.node_state.specs.Record.{begun, linked}
 use Rattle.node_laws.specs.Bars.{HighLink, BadRecord}

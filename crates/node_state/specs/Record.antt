@@ -2,9 +2,9 @@
 use Rattle.std.specs.Prelude.{ℕ, ◌+◌, ◌-◌, ◌^◌, Bool, not, ◌||◌, List, replicate, ltb, leb, eqb, Result, Ok, Err}
 use Rattle.base.specs.Pick.{pick}
 use Rattle.base.specs.Bits.{has_bit}
-use Rattle.base.specs.declared.refusal.Refusal.{Refusal}
+use Rattle.refusal.specs.declared.Refusal.{Refusal}
 use Rattle.std.specs.Result.{result_unwrap_or}
-use Rattle.base.specs.declared.refusal.Refusal.TheVariants.{BadRecord, BadLink}
+use Rattle.refusal.specs.declared.Refusal.TheVariants.{BadRecord, BadLink}
 use Rattle.node_state.specs.declared.Record.{Record}
 
 -- house limit (rules 6.2): how many interfaces a node has at most

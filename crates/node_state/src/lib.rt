@@ -5,7 +5,7 @@
 ghost use Rattle.std.specs.Prelude.{◌≡◌};
 ghost use Rattle.node_state.specs.Record.{record_bad, blank, fresh, fresh_or_blank, set_links};
 
-use base::refusal::Refusal;
+use refusal::Refusal;
 
 pub mod key;
 mod links;

@@ -1,8 +1,8 @@
 // What is printed of an operation: its answer, then the state after it.
 use crate::{State, digest};
-use base::refusal::Refusal;
 use node::{CallAnswer, Verdict};
 use node_state::Record;
+use refusal::Refusal;
 use std::io;
 use std::io::Write;
 

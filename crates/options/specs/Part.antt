@@ -1,7 +1,7 @@
 -- What a reader answers: a part that was read, or the place of the first departure from its shape.
 use Rattle.std.specs.Prelude.{ℕ, Option, Some, None, Result, Ok, Err}
-use Rattle.base.specs.declared.refusal.Refusal.TheVariants as R
-use Rattle.base.specs.declared.refusal.Refused.{Refused}
+use Rattle.refusal.specs.declared.Refusal.TheVariants as R
+use Rattle.refusal.specs.declared.Refused.{Refused}
 use Rattle.options.specs.Text.{Noted}
 use Rattle.options.specs.declared.Departure.{Departure}
 use Rattle.options.specs.declared.Part.{Part}

@@ -8,7 +8,7 @@ ghost use Rattle.std.specs.Prelude.{◌≡◌};
 ghost use Rattle.options.specs.Text.{bad_text};
 ghost use Rattle.options.specs.Part.{misshapen};
 
-use base::refusal::{Refusal, Refused};
+use refusal::{Refusal, Refused};
 
 pub mod divert;
 pub mod locator;

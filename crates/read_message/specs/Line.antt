@@ -1,6 +1,6 @@
 -- What the program prints of the bytes that it reads: one line.
 use Rattle.std.specs.Prelude.{ℕ, List, Ok, Err, take}
-use Rattle.base.specs.Refusal.{number_of}
+use Rattle.refusal.specs.Refusal.{number_of}
 use Rattle.text.specs.declared.line.Line.{Line}
 use Rattle.text.specs.Line.{kind_line, refused_line}
 use Rattle.message.specs.Fields.{kind_of}

@@ -2,7 +2,7 @@
 -- them. For readers: each statement stands alone.
 -- Assumes nothing.
 use Rattle.std.specs.Prelude.{Result, Ok, Err}
-use Rattle.base.specs.declared.refusal.Refused.{Refused}
+use Rattle.refusal.specs.declared.Refused.{Refused}
 use Rattle.message.specs.declared.Examined.{Examined}
 use mathlib.Core.Path.{◌≡◌, ap, ◌∙◌, subst}
 use mathlib.Core.Logic.{◌↔◌}

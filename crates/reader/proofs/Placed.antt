@@ -12,10 +12,10 @@ use lib.Dec.{ltb, eqb}
 use borrow.Author.Tests.{ltb-true, ltb-false, eqb-true, eqb-false, ne_eqb, eq-eqb, le-ltb}
 use Rattle.options.specs.Text.{Noted}
 use Rattle.std.specs.Prelude.{Result, Ok, Err, None}
-use Rattle.base.specs.declared.refusal.Refused.{Refused}
-use Rattle.base.specs.declared.refusal.Refusal.{Refusal}
-use Rattle.base.specs.declared.refusal.Refusal.TheVariants as R
-use Rattle.base.specs.Refusal.{number_of, refused}
+use Rattle.refusal.specs.declared.Refused.{Refused}
+use Rattle.refusal.specs.declared.Refusal.{Refusal}
+use Rattle.refusal.specs.declared.Refusal.TheVariants as R
+use Rattle.refusal.specs.Refusal.{number_of, refused}
 use Rattle.message.specs.declared.Examined.{Examined}
 use Rattle.options.specs.Part.{part}
 use Rattle.base.specs.Pick.{pick}

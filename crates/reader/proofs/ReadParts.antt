@@ -10,10 +10,10 @@ use lib.ListN.{length}
 use lib.Dec.{lit≤}
 use borrow.Author.Tests.{ltb-false}
 use Rattle.std.specs.Prelude.{Result, Ok, Err}
-use Rattle.base.specs.declared.refusal.Refused.{Refused}
-use Rattle.base.specs.declared.refusal.Refusal.{Refusal}
-use Rattle.base.specs.declared.refusal.Refusal.TheVariants as R
-use Rattle.base.specs.Refusal.{number_of}
+use Rattle.refusal.specs.declared.Refused.{Refused}
+use Rattle.refusal.specs.declared.Refusal.{Refusal}
+use Rattle.refusal.specs.declared.Refusal.TheVariants as R
+use Rattle.refusal.specs.Refusal.{number_of}
 use Rattle.message.specs.declared.Examined.{Examined}
 use Rattle.base.proofs.Picks.{pick-case, both}
 use Rattle.cbor.specs.Item.{first_item}

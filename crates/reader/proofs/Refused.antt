@@ -9,10 +9,10 @@ use lib.ListN.{length}
 use borrow.Author.Tests.{eq-eqb, ne_eqb, lt-ltb, le-ltb}
 use Rattle.options.specs.Text.{Noted}
 use Rattle.std.specs.Prelude.{Result, Ok, Err, Some, None}
-use Rattle.base.specs.declared.refusal.Refused.{Refused}
-use Rattle.base.specs.declared.refusal.Refusal.{Refusal}
-use Rattle.base.specs.declared.refusal.Refusal.TheVariants as R
-use Rattle.base.specs.Refusal.{number_of, answer_number, refused, RefusedAs}
+use Rattle.refusal.specs.declared.Refused.{Refused}
+use Rattle.refusal.specs.declared.Refusal.{Refusal}
+use Rattle.refusal.specs.declared.Refusal.TheVariants as R
+use Rattle.refusal.specs.Refusal.{number_of, answer_number, refused, RefusedAs}
 use Rattle.message.specs.declared.Examined.{Examined}
 use Rattle.options.specs.Part.{part}
 use Rattle.base.specs.Pick.{pick}

@@ -2,10 +2,10 @@
 -- walk's 2 to 6, 7, 8, 9, 11, 10.
 use Rattle.std.specs.Prelude.{ℕ, List, Result, Ok, Err, length, ltb, eqb}
 use Rattle.base.specs.Pick.{pick}
-use Rattle.base.specs.declared.refusal.Refusal.{Refusal}
-use Rattle.base.specs.declared.refusal.Refusal.TheVariants.{BadSize}
-use Rattle.base.specs.declared.refusal.Refused.{Refused}
-use Rattle.base.specs.Refusal.{refused}
+use Rattle.refusal.specs.declared.Refusal.{Refusal}
+use Rattle.refusal.specs.declared.Refusal.TheVariants.{BadSize}
+use Rattle.refusal.specs.declared.Refused.{Refused}
+use Rattle.refusal.specs.Refusal.{refused}
 use Rattle.cbor.specs.Item.{ItemRead, first_item, framed_by}
 use Rattle.rfc8990.specs.Limits.{most_bytes}
 use Rattle.message.specs.declared.Examined.{Examined}

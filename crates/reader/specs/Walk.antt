@@ -1,6 +1,6 @@
 -- The walk's own refusals, those of the first head at fault, then bytes after the item, and then what is due later.
 use Rattle.std.specs.Prelude.{ℕ, List, length}
-use Rattle.base.specs.declared.refusal.Refusal.{Refusal}
+use Rattle.refusal.specs.declared.Refusal.{Refusal}
 use Rattle.cbor.specs.Item.{ItemRead, first_item, framed_by}
 
 -- by what the walk answers, of so many bytes

@@ -5,9 +5,9 @@ ghost use Rattle.std.specs.Prelude.{◌≡◌};
 ghost use Rattle.reader.specs.Read.{read_of};
 ghost use Rattle.reader.specs.Walk.{walked_first};
 
-use base::refusal::Refusal;
 use cbor::item;
 use message::{MOST_BYTES, Message};
+use refusal::Refusal;
 
 // 1; the walk's 2 to 6; 7; then 8, 9, 11 and 10 by the message's parts. Bytes that begin with a message's parts begin
 // with one item where these end: so a message is read once, and the walk is left for what is refused.

@@ -1,8 +1,8 @@
 -- The rows of the table of refusals (rules 3.1), in the order of the tests (rules 3.2), said of the bytes alone: which
 -- refusal is due.
 use Rattle.std.specs.Prelude.{ℕ, ◌<◌, ◌≤◌, List, ◌⊎◌, ◌≢◌, ◌≡◌, length}
-use Rattle.base.specs.declared.refusal.Refusal.{Refusal}
-use Rattle.base.specs.Refusal.{number_of}
+use Rattle.refusal.specs.declared.Refusal.{Refusal}
+use Rattle.refusal.specs.Refusal.{number_of}
 use Rattle.cbor.specs.Item.{most_levels}
 use Rattle.cbor.specs.Tree.{Item, Items, ItemIs}
 use Rattle.cbor.specs.Fault.{FirstFault}

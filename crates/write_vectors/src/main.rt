@@ -3,8 +3,8 @@
 // writes it again.
 #![tactic(auto)]
 
-use base::refusal::Refusal;
 use forms::described;
+use refusal::Refusal;
 use std::io::{self, Read, Write};
 use streams::{read_array, read_full};
 

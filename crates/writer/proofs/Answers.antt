@@ -15,8 +15,8 @@ use Rattle.base.proofs.Picks.{both}
 use Rattle.rfc8990.specs.Limits.{most_bytes}
 use Rattle.description.specs.declared.Description.{Description}
 use Rattle.std.specs.Prelude.{Result, Ok, Err, ⊤}
-use Rattle.base.specs.declared.refusal.Refusal.{Refusal}
-use Rattle.base.specs.declared.refusal.Refusal.TheVariants.{NoSuchMessage, WriteOutput}
+use Rattle.refusal.specs.declared.Refusal.{Refusal}
+use Rattle.refusal.specs.declared.Refusal.TheVariants.{NoSuchMessage, WriteOutput}
 use Rattle.encode.specs.Put.{Wrote}
 use Rattle.description.specs.Judge.{ok_described}
 use Rattle.writer.specs.Write.{fitting, accepts, hand_answer, hand_out, passes, pass_answer, pass_out, draft_of, write_answer, write_out}

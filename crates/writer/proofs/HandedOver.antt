@@ -15,8 +15,8 @@ use Rattle.base.proofs.Picks.{pick-case}
 use Rattle.cbor.specs.Put.{written}
 use Rattle.rfc8990.specs.Limits.{most_bytes}
 use Rattle.std.specs.Prelude.{Result, Ok, Err}
-use Rattle.base.specs.declared.refusal.Refusal.{Refusal}
-use Rattle.base.specs.declared.refusal.Refusal.TheVariants.{NoSuchMessage, WriteOutput}
+use Rattle.refusal.specs.declared.Refusal.{Refusal}
+use Rattle.refusal.specs.declared.Refusal.TheVariants.{NoSuchMessage, WriteOutput}
 use Rattle.writer.specs.Write.{hand_answer, hand_out, passes, pass_answer, pass_out}
 
 -- they are never refused with 18

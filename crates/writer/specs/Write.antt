@@ -9,8 +9,8 @@ use Rattle.cbor.specs.Put.{head, written}
 use Rattle.rfc8990.specs.Limits.{most_bytes}
 use Rattle.reader.specs.Read.{read_of}
 use Rattle.description.specs.declared.Description.{Description}
-use Rattle.base.specs.declared.refusal.Refusal.{Refusal}
-use Rattle.base.specs.declared.refusal.Refusal.TheVariants.{NoSuchMessage, WriteOutput}
+use Rattle.refusal.specs.declared.Refusal.{Refusal}
+use Rattle.refusal.specs.declared.Refusal.TheVariants.{NoSuchMessage, WriteOutput}
 use Rattle.rfc8990.specs.Message.{Loc, Tgts, Msg}
 use Rattle.rfc8990.specs.Encoding.{encode_msg}
 use Rattle.description.specs.Meaning.{msg_of}

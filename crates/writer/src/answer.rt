@@ -4,9 +4,9 @@ ghost use Rattle.encode.specs.Put.{Wrote};
 ghost use Rattle.rfc8990.specs.Encoding.{string, fixed};
 ghost use Rattle.writer.specs.Write.{ok_initiator, answer_of, answer_answer, answer_out};
 
-use base::refusal::Refusal;
 use cbor::put;
 use message::MOST_BYTES;
+use refusal::Refusal;
 
 // A Response with one locator of kind 103 and protocol 6, as a node answers, and its length: refused if the initiator
 // has neither 4 nor 16 bytes.

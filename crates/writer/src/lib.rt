@@ -8,10 +8,10 @@ ghost use Rattle.rfc8990.specs.Limits.{most_bytes};
 ghost use Rattle.writer.specs.Write.{accepts, write_answer, write_out};
 ghost use Rattle.writer.specs.Write.{fitting, pass_answer, pass_out};
 
-use base::refusal::Refusal;
 use cbor::put;
 use description::{Description, judge};
 use message::MOST_BYTES;
+use refusal::Refusal;
 
 pub mod answer;
 pub mod relay;

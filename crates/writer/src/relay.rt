@@ -3,9 +3,9 @@ ghost use Rattle.std.specs.Prelude.{◌≡◌, ◌<◌, ◌≤◌, length};
 ghost use Rattle.encode.specs.Put.{Wrote};
 ghost use Rattle.writer.specs.Write.{lowered, lower_answer, lower_out};
 
-use base::refusal::Refusal;
 use cbor::put;
 use message::MOST_BYTES;
+use refusal::Refusal;
 
 // The message with its bytes from `at` to `end`, the head of its loop count, replaced by the shortest head of one less.
 pub fn lower(

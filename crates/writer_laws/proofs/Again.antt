@@ -10,7 +10,7 @@ use Rattle.reader.specs.Read.{read_of}
 use Rattle.rfc8990.specs.Accepted.{Accepted}
 use Rattle.reader.proofs.Exact.{accepted_exactly, accepted_described}
 use Rattle.std.specs.Prelude.{Ok, Err}
-use Rattle.base.specs.declared.refusal.Refusal.TheVariants.{WriteOutput}
+use Rattle.refusal.specs.declared.Refusal.TheVariants.{WriteOutput}
 use Rattle.writer.specs.Write.{write_answer, write_out}
 use Rattle.forms.specs.Describe.{description_of}
 use Rattle.forms.specs.Rows.{rows_end}

@@ -20,7 +20,7 @@ use Rattle.rfc8990.specs.Accepted.{Accepted}
 use Rattle.message_laws.specs.Describes.{Describes}
 use Rattle.reader.proofs.Exact.{accepted_exactly, accepted_bytes, accepted_described, message_once}
 use Rattle.std.specs.Prelude.{Ok, Err}
-use Rattle.base.specs.declared.refusal.Refusal.TheVariants.{NoSuchMessage, WriteOutput}
+use Rattle.refusal.specs.declared.Refusal.TheVariants.{NoSuchMessage, WriteOutput}
 use Rattle.writer.specs.Write.{answer_msg, answer_of, ok_initiator, answer_answer, answer_out}
 use Rattle.writer.proofs.Lengths.{initiator_sized, sized_few, answer_few}
 use Rattle.writer_laws.specs.Plain.{plain}

@@ -12,8 +12,8 @@ use Rattle.cbor.specs.Put.{written}
 use Rattle.description.specs.declared.Description.{Description}
 use Rattle.description.specs.Judge.{ok_described}
 use Rattle.std.specs.Prelude.{Result, Ok, Err}
-use Rattle.base.specs.declared.refusal.Refusal.{Refusal}
-use Rattle.base.specs.declared.refusal.Refusal.TheVariants.{NoSuchMessage, WriteOutput}
+use Rattle.refusal.specs.declared.Refusal.{Refusal}
+use Rattle.refusal.specs.declared.Refusal.TheVariants.{NoSuchMessage, WriteOutput}
 use Rattle.writer.specs.Write.{hand_answer, hand_out, pass_answer, pass_out, accepts, draft_of, write_answer, write_out}
 use Rattle.writer.specs.Write.{lowered, ok_lower, lower_answer, lower_out, ok_initiator, answer_of, answer_answer, answer_out}
 use Rattle.writer.proofs.HandedOver.{pass_case}

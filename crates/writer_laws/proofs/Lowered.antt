@@ -35,7 +35,7 @@ use Rattle.message.specs.declared.Message.{Message}
 use Rattle.message.specs.declared.Message.TheVariants as M
 use Rattle.message.specs.declared.opening.Opening.{Opening}
 use Rattle.message.specs.declared.Examined.{Examined}
-use Rattle.base.specs.declared.refusal.Refused.{Refused}
+use Rattle.refusal.specs.declared.Refused.{Refused}
 use Rattle.message.proofs.Clear.{clear_told}
 use Rattle.message.proofs.Fits.{accepted_same}
 use Rattle.message.specs.Opening.{most_number, objective_levels, is_initiator, opening_at}

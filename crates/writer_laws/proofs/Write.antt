@@ -18,8 +18,8 @@ use Rattle.rfc8990.specs.Accepted.{Accepted}
 use Rattle.reader.proofs.Exact.{accepted_exactly, accepted_bytes}
 use Rattle.description.specs.declared.Description.{Description}
 use Rattle.std.specs.Prelude.{Result, Ok, Err}
-use Rattle.base.specs.declared.refusal.Refusal.{Refusal}
-use Rattle.base.specs.declared.refusal.Refusal.TheVariants.{NoSuchMessage, WriteOutput}
+use Rattle.refusal.specs.declared.Refusal.{Refusal}
+use Rattle.refusal.specs.declared.Refusal.TheVariants.{NoSuchMessage, WriteOutput}
 use Rattle.description.specs.Meaning.{msg_of}
 use Rattle.description.specs.Judge.{ok_described}
 use Rattle.writer.specs.Write.{accepted, accepts, hand_answer, hand_out, pass_answer, pass_out, draft_of, write_answer, write_out}

@@ -2,7 +2,7 @@
 use lib.ListN.{length}
 use Rattle.std.proofs.Common.{◌≡◌, rules, Err, sym, ap, ◌∙◌}
 use native.Mathlib.Omega.{arith}
-use Rattle.base.specs.Refusal.{answer_number}
+use Rattle.refusal.specs.Refusal.{answer_number}
 use Rattle.node.specs.Call.{call_of}
 use Rattle.node.proofs.Outcomes.{passed, arrival_small, barred_outcome, refused_outcome, taken_outcome}
 use Rattle.node.proofs.call.node_call.Goals as goal

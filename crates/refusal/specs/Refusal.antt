@@ -1,8 +1,8 @@
 -- Refusals (rules 3.1): their numbers, and a refusal with its place.
 use Rattle.std.specs.Prelude.{ℕ, ◌≡◌, Result, Ok, Err}
-use Rattle.base.specs.declared.refusal.Refusal.{Refusal}
-use Rattle.base.specs.declared.refusal.Refusal.TheVariants as R
-use Rattle.base.specs.declared.refusal.Refused.{Refused}
+use Rattle.refusal.specs.declared.Refusal.{Refusal}
+use Rattle.refusal.specs.declared.Refusal.TheVariants as R
+use Rattle.refusal.specs.declared.Refused.{Refused}
 
 -- the refusal's number
 abbrev pub number_of : Refusal → ℕ

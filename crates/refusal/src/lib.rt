@@ -1,6 +1,8 @@
 // Refusals (rules 3.1): why something that was handed in is not taken. `include/grasp.h` names them for C.
+#![tactic(auto)]
+
 ghost use Rattle.std.specs.Prelude.{◌≡◌};
-ghost use Rattle.base.specs.Refusal.{number_of};
+ghost use Rattle.refusal.specs.Refusal.{number_of};
 
 #[derive(Clone, Copy, Debug, PartialEq, Eq)]
 pub enum Refusal {

@@ -2,9 +2,9 @@
 -- Assumes nothing.
 use Rattle.std.proofs.Common.{◌≡◌, ◌∙◌, ℕ, ◌-◌, ◌≤◌, List, [], ◌∷◌, refl, sym, ap, arith}
 use lib.ListN.{get_or}
-use Rattle.base.specs.declared.refusal.Refusal.{Refusal}
-use Rattle.base.specs.declared.refusal.Refusal.TheVariants as R
-use Rattle.base.specs.Refusal.{number_of, Numbered}
+use Rattle.refusal.specs.declared.Refusal.{Refusal}
+use Rattle.refusal.specs.declared.Refusal.TheVariants as R
+use Rattle.refusal.specs.Refusal.{number_of, Numbered}
 
 -- each is that of the table
 pub numbered : (refusal : Refusal) → Numbered refusal (number_of refusal)
