@@ -1,5 +1,5 @@
 // The first whole item of a slice.
-ghost use Rattle.std.specs.Prelude.{◌≡◌, List, ◌∷◌, ◌≢◌, ℕ, ◌+◌, ◌≤◌, length, drop};
+ghost use Rattle.std.specs.Prelude.{◌≡◌, List, ◌∷◌, ◌≢◌, ℕ, ◌+◌, ◌≤◌, ◌<◌, length, drop, get_or};
 ghost use Rattle.cbor.specs.Item.{opens, step_of, step_at, left_under, first_item};
 ghost use Rattle.cbor.specs.Turn.{Counts, TurnIs, CommonIs};
 
@@ -84,8 +84,8 @@ fn turn_at(left: usize, s: &[u8], at: usize) -> Result<Turn, Refused>
     }
 }
 
-// The head at `at`, where so many levels may open, if it is one that most messages are made of: told by its first byte
-// or two, so that most turns of the walk are short. Of any other nothing is said.
+// The head at `at`, where so many levels may open, if it is one that most messages are made of: told by its first
+// bytes, so that most turns of the walk are short. Of any other nothing is said.
 fn common_at(left: usize, s: &[u8], at: usize) -> Option<Turn>
     ensures { CommonIs left (drop at s.now) result }
 {
@@ -101,11 +101,10 @@ fn common_at(left: usize, s: &[u8], at: usize) -> Option<Turn>
         if first < 64 {
             return common_number(s, at, rest);
         }
-        let info = (first % 32) as usize;
-        if info < 24 && info <= rest {
-            return Some(Turn::Passed(1 + info));
-        }
-        return None;
+        return common_string(s, at, rest);
+    }
+    if 224 <= first {
+        return common_simple(s, at, rest);
     }
     if left == 0 {
         return None;
@@ -114,10 +113,16 @@ fn common_at(left: usize, s: &[u8], at: usize) -> Option<Turn>
         let n = (first - 128) as u64;
         return Some(Turn::Opened { len: 1, n });
     }
-    common_other(first)
+    if first < 216 {
+        return common_other(first);
+    }
+    if first == 216 && 0 < rest && 24 <= s[at + 1] {
+        return Some(Turn::Opened { len: 2, n: 1 });
+    }
+    None
 }
 
-// A map, a tag or a simple value in one byte, where a level may open.
+// A map or a tag in one byte, where a level may open.
 fn common_other(first: u8) -> Option<Turn>
     ensures { (left : ℕ) (s : List ℕ) → left ≢ 0 → CommonIs left (first ∷ s) result }
 {
@@ -127,27 +132,100 @@ fn common_other(first: u8) -> Option<Turn>
             Some(Turn::Opened { len: 1, n })
         }
         192..216 => Some(Turn::Opened { len: 1, n: 1 }),
-        224..248 => Some(Turn::Passed(1)),
         _ => None,
     }
 }
 
-// The head at `at` with `rest` bytes after its first one, where it is an unsigned number in one or two bytes of
-// argument.
+// The head at `at` with `rest` bytes after its first one, where it is a number, below 0 or not. Its width is told by
+// halves and not by a `match`: where widths are mixed, a processor foresees tests better than a jump to many places.
 fn common_number(s: &[u8], at: usize, rest: usize) -> Option<Turn>
-    requires { at + 1 + rest ≡ length s.now }
+    requires room { at + 1 + rest ≡ length s.now }
+    requires number { get_or s.now at 0 < 64 }
     ensures { (left : ℕ) → CommonIs left (drop at s.now) result }
 {
-    let first = s[at];
-    if first == 24 {
-        if 0 < rest && 24 <= s[at + 1] {
-            return Some(Turn::Passed(2));
+    let info = s[at] % 32;
+    if info < 24 {
+        return Some(Turn::Passed(1));
+    }
+    if info < 26 {
+        if info < 25 {
+            if 0 < rest && 24 <= s[at + 1] {
+                return Some(Turn::Passed(2));
+            }
+            return None;
+        }
+        if 1 < rest && 0 < s[at + 1] {
+            return Some(Turn::Passed(3));
         }
         return None;
     }
-    if first == 25 {
-        if 1 < rest && 0 < s[at + 1] {
+    if info < 27 {
+        if 3 < rest && 0 < head::two(s[at + 1], s[at + 2]) {
+            return Some(Turn::Passed(5));
+        }
+        return None;
+    }
+    if info < 28 {
+        if 7 < rest && 0 < head::two(s[at + 1], s[at + 2]) + head::two(s[at + 3], s[at + 4]) {
+            return Some(Turn::Passed(9));
+        }
+    }
+    None
+}
+
+// The head at `at` with `rest` bytes after its first one, where it is a string of fewer than 256 bytes.
+fn common_string(s: &[u8], at: usize, rest: usize) -> Option<Turn>
+    requires room { at + 1 + rest ≡ length s.now }
+    requires string { (64 ≤ get_or s.now at 0) × (get_or s.now at 0 < 128) }
+    ensures { (left : ℕ) → CommonIs left (drop at s.now) result }
+{
+    let info = (s[at] % 32) as usize;
+    if info < 24 {
+        if info <= rest {
+            return Some(Turn::Passed(1 + info));
+        }
+        return None;
+    }
+    if info < 25 && 0 < rest {
+        let len = s[at + 1] as usize;
+        if 24 <= len && len < rest {
+            return Some(Turn::Passed(2 + len));
+        }
+    }
+    None
+}
+
+// The head at `at` with `rest` bytes after its first one, where it is a simple value or a float, its width by halves.
+fn common_simple(s: &[u8], at: usize, rest: usize) -> Option<Turn>
+    requires room { at + 1 + rest ≡ length s.now }
+    requires simple { 224 ≤ get_or s.now at 0 }
+    ensures { (left : ℕ) → CommonIs left (drop at s.now) result }
+{
+    let info = s[at] % 32;
+    if info < 24 {
+        return Some(Turn::Passed(1));
+    }
+    if info < 26 {
+        if info < 25 {
+            if 0 < rest && 32 <= s[at + 1] {
+                return Some(Turn::Passed(2));
+            }
+            return None;
+        }
+        if 1 < rest {
             return Some(Turn::Passed(3));
+        }
+        return None;
+    }
+    if info < 27 {
+        if 3 < rest {
+            return Some(Turn::Passed(5));
+        }
+        return None;
+    }
+    if info < 28 {
+        if 7 < rest {
+            return Some(Turn::Passed(9));
         }
     }
     None

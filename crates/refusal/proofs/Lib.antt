@@ -1,2 +1,2 @@
--- For readers: `Refusals`, the numbers held against the table of the rules.
+-- `Refusals`: the numbers, held against the table of the rules.
 pub mod Refusals
